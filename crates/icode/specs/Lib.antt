@@ -1,0 +1,2 @@
+-- How an answer passes through the C interface.
+pub mod Interface

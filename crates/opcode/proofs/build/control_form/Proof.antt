@@ -1,0 +1,138 @@
+-- `build::control_form` meets its contract: each code finds its row; the rest is NOP, or a code that is none of them.
+use lib.ListN.{take, drop}
+use lib.Dec.{eqb}
+use borrow.Author.Needs.{needs}
+use Rattle.opcode.proofs.build.control_form.Statement.{statement}
+use Rattle.opcode.proofs.Rows.{find-rest, rest-nop}
+use Rattle.opcode.specs.Table.{controlTable}
+use Rattle.opcode.proofs.build.control_form.Tie as tie
+
+byte-at-requires : tie.Need-byte-at-requires
+byte-at-requires c κs = search needs
+
+signed-byte-requires : tie.Need-signed-byte-requires
+signed-byte-requires c κs = search needs
+
+signed-halfword-requires : tie.Need-signed-halfword-requires
+signed-halfword-requires c κs = search needs
+
+signed-byte-requires-2 : tie.Need-signed-byte-requires-2
+signed-byte-requires-2 c κs = search needs
+
+signed-halfword-requires-2 : tie.Need-signed-halfword-requires-2
+signed-halfword-requires-2 c κs = search needs
+
+unsigned-byte-requires : tie.Need-unsigned-byte-requires
+unsigned-byte-requires c κs = search needs
+
+unsigned-byte-requires-2 : tie.Need-unsigned-byte-requires-2
+unsigned-byte-requires-2 c κs = search needs
+
+unsigned-halfword-requires : tie.Need-unsigned-halfword-requires
+unsigned-halfword-requires c κs = search needs
+
+unsigned-halfword-requires-2 : tie.Need-unsigned-halfword-requires-2
+unsigned-halfword-requires-2 c κs = search needs
+
+unsigned-halfword-requires-3 : tie.Need-unsigned-halfword-requires-3
+unsigned-halfword-requires-3 c κs = search needs
+
+unsigned-byte-requires-3 : tie.Need-unsigned-byte-requires-3
+unsigned-byte-requires-3 c κs = search needs
+
+unsigned-byte-requires-4 : tie.Need-unsigned-byte-requires-4
+unsigned-byte-requires-4 c κs = search needs
+
+second-byte-requires : tie.Need-second-byte-requires
+second-byte-requires c κs = search needs
+
+returns : tie.Need-returns
+returns c = rw (← c .before .before .byte-at .ensures, c .before .match .keys1, c .signed-byte .ensures)
+
+returns-2 : tie.Need-returns-2
+returns-2 c = rw (← c .before .before .byte-at .ensures, c .before .match .keys2, c .signed-halfword .ensures)
+
+returns-3 : tie.Need-returns-3
+returns-3 c = rw (← c .before .before .byte-at .ensures, c .before .match .keys3, c .signed-byte2 .ensures)
+
+returns-4 : tie.Need-returns-4
+returns-4 c = rw (← c .before .before .byte-at .ensures, c .before .match .keys4, c .signed-halfword2 .ensures)
+
+returns-5 : tie.Need-returns-5
+returns-5 c = rw (← c .before .before .byte-at .ensures, c .before .match .keys5, c .unsigned-byte .ensures)
+
+returns-6 : tie.Need-returns-6
+returns-6 c = rw (← c .before .before .byte-at .ensures, c .before .match .keys6, c .unsigned-byte2 .ensures)
+
+returns-7 : tie.Need-returns-7
+returns-7 c = rw (← c .before .before .byte-at .ensures, c .before .match .keys7, c .unsigned-halfword .ensures)
+
+returns-8 : tie.Need-returns-8
+returns-8 c = rw (← c .before .byte-at .ensures, c .match .keys8)
+
+returns-9 : tie.Need-returns-9
+returns-9 c = rw (← c .before .before .byte-at .ensures, c .before .match .keys9, c .unsigned-halfword2 .ensures)
+
+returns-10 : tie.Need-returns-10
+returns-10 c = rw (← c .before .before .byte-at .ensures, c .before .match .keys10, c .unsigned-halfword3 .ensures)
+
+returns-11 : tie.Need-returns-11
+returns-11 c = rw (← c .before .byte-at .ensures, c .match .keys11)
+
+returns-12 : tie.Need-returns-12
+returns-12 c = rw (← c .before .before .byte-at .ensures, c .before .match .keys12, c .unsigned-byte3 .ensures)
+
+returns-13 : tie.Need-returns-13
+returns-13 c =
+    rw (
+      ← c .before .before .before .byte-at .ensures,
+      c .before .before .match .keys13,
+      c .before .unsigned-byte4 .ensures,
+      c .second-byte .ensures,
+    )
+
+returns-14 : tie.Need-returns-14
+returns-14 c = rw (← c .before .byte-at .ensures, c .match .keys14)
+
+returns-15 : tie.Need-returns-15
+returns-15 c =
+    let a = c .before .before .before .args in
+    let byte-at = c .before .byte-at in
+    rw (
+      ← byte-at .ensures,
+      find-rest (take 14 controlTable) (drop 14 controlTable) (byte-at .result) (c .match .rest),
+    )
+    (rest-nop (eqb (byte-at .result) 0xFF) (a .mode) (a .code .now) (a .at))
+
+pub control-form-spec : {M : Type 1} → statement M
+control-form-spec =
+    tie.close
+    (tie.spec
+    byte-at-requires
+    signed-byte-requires
+    signed-halfword-requires
+    signed-byte-requires-2
+    signed-halfword-requires-2
+    unsigned-byte-requires
+    unsigned-byte-requires-2
+    unsigned-halfword-requires
+    unsigned-halfword-requires-2
+    unsigned-halfword-requires-3
+    unsigned-byte-requires-3
+    unsigned-byte-requires-4
+    second-byte-requires
+    returns
+    returns-2
+    returns-3
+    returns-4
+    returns-5
+    returns-6
+    returns-7
+    returns-8
+    returns-9
+    returns-10
+    returns-11
+    returns-12
+    returns-13
+    returns-14
+    returns-15)

@@ -1,0 +1,191 @@
+-- `build::data_form` meets its contract: each code finds its row, and one that is none of them finds none.
+use mathlib.Core.List.{[]}
+use borrow.Author.Needs.{needs}
+use Rattle.opcode.proofs.build.data_form.Statement.{statement}
+use Rattle.opcode.proofs.Rows.{find-rest}
+use Rattle.opcode.specs.Table.{dataTable}
+use Rattle.opcode.proofs.Extend.{extended-word}
+use Rattle.opcode.proofs.build.data_form.Tie as tie
+
+byte-at-requires : tie.Need-byte-at-requires
+byte-at-requires c κs = search needs
+
+unsigned-byte-requires : tie.Need-unsigned-byte-requires
+unsigned-byte-requires c κs = search needs
+
+unsigned-halfword-requires : tie.Need-unsigned-halfword-requires
+unsigned-halfword-requires c κs = search needs
+
+signed-byte-requires : tie.Need-signed-byte-requires
+signed-byte-requires c κs = search needs
+
+signed-halfword-requires : tie.Need-signed-halfword-requires
+signed-halfword-requires c κs = search needs
+
+word-requires : tie.Need-word-requires
+word-requires c κs = search needs
+
+unsigned-byte-requires-2 : tie.Need-unsigned-byte-requires-2
+unsigned-byte-requires-2 c κs = search needs
+
+unsigned-byte-requires-3 : tie.Need-unsigned-byte-requires-3
+unsigned-byte-requires-3 c κs = search needs
+
+unsigned-byte-requires-4 : tie.Need-unsigned-byte-requires-4
+unsigned-byte-requires-4 c κs = search needs
+
+unsigned-halfword-requires-2 : tie.Need-unsigned-halfword-requires-2
+unsigned-halfword-requires-2 c κs = search needs
+
+unsigned-byte-requires-5 : tie.Need-unsigned-byte-requires-5
+unsigned-byte-requires-5 c κs = search needs
+
+unsigned-byte-requires-6 : tie.Need-unsigned-byte-requires-6
+unsigned-byte-requires-6 c κs = search needs
+
+unsigned-byte-requires-7 : tie.Need-unsigned-byte-requires-7
+unsigned-byte-requires-7 c κs = search needs
+
+unsigned-halfword-requires-3 : tie.Need-unsigned-halfword-requires-3
+unsigned-halfword-requires-3 c κs = search needs
+
+unsigned-byte-requires-8 : tie.Need-unsigned-byte-requires-8
+unsigned-byte-requires-8 c κs = search needs
+
+unsigned-halfword-requires-4 : tie.Need-unsigned-halfword-requires-4
+unsigned-halfword-requires-4 c κs = search needs
+
+unsigned-byte-requires-9 : tie.Need-unsigned-byte-requires-9
+unsigned-byte-requires-9 c κs = search needs
+
+unsigned-byte-requires-10 : tie.Need-unsigned-byte-requires-10
+unsigned-byte-requires-10 c κs = search needs
+
+unsigned-byte-requires-11 : tie.Need-unsigned-byte-requires-11
+unsigned-byte-requires-11 c κs = search needs
+
+unsigned-halfword-requires-5 : tie.Need-unsigned-halfword-requires-5
+unsigned-halfword-requires-5 c κs = search needs
+
+unsigned-byte-requires-12 : tie.Need-unsigned-byte-requires-12
+unsigned-byte-requires-12 c κs = search needs
+
+returns : tie.Need-returns
+returns c = rw (← c .before .before .byte-at .ensures, c .before .match .keys1, c .unsigned-byte .ensures)
+
+returns-2 : tie.Need-returns-2
+returns-2 c = rw (← c .before .before .byte-at .ensures, c .before .match .keys2, c .unsigned-halfword .ensures)
+
+returns-3 : tie.Need-returns-3
+returns-3 c = rw (← c .before .before .byte-at .ensures, c .before .match .keys3, c .signed-byte .ensures)
+
+returns-4 : tie.Need-returns-4
+returns-4 c = rw (← c .before .before .byte-at .ensures, c .before .match .keys4, c .signed-halfword .ensures)
+
+returns-5 : tie.Need-returns-5
+returns-5 c =
+    rw (
+      ← c .before .before .byte-at .ensures,
+      c .before .match .keys5,
+      ← c .word .ensures,
+      extended-word (c .word .result) (c .word .ok),
+    )
+
+returns-6 : tie.Need-returns-6
+returns-6 c = rw (← c .before .before .byte-at .ensures, c .before .match .keys6, c .unsigned-byte2 .ensures)
+
+returns-7 : tie.Need-returns-7
+returns-7 c = rw (← c .before .before .byte-at .ensures, c .before .match .keys7, c .unsigned-byte3 .ensures)
+
+returns-8 : tie.Need-returns-8
+returns-8 c = rw (← c .before .before .byte-at .ensures, c .before .match .keys8, c .unsigned-byte4 .ensures)
+
+returns-9 : tie.Need-returns-9
+returns-9 c = rw (← c .before .before .byte-at .ensures, c .before .match .keys9, c .unsigned-halfword2 .ensures)
+
+returns-10 : tie.Need-returns-10
+returns-10 c = rw (← c .before .before .byte-at .ensures, c .before .match .keys10, c .unsigned-byte5 .ensures)
+
+returns-11 : tie.Need-returns-11
+returns-11 c = rw (← c .before .before .byte-at .ensures, c .before .match .keys11, c .unsigned-byte6 .ensures)
+
+returns-12 : tie.Need-returns-12
+returns-12 c = rw (← c .before .before .byte-at .ensures, c .before .match .keys12, c .unsigned-byte7 .ensures)
+
+returns-13 : tie.Need-returns-13
+returns-13 c = rw (← c .before .before .byte-at .ensures, c .before .match .keys13, c .unsigned-halfword3 .ensures)
+
+returns-14 : tie.Need-returns-14
+returns-14 c = rw (← c .before .before .byte-at .ensures, c .before .match .keys14, c .unsigned-byte8 .ensures)
+
+returns-15 : tie.Need-returns-15
+returns-15 c = rw (← c .before .before .byte-at .ensures, c .before .match .keys15, c .unsigned-halfword4 .ensures)
+
+returns-16 : tie.Need-returns-16
+returns-16 c = rw (← c .before .before .byte-at .ensures, c .before .match .keys16, c .unsigned-byte9 .ensures)
+
+returns-17 : tie.Need-returns-17
+returns-17 c = rw (← c .before .before .byte-at .ensures, c .before .match .keys17, c .unsigned-byte10 .ensures)
+
+returns-18 : tie.Need-returns-18
+returns-18 c = rw (← c .before .before .byte-at .ensures, c .before .match .keys18, c .unsigned-byte11 .ensures)
+
+returns-19 : tie.Need-returns-19
+returns-19 c = rw (← c .before .before .byte-at .ensures, c .before .match .keys19, c .unsigned-halfword5 .ensures)
+
+returns-20 : tie.Need-returns-20
+returns-20 c = rw (← c .before .before .byte-at .ensures, c .before .match .keys20, c .unsigned-byte12 .ensures)
+
+returns-21 : tie.Need-returns-21
+returns-21 c = rw (← c .before .byte-at .ensures, c .match .keys21)
+
+returns-22 : tie.Need-returns-22
+returns-22 c = rw (← c .before .byte-at .ensures, find-rest dataTable [] (c .before .byte-at .result) (c .match .rest))
+
+pub data-form-spec : {M : Type 1} → statement M
+data-form-spec =
+    tie.close
+    (tie.spec
+    byte-at-requires
+    unsigned-byte-requires
+    unsigned-halfword-requires
+    signed-byte-requires
+    signed-halfword-requires
+    word-requires
+    unsigned-byte-requires-2
+    unsigned-byte-requires-3
+    unsigned-byte-requires-4
+    unsigned-halfword-requires-2
+    unsigned-byte-requires-5
+    unsigned-byte-requires-6
+    unsigned-byte-requires-7
+    unsigned-halfword-requires-3
+    unsigned-byte-requires-8
+    unsigned-halfword-requires-4
+    unsigned-byte-requires-9
+    unsigned-byte-requires-10
+    unsigned-byte-requires-11
+    unsigned-halfword-requires-5
+    unsigned-byte-requires-12
+    returns
+    returns-2
+    returns-3
+    returns-4
+    returns-5
+    returns-6
+    returns-7
+    returns-8
+    returns-9
+    returns-10
+    returns-11
+    returns-12
+    returns-13
+    returns-14
+    returns-15
+    returns-16
+    returns-17
+    returns-18
+    returns-19
+    returns-20
+    returns-21
+    returns-22)

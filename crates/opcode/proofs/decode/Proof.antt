@@ -1,0 +1,77 @@
+-- `decode` meets its contract: the first byte, a prefix, and the instruction in its mode.
+use Prim.Native.Nat.{_+_}
+use borrow.Author.Needs.{needs}
+use borrow.Author.Tests.{eq-eqb, ne-eqb, lt-ltb, le-ltb}
+use Rattle.opcode.proofs.decode.Statement.{statement}
+use Rattle.opcode.specs.Decode.{decodeAt}
+use Rattle.opcode.proofs.decode.Tie as tie
+
+returns : tie.Need-returns
+unfolding decodeAt
+returns c = rw (le-ltb (c .before .before .args .at) (c .before .before .args .limit) (c .if1 .taken))
+
+byte-at-requires : tie.Need-byte-at-requires
+byte-at-requires c κs = search needs
+
+decode-in-requires : tie.Need-decode-in-requires
+decode-in-requires c κs = search needs
+
+returns-2 : tie.Need-returns-2
+unfolding decodeAt
+returns-2 c =
+    let a = c .before .before .before .before .before .args in
+    let byte-at = c .before .before .byte-at in
+    rw (
+      lt-ltb (a .at) (a .limit) (c .before .before .before .if1 .left),
+      ← byte-at .ensures,
+      ne-eqb (byte-at .result) 0xF5 (c .before .if2 .taken),
+      c .decode-in .ensures,
+    )
+
+add-if3 : tie.Need-add-if3
+add-if3 c = search needs
+
+returns-3 : tie.Need-returns-3
+unfolding decodeAt
+returns-3 c =
+    let a = c .before .before .before .before .before .args in
+    let byte-at = c .before .before .byte-at in
+    rw (
+      lt-ltb (a .at) (a .limit) (c .before .before .before .if1 .left),
+      ← byte-at .ensures,
+      eq-eqb (byte-at .result) 0xF5 (c .before .if2 .left),
+      le-ltb (a .at + 1) (a .limit) (c .if3 .taken),
+    )
+
+add-decode-in : tie.Need-add-decode-in
+add-decode-in c = search needs
+
+decode-in-requires-2 : tie.Need-decode-in-requires-2
+decode-in-requires-2 c κs = search needs
+
+returns-4 : tie.Need-returns-4
+unfolding decodeAt
+returns-4 c =
+    let a = c .before .before .before .before .before .before .args in
+    let b = c .before .before .before .byte-at in
+    rw (
+      lt-ltb (a .at) (a .limit) (c .before .before .before .before .if1 .left),
+      ← b .ensures,
+      eq-eqb (b .result) 0xF5 (c .before .before .if2 .left),
+      lt-ltb (a .at + 1) (a .limit) (c .before .if3 .left),
+      c .decode-in2 .ensures,
+    )
+
+pub decode-spec : {M : Type 1} → statement M
+decode-spec =
+    tie.close
+    (tie.spec
+    returns
+    byte-at-requires
+    decode-in-requires
+    returns-2
+    add-if3
+    returns-3
+    add-decode-in
+    decode-in-requires-2
+    returns-4)

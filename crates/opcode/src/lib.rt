@@ -1,0 +1,49 @@
+// Instruction decoding: what stands at a place of the code, within a limit.
+ghost use mathlib.Core.Path.{_≡_};
+ghost use Prim.Native.Nat.{_<_};
+ghost use Rattle.opcode.specs.Decode.{decodeIn, decodeAt};
+use crate::instruction::Instruction;
+use crate::instruction::Mode;
+
+mod build;
+pub mod instruction;
+pub mod length;
+pub mod operand;
+pub mod switch;
+
+// An unserved instruction; one that runs past the limit; or the instruction and the place after it.
+pub enum Decoded {
+    Unserved,
+    Past,
+    At(Instruction, usize),
+}
+
+// The instruction whose code byte stands at `at`, in a mode.
+fn decode_in(mode: Mode, code: &[u8], limit: usize, at: usize) -> Decoded
+    requires { ⌜ at < limit ⌝ }
+    ensures { λ d. ⌜ d ≡ decodeIn mode (now (code .entry)) limit at ⌝ }
+{
+    let length = length::length_in(mode, code, at);
+    if length == 0 {
+        return Decoded::Unserved;
+    }
+    if limit - at < length {
+        return Decoded::Past;
+    }
+    Decoded::At(build::instruction_at(mode, code, at), at + length)
+}
+
+pub fn decode(code: &[u8], limit: usize, at: usize) -> Decoded
+    ensures { λ d. ⌜ d ≡ decodeAt (now (code .entry)) limit at ⌝ }
+{
+    if limit <= at {
+        return Decoded::Past;
+    }
+    if words::byte_at(code, at) != 0xF5 {
+        return decode_in(Mode::Normal, code, limit, at);
+    }
+    if limit <= at + 1 {
+        return Decoded::Past;
+    }
+    decode_in(Mode::Double, code, limit, at + 1)
+}

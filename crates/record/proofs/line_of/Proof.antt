@@ -1,0 +1,33 @@
+-- `record::line_of` meets its contract: the line where no number refuses the record, else the number.
+use borrow.Author.Needs.{needs}
+use borrow.Author.Tests.{eq-eqb, ne-eqb}
+use Rattle.record.proofs.line_of.Statement.{statement}
+use Rattle.record.specs.Number.{lineOf}
+use Rattle.record.proofs.line_of.Tie as tie
+
+record-number-requires : tie.Need-record-number-requires
+record-number-requires c κs = search needs
+
+header-of-requires : tie.Need-header-of-requires
+header-of-requires c κs = search needs
+
+line-at-requires : tie.Need-line-at-requires
+line-at-requires c κs = search needs
+
+returns : tie.Need-returns
+unfolding lineOf
+returns c = rw (
+  ← c .before .before .before .record-number .ensures,
+  eq-eqb _ 0 (c .before .before .if1 .taken),
+  c .line-at .ensures,
+  c .before .header-of .ensures,
+)
+
+returns-2 : tie.Need-returns-2
+unfolding lineOf
+returns-2 c = rw (← c .before .record-number .ensures, ne-eqb _ 0 (c .if1 .left))
+
+pub line-of-spec : {M : Type 1} → statement M
+line-of-spec =
+    tie.close
+    (tie.spec record-number-requires header-of-requires line-at-requires returns returns-2)

@@ -1,0 +1,157 @@
+-- `record::record_number` meets its contract: each return is the first test of the table that is given, and the last one none.
+use mathlib.Core.Bool.{not, _&&_}
+use mathlib.Core.List.{[], _∷_}
+use mathlib.Core.Path.{_≡_}
+use lib.Dec.{eqb}
+use borrow.Author.Needs.{needs}
+use borrow.Author.Tests.{eq-eqb, ne-eqb, le-ltb, lt-ltb}
+use Rattle.record.proofs.record_number.Statement.{statement}
+use Rattle.record.specs.Number.{recordNumber}
+use Rattle.words.specs.Refusal.{refusal, _when_}
+use Rattle.record.specs.Header.{codeOf}
+use Rattle.record.specs.Version.{versionSound}
+use Rattle.record.specs.Source.{sourceSound}
+use Rattle.record.specs.Entries.{entriesSound}
+use Rattle.record.proofs.record_number.Tie as tie
+
+returns : tie.Need-returns
+unfolding recordNumber
+returns c = rw (lt-ltb _ 28 (c .if1 .taken))
+
+header-of-requires : tie.Need-header-of-requires
+header-of-requires c κs = search needs
+
+sizes-fit-requires : tie.Need-sizes-fit-requires
+sizes-fit-requires c κs = search needs
+
+returns-2 : tie.Need-returns-2
+unfolding recordNumber
+returns-2 c = rw (
+  le-ltb _ 28 (c .before .before .before .if1 .left),
+  ← c .before .before .header-of .ensures,
+  ← c .before .sizes-fit .ensures,
+  c .if2 .taken,
+)
+
+record-length-requires : tie.Need-record-length-requires
+record-length-requires c κs = search needs
+
+returns-3 : tie.Need-returns-3
+unfolding recordNumber
+returns-3 c = rw (
+  le-ltb _ 28 (c .before .before .before .before .before .if1 .left),
+  ← c .before .before .before .before .header-of .ensures,
+  ← c .before .before .before .sizes-fit .ensures,
+  c .before .before .if2 .left,
+  ← c .before .record-length .ensures,
+  ne-eqb _ _ (c .if3 .taken),
+)
+
+-- Where 1 to 3 are not given, the rest of the table decides.
+three-pass : (c : tie.Else3) →
+    let r = c .before .before .before .before .before .before .before .args .r .now in
+    let h = c .before .before .before .before .header-of .result in
+    recordNumber r
+    ≡ refusal
+    (4 when not (eqb (h .imports) 0 && eqb (h .relocation) 0)
+    ∷ 5 when not (versionSound r h)
+    ∷ 6 when not (sourceSound r h)
+    ∷ 7 when not (entriesSound (codeOf r))
+    ∷ [])
+unfolding recordNumber
+three-pass c =
+    rw (
+      le-ltb _ 28 (c .before .before .before .before .before .if1 .left),
+      ← c .before .before .before .before .header-of .ensures,
+      ← c .before .before .before .sizes-fit .ensures,
+      c .before .before .if2 .left,
+      ← c .before .record-length .ensures,
+      eq-eqb _ _ (c .if3 .left),
+    )
+
+returns-4 : tie.Need-returns-4
+returns-4 c = rw (three-pass (c .before .before), ne-eqb _ 0 (c .if4 .taken))
+
+returns-5 : tie.Need-returns-5
+returns-5 c = rw (three-pass (c .before .before .before .before), eq-eqb _ 0 (c .before .before .if4 .left), ne-eqb _ 0 (c .if5 .taken))
+
+version-sound-requires : tie.Need-version-sound-requires
+version-sound-requires c κs = search needs
+
+returns-6 : tie.Need-returns-6
+returns-6 c = rw (
+  three-pass (c .before .before .before .before .before .before),
+  eq-eqb _ 0 (c .before .before .before .before .if4 .left),
+  eq-eqb _ 0 (c .before .before .if5 .left),
+  ← c .before .version-sound .ensures,
+  c .if6 .taken,
+)
+
+source-sound-requires : tie.Need-source-sound-requires
+source-sound-requires c κs = search needs
+
+returns-7 : tie.Need-returns-7
+returns-7 c = rw (
+  three-pass (c .before .before .before .before .before .before .before .before),
+  eq-eqb _ 0 (c .before .before .before .before .before .before .if4 .left),
+  eq-eqb _ 0 (c .before .before .before .before .if5 .left),
+  ← c .before .before .before .version-sound .ensures,
+  c .before .before .if6 .left,
+  ← c .before .source-sound .ensures,
+  c .if7 .taken,
+)
+
+code-of-requires : tie.Need-code-of-requires
+code-of-requires c κs = search needs
+
+entries-sound-requires : tie.Need-entries-sound-requires
+entries-sound-requires c κs = search needs
+
+returns-8 : tie.Need-returns-8
+returns-8 c = rw (
+  three-pass (c .before .before .before .before .before .before .before .before .before .before .before),
+  eq-eqb _ 0 (c .before .before .before .before .before .before .before .before .before .if4 .left),
+  eq-eqb _ 0 (c .before .before .before .before .before .before .before .if5 .left),
+  ← c .before .before .before .before .before .before .version-sound .ensures,
+  c .before .before .before .before .before .if6 .left,
+  ← c .before .before .before .before .source-sound .ensures,
+  c .before .before .before .if7 .left,
+  ← c .before .before .code-of .ensures,
+  ← c .before .entries-sound .ensures,
+  c .if8 .taken,
+)
+
+returns-9 : tie.Need-returns-9
+returns-9 c = rw (
+  three-pass (c .before .before .before .before .before .before .before .before .before .before .before),
+  eq-eqb _ 0 (c .before .before .before .before .before .before .before .before .before .if4 .left),
+  eq-eqb _ 0 (c .before .before .before .before .before .before .before .if5 .left),
+  ← c .before .before .before .before .before .before .version-sound .ensures,
+  c .before .before .before .before .before .if6 .left,
+  ← c .before .before .before .before .source-sound .ensures,
+  c .before .before .before .if7 .left,
+  ← c .before .before .code-of .ensures,
+  ← c .before .entries-sound .ensures,
+  c .if8 .left,
+)
+
+pub record-number-spec : {M : Type 1} → statement M
+record-number-spec =
+    tie.close
+    (tie.spec
+    returns
+    header-of-requires
+    sizes-fit-requires
+    returns-2
+    record-length-requires
+    returns-3
+    returns-4
+    returns-5
+    version-sound-requires
+    returns-6
+    source-sound-requires
+    returns-7
+    code-of-requires
+    entries-sound-requires
+    returns-8
+    returns-9)

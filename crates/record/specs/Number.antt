@@ -1,0 +1,38 @@
+-- The numbers 1 to 7, and what reading a record answers.
+use mathlib.Core.Bool.{cond, not, _&&_}
+use mathlib.Core.List.{List, [], _∷_}
+use Prim.Native.Nat.{ℕ}
+use lib.Dec.{ltb, eqb}
+use lib.ListN.{length}
+use Rattle.words.specs.Refusal.{refusal, _when_}
+use Rattle.record.specs.Header.{headerOf, sizesFit, recordLength, codeOf}
+use Rattle.record.specs.Version.{versionSound}
+use Rattle.record.specs.Source.{sourceSound, lineAt}
+use Rattle.record.specs.Entries.{entriesSound}
+use Rattle.record.specs.declared.Reading.{Reading}
+use Rattle.record.specs.declared.Reading.the-variants.{Refused, Sound}
+use Rattle.record.specs.declared.Line.{Line}
+use Rattle.record.specs.declared.Line.the-variants.{At, Refused as NoLine}
+
+-- 01's table: record under 28 bytes; a size above its maximum; length not that of the parts; imports or relocation present;
+-- version word malformed; source table odd or not as above; entries not as above.
+unfoldable pub recordNumber : List ℕ → ℕ
+recordNumber r =
+    let h = headerOf r in
+    refusal
+    (1 when ltb (length r) 28
+    ∷ 2 when not (sizesFit h)
+    ∷ 3 when not (eqb (length r) (recordLength h))
+    ∷ 4 when not (eqb (h .imports) 0 && eqb (h .relocation) 0)
+    ∷ 5 when not (versionSound r h)
+    ∷ 6 when not (sourceSound r h)
+    ∷ 7 when not (entriesSound (codeOf r))
+    ∷ [])
+
+unfoldable pub readingOf : List ℕ → Reading
+readingOf r = cond (eqb (recordNumber r) 0) (Sound (headerOf r)) (Refused (recordNumber r))
+
+-- 01: "the line lookup [makes tests] 1 to 7"; then the line.
+unfoldable pub lineOf : List ℕ → ℕ → Line
+lineOf r offset =
+    cond (eqb (recordNumber r) 0) (At (lineAt r (headerOf r) offset)) (NoLine (recordNumber r))

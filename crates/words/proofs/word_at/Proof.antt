@@ -1,0 +1,37 @@
+-- `words::word_at` meets its contract: past the end both halfwords are 0.
+use mathlib.Core.Path.{sym}
+use borrow.Author.Needs.{needs}
+use Rattle.words.proofs.Bytes.{word-past}
+use Rattle.words.specs.Bytes.{wordAt}
+use Rattle.words.proofs.word_at.Statement.{statement}
+use Rattle.words.proofs.word_at.Tie as tie
+
+returns : tie.Need-returns
+returns c = sym (word-past (c .before .before .args .s .now) _ (c .if1 .taken))
+
+halfword-at-requires : tie.Need-halfword-at-requires
+halfword-at-requires c κs = search needs
+
+add-halfword-at : tie.Need-add-halfword-at
+add-halfword-at c = search needs
+
+halfword-at-requires-2 : tie.Need-halfword-at-requires-2
+halfword-at-requires-2 c κs = search needs
+
+join-requires : tie.Need-join-requires
+join-requires c κs = search needs
+
+returns-2 : tie.Need-returns-2
+unfolding wordAt
+returns-2 c = rw (c .join .ensures, c .before .before .halfword-at .ensures, c .before .halfword-at2 .ensures)
+
+pub word-at-spec : {M : Type 1} → statement M
+word-at-spec =
+    tie.close
+    (tie.spec
+    returns
+    halfword-at-requires
+    add-halfword-at
+    halfword-at-requires-2
+    join-requires
+    returns-2)

@@ -1,0 +1,14 @@
+-- Numbers in a list of bytes, highest byte first (01: "all numbers highest byte first"; manual 5.2.2: halfword and word are
+-- 2-byte and 4-byte values). A read past the end gives 0, so that every read is total.
+use mathlib.Core.List.{List}
+use Prim.Native.Nat.{ℕ, _+_, _*_}
+use lib.ListN.{getD}
+
+abbrev pub byteAt : List ℕ → ℕ → ℕ
+byteAt s i = getD s i 0
+
+unfoldable pub halfwordAt : List ℕ → ℕ → ℕ
+halfwordAt s i = byteAt s i * 256 + byteAt s (i + 1)
+
+unfoldable pub wordAt : List ℕ → ℕ → ℕ
+wordAt s i = halfwordAt s i * 65536 + halfwordAt s (i + 2)

@@ -1,0 +1,14 @@
+-- Which number a call hands back (01, "Numbers handed back": "within one call the lowest number wins").
+use mathlib.Core.Bool.{Bool, cond}
+use mathlib.Core.List.{List, [], _∷_}
+use Prim.Native.Nat.{ℕ}
+
+-- A number of 01's table, and whether it is given.
+pub data Test : Type 0 where
+  _when_ : ℕ → Bool → Test
+
+infix 70 _when_
+-- The first number given of tests in rising order; 0 where none is.
+abbrev pub refusal : List Test → ℕ
+refusal [] = 0
+refusal (n when given ∷ rest) = cond given n (refusal rest)

@@ -1,0 +1,56 @@
+// Total reads from slices: a place past the end reads as 0.
+ghost use mathlib.Core.Path.{_≡_};
+ghost use Prim.Native.Nat.{_+_, _*_};
+ghost use lib.ListN.{take, drop};
+ghost use Rattle.words.specs.Bytes.{byteAt, halfwordAt, wordAt};
+
+pub fn byte_at(s: &[u8], i: usize) -> u8
+    ensures { λ r. ⌜ r ≡ byteAt (now (s .entry)) i ⌝ }
+{
+    if i < s.len() { s[i] } else { 0 }
+}
+
+// The number that two bytes make, the higher one first.
+pub fn pair(high: u8, low: u8) -> u16
+    ensures { λ r. ⌜ r ≡ high * 256 + low ⌝ }
+{
+    (high as u16) * 256 + (low as u16)
+}
+
+// The number that two halfwords make, the higher one first.
+pub fn join(high: u16, low: u16) -> u32
+    ensures { λ r. ⌜ r ≡ high * 65536 + low ⌝ }
+{
+    (high as u32) * 65536 + (low as u32)
+}
+
+pub fn halfword_at(s: &[u8], i: usize) -> u16
+    ensures { λ r. ⌜ r ≡ halfwordAt (now (s .entry)) i ⌝ }
+{
+    if s.len() <= i {
+        return 0;
+    }
+    pair(byte_at(s, i), byte_at(s, i + 1))
+}
+
+pub fn word_at(s: &[u8], i: usize) -> u32
+    ensures { λ r. ⌜ r ≡ wordAt (now (s .entry)) i ⌝ }
+{
+    if s.len() <= i {
+        return 0;
+    }
+    join(halfword_at(s, i), halfword_at(s, i + 2))
+}
+
+// At most `n` elements from `at` on: those that there are.
+pub fn part(s: &[u8], at: usize, n: usize) -> &[u8]
+    ensures { λ r. ⌜ now r ≡ take n (drop at (now (s .entry))) ⌝ }
+{
+    if s.len() <= at {
+        return &s[s.len()..];
+    }
+    if s.len() - at <= n {
+        return &s[at..];
+    }
+    &s[at..at + n]
+}

@@ -1,0 +1,120 @@
+//! Times run and check of the proved library beside the reference.
+//!
+//!     bench                                     all workloads, both sides, ns and ratio
+//!     bench SIDE WORKLOAD COUNT                 one side and workload, so many steps or checks
+//!
+//! The second form prints nothing but the count: it is for valgrind --tool=callgrind. SIDE is
+//! proved or reference; a workload's name is written with - for its spaces.
+
+use conformance::check::SHARE;
+use conformance::ffi::PROVED;
+use conformance::interface::{Interface, OUTCOME_WORDS, REFERENCE, STATE_WORDS};
+use conformance::record::Record;
+use conformance::workloads::{for_check, for_run, Workload};
+use std::hint::black_box;
+use std::process::ExitCode;
+use std::time::Instant;
+
+/// Rounds of each timing; the fastest counts.
+const ROUNDS: u32 = 7;
+const STEPS: u32 = 3_000_000;
+const CHECKS: u32 = 300;
+
+fn main() -> ExitCode {
+    let arguments: Vec<String> = std::env::args().skip(1).collect();
+    let arguments: Vec<&str> = arguments.iter().map(String::as_str).collect();
+    let result = match arguments[..] {
+        [] => all(),
+        [side, name, count] => one(side, name, count),
+        _ => Err("arguments: none, or SIDE WORKLOAD COUNT".to_string()),
+    };
+    if let Err(error) = &result {
+        eprintln!("{error}");
+    }
+    if result.is_ok() { ExitCode::SUCCESS } else { ExitCode::FAILURE }
+}
+
+fn all() -> Result<(), String> {
+    println!("{:16} {:>12} {:>12} {:>7}", "run, ns a step", "proved", "reference", "ratio");
+    for workload in for_run() {
+        compare(&workload, STEPS, run)?;
+    }
+    println!("{:16} {:>12} {:>12} {:>7}", "check, ns", "proved", "reference", "ratio");
+    for workload in for_check() {
+        compare(&workload, CHECKS, check)?;
+    }
+    Ok(())
+}
+
+type Work = fn(&Interface, &Workload, u32) -> Result<(), String>;
+
+fn compare(workload: &Workload, count: u32, work: Work) -> Result<(), String> {
+    let (mut proved, mut reference) = (f64::INFINITY, f64::INFINITY);
+    for _ in 0..ROUNDS {
+        proved = proved.min(nanoseconds(&PROVED, workload, count, work)?);
+        reference = reference.min(nanoseconds(&REFERENCE, workload, count, work)?);
+    }
+    let ratio = proved / reference;
+    println!("{:16} {proved:>12.1} {reference:>12.1} {ratio:>7.2}", workload.name);
+    Ok(())
+}
+
+fn nanoseconds(
+    library: &Interface,
+    workload: &Workload,
+    count: u32,
+    work: Work,
+) -> Result<f64, String> {
+    let start = Instant::now();
+    work(library, workload, count)?;
+    Ok(start.elapsed().as_secs_f64() * 1e9 / f64::from(count))
+}
+
+fn one(side: &str, name: &str, count: &str) -> Result<(), String> {
+    let library = match side {
+        "proved" => PROVED,
+        "reference" => REFERENCE,
+        _ => return Err(format!("{side}: proved or reference")),
+    };
+    let count = count.parse().map_err(|_| format!("{count} is no count"))?;
+    let named = |workload: &Workload| workload.name.replace(' ', "-") == name;
+    if let Some(workload) = for_run().into_iter().find(named) {
+        run(&library, &workload, count)?;
+    } else if let Some(workload) = for_check().into_iter().find(named) {
+        check(&library, &workload, count)?;
+    } else {
+        return Err(format!("no workload {name}"));
+    }
+    println!("{count}");
+    Ok(())
+}
+
+/// Loads the workload and runs it for `steps` steps.
+fn run(library: &Interface, workload: &Workload, steps: u32) -> Result<(), String> {
+    let machine = library.machine.ok_or("the feature machine is off")?;
+    let (mut memory, mut stack) = ([0; 256], [0; 64]);
+    let mut state = [0; STATE_WORDS];
+    let mut outcome = [0; OUTCOME_WORDS];
+    let record = black_box(&workload.record[..]);
+    let loaded = (machine.load)(record, &[], &mut memory, &mut stack, &mut state);
+    let ran = (machine.run)(record, steps, &mut memory, &mut stack, &mut state, &mut outcome);
+    match (loaded, ran, outcome) {
+        (0, 0, [1, _, done]) if done == steps => Ok(()),
+        _ => Err(format!("{}: load {loaded}, run {ran}, outcome {outcome:?}", workload.name)),
+    }
+}
+
+/// Checks the workload `times` times.
+fn check(library: &Interface, workload: &Workload, times: u32) -> Result<(), String> {
+    let check = library.check.ok_or("the feature check is off")?;
+    let size = Record::read(&workload.record).map_or(0, |record| SHARE * record.code.len());
+    let mut workspace = vec![0; size];
+    for _ in 0..times {
+        match check(black_box(&workload.record), black_box(&workload.results), &mut workspace) {
+            0 => {}
+            number => return Err(format!("{}: check {number}", workload.name)),
+        }
+    }
+    black_box(workspace);
+    Ok(())
+}

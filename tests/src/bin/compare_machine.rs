@@ -1,0 +1,176 @@
+//! Compares load and run of the proved library with the reference: number, end, place, steps,
+//! state, and every word of memory and stack. The code need not be accepted.
+
+use conformance::cases::{Answer, Case, Words};
+use conformance::ffi::PROVED;
+use conformance::generate::damage::damage;
+use conformance::generate::program::{self, Program};
+use conformance::generate::{instructions, record, state};
+use conformance::harness::{self, agree, Expected, Tally};
+use conformance::interface::{MachineCalls, REFERENCE};
+use conformance::random::Random;
+use conformance::record::Record;
+
+const CASES: u64 = 300_000;
+
+fn main() -> std::process::ExitCode {
+    let expected = [
+        Expected::new("end", 0..=1, 100),
+        Expected::new("end", 20..=23, 100),
+        Expected::new("end", 30..=38, 100),
+        Expected::new("load refused", 1..=8, 100),
+        Expected::new("run refused", 1..=7, 100),
+        Expected::new("run refused", 24..=24, 100),
+        Expected { kind: "opcode done", numbers: instructions::served(), least: 20 },
+    ];
+    let served = instructions::served();
+    harness::main(CASES, &expected, |random, tally| compare(random, tally, &served))
+}
+
+fn compare(random: &mut Random, tally: &mut Tally, served: &[u32]) -> Result<(), String> {
+    match random.below(100) {
+        0..=24 => {
+            let program = program::usual(random);
+            load_and_run(random, tally, &program)
+        }
+        25..=39 => {
+            let mut program = program::usual(random);
+            for _ in 0..random.within(1..=3) {
+                damage(random, &mut program);
+            }
+            load_and_run(random, tally, &program)
+        }
+        40..=43 => {
+            let code = instructions::byte_soup(random);
+            let program = program::of_code(random, code);
+            load_and_run(random, tally, &program)
+        }
+        44..=79 => {
+            let code = instructions::single(random, served);
+            run_from_fitting(random, tally, code, false)
+        }
+        80..=84 => {
+            let code = instructions::soup(random);
+            run_from_fitting(random, tally, code, false)
+        }
+        85..=89 => {
+            let code = instructions::soup(random);
+            run_from_fitting(random, tally, code, true)
+        }
+        90..=98 => refused_records(random, tally),
+        _ => other_lengths(random),
+    }
+}
+
+/// Loads and, if that was taken, runs in several pieces.
+fn load_and_run(random: &mut Random, tally: &mut Tally, program: &Program) -> Result<(), String> {
+    let record = program.parts.assemble();
+    let most = program.parts.globals as usize + usize::from(random.percent(3));
+    let count = if random.percent(5) { most } else { random.below(most.min(30) + 1) };
+    let parameters = random.words(count);
+    let (memory, stack) = state::fresh(random, &record);
+    let case = Case::Load { record: record.clone(), parameters, memory, stack };
+    let Answer::Load { number, machine } = agree(&case, &PROVED)? else { return Ok(()) };
+    tally.note("load refused", number);
+    if number > 0 {
+        return Ok(());
+    }
+    let pieces = random.within(1..=4);
+    run_on(random, tally, record, machine, pieces)
+}
+
+/// Runs from a random state that fits, or nearly.
+fn run_from_fitting(
+    random: &mut Random,
+    tally: &mut Tally,
+    code: Vec<u8>,
+    unfit: bool,
+) -> Result<(), String> {
+    let record = program::of_code(random, code).parts.assemble();
+    let Ok(parts) = Record::read(&record) else { return Ok(()) };
+    let mut machine = state::fitting(random, &parts);
+    if random.percent(70) {
+        machine.state[0] = parts.entry(0);
+    }
+    if unfit {
+        state::unfit(random, &mut machine);
+    }
+    let pieces = random.within(1..=2);
+    run_on(random, tally, record, machine, pieces)
+}
+
+/// Runs, and goes on from where the last run ended, whatever its end.
+fn run_on(
+    random: &mut Random,
+    tally: &mut Tally,
+    record: Vec<u8>,
+    mut machine: Words,
+    pieces: usize,
+) -> Result<(), String> {
+    for _ in 0..pieces {
+        let budget = random.pick(&[0, 1, 1, 2, 3, 10, 60, 300]);
+        let first = opcode_at(&record, machine.state[0]);
+        let case = Case::Run { record: record.clone(), budget, machine };
+        let Answer::Run { ended, machine: after } = agree(&case, &PROVED)? else { return Ok(()) };
+        match ended {
+            Ok([end, _, steps]) => {
+                tally.note("end", end);
+                tally.add("steps", 0, u64::from(steps));
+                if let (Some(opcode), 1..) = (first, steps) {
+                    tally.note("opcode done", opcode);
+                }
+            }
+            Err(number) => {
+                tally.note("run refused", number);
+                return Ok(());
+            }
+        }
+        machine = after;
+    }
+    Ok(())
+}
+
+/// The opcode that a run begins with.
+fn opcode_at(record: &[u8], place: u32) -> Option<u32> {
+    let record = Record::read(record).ok()?;
+    instructions::opcode_at(record.code, place as usize)
+}
+
+/// Damaged records: load and run both answer with the record's number.
+fn refused_records(random: &mut Random, tally: &mut Tally) -> Result<(), String> {
+    let record = record::any(random);
+    let parameters = random.below(4);
+    let parameters = random.words(parameters);
+    let (memory, stack) = state::fresh(random, &record);
+    let state = [2, 3, 3, 3, 0, 0];
+    let machine = Words { state, memory: memory.clone(), stack: stack.clone() };
+    let case = Case::Load { record: record.clone(), parameters, memory, stack };
+    let answer = agree(&case, &PROVED)?;
+    tally.note("load refused", answer.number());
+    run_on(random, tally, record, machine, 1)
+}
+
+/// A state of other than 6 words or an outcome of other than 3: 8 and 24, nothing changed.
+fn other_lengths(random: &mut Random) -> Result<(), String> {
+    let program = program::usual(random);
+    let mut record = program.parts.assemble();
+    if random.percent(50) {
+        record::damage_bytes(random, &mut record);
+    }
+    let (memory, stack) = state::fresh(random, &record);
+    let state_words = random.pick(&[0, 1, 5, 6, 7, 12]);
+    let outcome_words = if state_words == 6 { random.pick(&[0, 2, 4, 6]) } else { 3 };
+    let try_both = |machine: MachineCalls| {
+        let (mut memory, mut stack) = (memory.clone(), stack.clone());
+        let mut state = vec![9; state_words];
+        let mut outcome = vec![9; outcome_words];
+        let (memory, stack) = (&mut memory[..], &mut stack[..]);
+        let ran = (machine.run)(&record, 5, memory, stack, &mut state, &mut outcome);
+        let loaded = (machine.load)(&record, &[], memory, stack, &mut state);
+        (loaded, ran, memory.to_vec(), stack.to_vec(), state, outcome)
+    };
+    match (PROVED.machine, REFERENCE.machine) {
+        (Some(proved), Some(reference)) if try_both(proved) == try_both(reference) => Ok(()),
+        _ => Err(format!("state of {state_words} words, outcome of {outcome_words} words")),
+    }
+}

@@ -1,0 +1,9 @@
+//! Runs the stored vectors through the proved library, as far as the enabled features allow.
+//! Argument: the folder of the vectors.
+
+use conformance::ffi::PROVED;
+use conformance::vectors;
+
+fn main() -> std::process::ExitCode {
+    vectors::main(&PROVED)
+}

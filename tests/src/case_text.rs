@@ -1,0 +1,155 @@
+//! The text of cases and answers (vectors/FORMAT.md).
+
+use crate::cases::{Answer, Case, State, Words};
+use std::fmt::{self, Display, Formatter};
+use std::str::FromStr;
+
+impl FromStr for Case {
+    type Err = String;
+
+    fn from_str(line: &str) -> Result<Case, String> {
+        let mut tokens = Tokens(line.split(' '));
+        let verb = tokens.next()?;
+        let record = tokens.bytes()?;
+        let case = match verb {
+            "check" => {
+                Case::Check { record, results: tokens.bytes()?, workspace: tokens.words()? }
+            }
+            "load" => Case::Load {
+                record,
+                parameters: tokens.words()?,
+                memory: tokens.words()?,
+                stack: tokens.words()?,
+            },
+            "run" => Case::Run { record, budget: tokens.number()?, machine: tokens.machine()? },
+            "line" => Case::Line { record, offset: tokens.number()? },
+            _ => return Err(format!("unknown verb {verb}")),
+        };
+        match tokens.0.next() {
+            None => Ok(case),
+            Some(token) => Err(format!("{token} stands after the case")),
+        }
+    }
+}
+
+impl Display for Case {
+    fn fmt(&self, f: &mut Formatter) -> fmt::Result {
+        write!(f, "{} {} ", self.verb(), Hex(self.record()))?;
+        match self {
+            Case::Check { results, workspace, .. } => {
+                write!(f, "{} {}", Hex(results), List(workspace))
+            }
+            Case::Load { parameters, memory, stack, .. } => {
+                write!(f, "{} {} {}", List(parameters), List(memory), List(stack))
+            }
+            Case::Run { budget, machine, .. } => write!(f, "{budget} {machine}"),
+            Case::Line { offset, .. } => write!(f, "{offset}"),
+        }
+    }
+}
+
+impl Display for Answer {
+    fn fmt(&self, f: &mut Formatter) -> fmt::Result {
+        match self {
+            Answer::Check { number, workspace } => write!(f, "check {number} {}", List(workspace)),
+            Answer::Load { number, machine } => write!(f, "load {number} {machine}"),
+            Answer::Run { ended: Ok(outcome), machine } => {
+                write!(f, "run {} {machine}", Numbers(outcome))
+            }
+            Answer::Run { ended: Err(number), machine } => {
+                write!(f, "run refused {number} {machine}")
+            }
+            Answer::Line(Ok(line)) => write!(f, "line {line}"),
+            Answer::Line(Err(number)) => write!(f, "line refused {number}"),
+        }
+    }
+}
+
+impl Display for Words {
+    fn fmt(&self, f: &mut Formatter) -> fmt::Result {
+        write!(f, "{} {} {}", Numbers(&self.state), List(&self.memory), List(&self.stack))
+    }
+}
+
+/// Bytes as hex digits, `-` for none.
+pub struct Hex<'a>(pub &'a [u8]);
+
+impl Display for Hex<'_> {
+    fn fmt(&self, f: &mut Formatter) -> fmt::Result {
+        if self.0.is_empty() {
+            return write!(f, "-");
+        }
+        self.0.iter().try_for_each(|byte| write!(f, "{byte:02x}"))
+    }
+}
+
+struct Numbers<'a>(&'a [u32]);
+
+impl Display for Numbers<'_> {
+    fn fmt(&self, f: &mut Formatter) -> fmt::Result {
+        let numbers: Vec<String> = self.0.iter().map(u32::to_string).collect();
+        write!(f, "{}", numbers.join(" "))
+    }
+}
+
+/// WORDS: how many, then the words, with `k*w` for k > 1 equal ones in a row.
+struct List<'a, T>(&'a [T]);
+
+impl<T: PartialEq + Display> Display for List<'_, T> {
+    fn fmt(&self, f: &mut Formatter) -> fmt::Result {
+        write!(f, "{}", self.0.len())?;
+        self.0.chunk_by(|one, next| one == next).try_for_each(|equal| match equal {
+            [word] => write!(f, " {word}"),
+            _ => write!(f, " {}*{}", equal.len(), equal[0]),
+        })
+    }
+}
+
+struct Tokens<'a>(std::str::Split<'a, char>);
+
+impl<'a> Tokens<'a> {
+    fn next(&mut self) -> Result<&'a str, String> {
+        self.0.next().ok_or_else(|| "the line is too short".to_string())
+    }
+
+    fn number<T: FromStr>(&mut self) -> Result<T, String> {
+        parse(self.next()?)
+    }
+
+    fn bytes(&mut self) -> Result<Vec<u8>, String> {
+        match self.next()? {
+            "-" => Ok(vec![]),
+            hex if hex.is_ascii() && hex.len() % 2 == 0 => (0..hex.len() / 2)
+                .map(|i| u8::from_str_radix(&hex[2 * i..2 * i + 2], 16))
+                .collect::<Result<_, _>>()
+                .map_err(|error| error.to_string()),
+            other => Err(format!("{other} is no byte string")),
+        }
+    }
+
+    fn words<T: FromStr + Clone>(&mut self) -> Result<Vec<T>, String> {
+        let count = self.number()?;
+        let mut words = Vec::new();
+        while words.len() < count {
+            let token = self.next()?;
+            let (times, word) = token.split_once('*').unwrap_or(("1", token));
+            words.resize(words.len() + parse::<usize>(times)?, parse(word)?);
+        }
+        if words.len() > count {
+            return Err(format!("more than {count} words"));
+        }
+        Ok(words)
+    }
+
+    fn machine(&mut self) -> Result<Words, String> {
+        let mut state = State::default();
+        for word in &mut state {
+            *word = self.number()?;
+        }
+        Ok(Words { state, memory: self.words()?, stack: self.words()? })
+    }
+}
+
+fn parse<T: FromStr>(token: &str) -> Result<T, String> {
+    token.parse().map_err(|_| format!("{token} is no number here"))
+}

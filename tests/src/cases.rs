@@ -1,0 +1,103 @@
+//! One call of the interface as data: the case, and the answer with all words as they are
+//! afterwards. `case_text` gives both their text form.
+
+use crate::interface::{Interface, OUTCOME_WORDS, STATE_WORDS};
+
+pub type State = [u32; STATE_WORDS];
+pub type Outcome = [u32; OUTCOME_WORDS];
+
+#[derive(Clone, Debug, PartialEq, Eq)]
+pub enum Case {
+    Check { record: Vec<u8>, results: Vec<u8>, workspace: Vec<u16> },
+    Load { record: Vec<u8>, parameters: Vec<u32>, memory: Vec<u32>, stack: Vec<u32> },
+    Run { record: Vec<u8>, budget: u32, machine: Words },
+    Line { record: Vec<u8>, offset: u32 },
+}
+
+/// What a machine keeps between runs.
+#[derive(Clone, Debug, PartialEq, Eq)]
+pub struct Words {
+    /// pc, fp, mp, gp, height, calls
+    pub state: State,
+    pub memory: Vec<u32>,
+    pub stack: Vec<u32>,
+}
+
+#[derive(Clone, Debug, PartialEq, Eq)]
+pub enum Answer {
+    Check { number: u32, workspace: Vec<u16> },
+    Load { number: u32, machine: Words },
+    /// The outcome (end, at, steps), or the refusal.
+    Run { ended: Result<Outcome, u32>, machine: Words },
+    /// The line, or the refusal.
+    Line(Result<u32, u32>),
+}
+
+impl Case {
+    pub fn verb(&self) -> &'static str {
+        match self {
+            Case::Check { .. } => "check",
+            Case::Load { .. } => "load",
+            Case::Run { .. } => "run",
+            Case::Line { .. } => "line",
+        }
+    }
+
+    pub fn record(&self) -> &[u8] {
+        match self {
+            Case::Check { record, .. }
+            | Case::Load { record, .. }
+            | Case::Run { record, .. }
+            | Case::Line { record, .. } => record,
+        }
+    }
+
+    /// The answer of an implementation, if it has the call.
+    pub fn answer(&self, library: &Interface) -> Option<Answer> {
+        match self {
+            Case::Check { record, results, workspace } => {
+                let mut workspace = workspace.clone();
+                let number = library.check?(record, results, &mut workspace);
+                Some(Answer::Check { number, workspace })
+            }
+            Case::Load { record, parameters, memory, stack } => {
+                let mut machine =
+                    Words { state: [0; STATE_WORDS], memory: memory.clone(), stack: stack.clone() };
+                let Words { state, memory, stack } = &mut machine;
+                let number = (library.machine?.load)(record, parameters, memory, stack, state);
+                Some(Answer::Load { number, machine })
+            }
+            Case::Run { record, budget, machine } => {
+                let mut machine = machine.clone();
+                let Words { state, memory, stack } = &mut machine;
+                // A refused run leaves the outcome as it was, too.
+                let mut outcome = [u32::MAX; OUTCOME_WORDS];
+                let run = library.machine?.run;
+                let ended = match run(record, *budget, memory, stack, state, &mut outcome) {
+                    0 => Ok(outcome),
+                    number if outcome == [u32::MAX; OUTCOME_WORDS] => Err(number),
+                    number => panic!("refused with {number}, but wrote outcome {outcome:?}"),
+                };
+                Some(Answer::Run { ended, machine })
+            }
+            Case::Line { record, offset } => {
+                let answer = (library.record?.line)(record, *offset);
+                Some(Answer::Line(match (answer >> 32) as u32 {
+                    0 => Ok(answer as u32),
+                    number => Err(number),
+                }))
+            }
+        }
+    }
+}
+
+impl Answer {
+    /// The refusal of 1 to 24, or 0.
+    pub fn number(&self) -> u32 {
+        match *self {
+            Answer::Check { number, .. } | Answer::Load { number, .. } => number,
+            Answer::Run { ended: Err(number), .. } | Answer::Line(Err(number)) => number,
+            Answer::Run { ended: Ok(_), .. } | Answer::Line(Ok(_)) => 0,
+        }
+    }
+}

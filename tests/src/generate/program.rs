@@ -1,0 +1,103 @@
+//! Random programs of several procedures, nearly all of which the check accepts.
+
+use super::assembler::Assembler;
+use super::body::{Body, Scope, Signature};
+use super::record::{around, set_entry, Parts};
+use crate::random::Random;
+use crate::record::{Record, LARGEST};
+
+/// A record's parts with the results list of its procedures.
+#[derive(Clone, Debug)]
+pub struct Program {
+    pub parts: Parts,
+    pub results: Vec<u8>,
+}
+
+/// How likely operands are that trap, in percent.
+pub const TAME: usize = 1;
+pub const WILD: usize = 12;
+
+/// A structured program of about `fuel` statements, with `nest` loops inside each other.
+pub fn structured(random: &mut Random, fuel: usize, nest: usize, wild: usize) -> Program {
+    let scope = scope(random, wild);
+    // What is too long is tried again with less.
+    let code = (1..)
+        .find_map(|attempt| code(random, &scope, fuel / attempt, nest / attempt))
+        .expect("a program without statements fits");
+    let results = scope.signatures.iter().map(|signature| signature.results as u8).collect();
+    let constants = random.words(scope.constants);
+    Program { parts: around(random, code, scope.globals as u32, constants), results }
+}
+
+/// A program of usual size; at times a larger one.
+pub fn usual(random: &mut Random) -> Program {
+    let (fuel, nest) = match random.below(1000) {
+        0..=2 => (400, 0),
+        3..=20 => (120, 0),
+        21..=30 => (10, random.within(20..=70)),
+        31..=80 => (10, random.within(3..=12)),
+        _ => (random.pick(&[2, 6, 6, 12, 12, 25]), 0),
+    };
+    let wild = random.pick(&[TAME, TAME, WILD]);
+    structured(random, fuel, nest, wild)
+}
+
+/// A program of given code, with results that are sound for it.
+pub fn of_code(random: &mut Random, code: Vec<u8>) -> Program {
+    let globals = random.pick(&[0, 1, 3, 6]);
+    let constants = random.pick(&[0, 1, 2, 4]);
+    let constants = random.words(constants);
+    let parts = around(random, code, globals, constants);
+    let procedures = Record::read(&parts.assemble()).map_or(1, |record| record.procedures);
+    let results =
+        (0..procedures).map(|n| if n == 0 { 0 } else { random.below(3) as u8 }).collect();
+    Program { parts, results }
+}
+
+fn scope(random: &mut Random, wild: usize) -> Scope {
+    let procedures = match random.below(40) {
+        0..=14 => 1,
+        15..=37 => random.within(2..=5),
+        38 => random.within(6..=30),
+        _ => random.pick(&[60, 256]),
+    };
+    let globals = random.pick(&[0, 1, 3, 6, 6, 12, 20]);
+    let constants = random.pick(&[0, 1, 2, 4]);
+    let signatures =
+        (0..procedures).map(|procedure| signature(random, procedure, procedures)).collect();
+    Scope { signatures, globals, constants, wild }
+}
+
+fn signature(random: &mut Random, procedure: usize, procedures: usize) -> Signature {
+    let locals = random.pick(&[0, 0, 1, 2, 5]);
+    if procedure == 0 {
+        return Signature { parameters: 0, locals, results: 0 };
+    }
+    let large = procedures < 10 && random.percent(1);
+    Signature {
+        parameters: if large { random.within(200..=255) } else { random.pick(&[0, 1, 1, 2, 3]) },
+        locals: if large { 255 } else { locals },
+        results: random.below(3),
+    }
+}
+
+/// The entry table and all bodies, or none where they do not fit.
+fn code(random: &mut Random, scope: &Scope, fuel: usize, nest: usize) -> Option<Vec<u8>> {
+    let procedures = scope.signatures.len();
+    let nest = if procedures > 10 { 0 } else { nest };
+    let fuel = match procedures {
+        0..=10 => 1 + fuel / procedures,
+        11..=100 => 1,
+        _ => 0,
+    };
+    let mut code = vec![0; 2 * procedures];
+    for procedure in (1..procedures).chain([0]) {
+        let entry = code.len();
+        set_entry(&mut code, procedure, entry);
+        let fuel = random.within(fuel / 2..=fuel);
+        let (code_of_body, held) = (Assembler::default(), Vec::new());
+        let body = Body { random, scope, procedure, code: code_of_body, held, fuel, nest };
+        code.extend(body.write()?);
+    }
+    (code.len() <= LARGEST[1] as usize).then_some(code)
+}

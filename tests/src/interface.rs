@@ -1,0 +1,121 @@
+//! The C interface as safe Rust functions, so that the reference and the proved library can be
+//! called alike.
+
+use crate::machine::{self, Registers};
+use crate::record::Record;
+use crate::{check, record, report};
+
+/// Words of a state (pc, fp, mp, gp, height, calls) and of an outcome (end, at, steps).
+pub const STATE_WORDS: usize = 6;
+pub const OUTCOME_WORDS: usize = 3;
+
+pub type RecordNumber = fn(record: &[u8]) -> u32;
+/// number * 2^32 + line
+pub type Line = fn(record: &[u8], offset: u32) -> u64;
+pub type Check = fn(record: &[u8], results: &[u8], workspace: &mut [u16]) -> u32;
+pub type Report = fn(run_file: &[u8], out: &mut [u8]) -> usize;
+pub type Load = fn(
+    record: &[u8],
+    parameters: &[u32],
+    memory: &mut [u32],
+    stack: &mut [u32],
+    state: &mut [u32],
+) -> u32;
+pub type Run = fn(
+    record: &[u8],
+    budget: u32,
+    memory: &mut [u32],
+    stack: &mut [u32],
+    state: &mut [u32],
+    outcome: &mut [u32],
+) -> u32;
+
+#[derive(Clone, Copy)]
+pub struct RecordCalls {
+    pub number: RecordNumber,
+    pub line: Line,
+}
+
+#[derive(Clone, Copy)]
+pub struct MachineCalls {
+    pub load: Load,
+    pub run: Run,
+}
+
+/// The calls of one implementation. A group is none where its feature is off.
+#[derive(Clone, Copy)]
+pub struct Interface {
+    pub record: Option<RecordCalls>,
+    pub machine: Option<MachineCalls>,
+    pub check: Option<Check>,
+    pub report: Option<Report>,
+}
+
+/// The reference.
+pub const REFERENCE: Interface = Interface {
+    record: Some(RecordCalls { number: record::number, line }),
+    machine: Some(MachineCalls { load, run }),
+    check: Some(check::check),
+    report: Some(report::report),
+};
+
+fn line(record: &[u8], offset: u32) -> u64 {
+    match Record::read(record) {
+        Ok(record) => u64::from(record.line(offset)),
+        Err(number) => u64::from(number) << 32,
+    }
+}
+
+fn load(
+    record: &[u8],
+    parameters: &[u32],
+    memory: &mut [u32],
+    stack: &mut [u32],
+    state: &mut [u32],
+) -> u32 {
+    if state.len() != STATE_WORDS {
+        // 8, unless a lower number applies.
+        return match record::number(record) {
+            0 => 8,
+            number => number,
+        };
+    }
+    match machine::load(record, parameters, memory, stack) {
+        Ok(registers) => {
+            state.copy_from_slice(&words_of(registers));
+            0
+        }
+        Err(number) => number,
+    }
+}
+
+fn run(
+    record: &[u8],
+    budget: u32,
+    memory: &mut [u32],
+    stack: &mut [u32],
+    state: &mut [u32],
+    outcome: &mut [u32],
+) -> u32 {
+    let (&mut [pc, fp, mp, gp, height, calls], [end, at, steps]) = (&mut *state, outcome) else {
+        // 24, unless a lower number applies.
+        return match record::number(record) {
+            0 => 24,
+            number => number,
+        };
+    };
+    let mut registers = Registers { pc, fp, mp, gp, height, calls };
+    match machine::run(record, budget, memory, stack, &mut registers) {
+        Ok(ended) => {
+            state.copy_from_slice(&words_of(registers));
+            (*end, *at, *steps) = (ended.end, ended.at, ended.steps);
+            0
+        }
+        Err(number) => number,
+    }
+}
+
+fn words_of(registers: Registers) -> [u32; STATE_WORDS] {
+    let Registers { pc, fp, mp, gp, height, calls } = registers;
+    [pc, fp, mp, gp, height, calls]
+}

@@ -1,0 +1,28 @@
+//! Conformance tests of the I-Code machine: a reference implementation written from the papers,
+//! the proved library behind its C interface, and what it takes to compare the two.
+
+// The reference, in the order of the data: bytes, record, instructions, machine | check, report.
+pub mod bytes;
+pub mod record;
+pub mod switch_table;
+pub mod instruction;
+pub mod mnemonic;
+pub mod arithmetic;
+pub mod machine;
+pub mod check;
+pub mod report;
+
+// Both implementations behind one interface.
+pub mod interface;
+pub mod ffi;
+#[cfg(feature = "selftest")]
+pub mod selftest;
+
+// The comparison.
+pub mod cases;
+pub mod case_text;
+pub mod vectors;
+pub mod random;
+pub mod generate;
+pub mod harness;
+pub mod workloads;

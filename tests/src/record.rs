@@ -1,0 +1,160 @@
+//! The I-Code record (manual 5.1; 01, "The record"): parts, entries, regions, source lines.
+
+use crate::bytes::{halfword, word};
+
+pub const HEADER_BYTES: usize = 28;
+
+/// Largest sizes, in the header's order: import list, code, globals, constants, relocation,
+/// version table, source table.
+pub const LARGEST: [u32; 7] = [16, 4096, 1024, 1024, 4096, 16, 2048];
+
+/// First word of the globals (GP).
+pub const GLOBALS_AT: u32 = 3;
+
+/// A sound record, taken apart.
+#[derive(Clone, Copy)]
+pub struct Record<'a> {
+    pub code: &'a [u8],
+    /// Number of global words (g).
+    pub globals: u32,
+    /// The constant words as bytes.
+    pub constants: &'a [u8],
+    /// The source table's pairs as bytes.
+    source: &'a [u8],
+    pub procedures: u32,
+}
+
+/// The code of one procedure.
+#[derive(Clone, Copy, Debug)]
+pub struct Region {
+    pub procedure: u32,
+    pub start: usize,
+    pub end: usize,
+}
+
+impl<'a> Record<'a> {
+    /// The record's parts, or the lowest number of 1 to 7 that applies.
+    pub fn read(bytes: &'a [u8]) -> Result<Record<'a>, u32> {
+        if bytes.len() < HEADER_BYTES {
+            return Err(1);
+        }
+        let sizes: [u32; 7] = std::array::from_fn(|i| word(bytes, 4 * i));
+        if sizes.iter().zip(LARGEST).any(|(&size, largest)| size > largest) {
+            return Err(2);
+        }
+        let [imports, code, globals, constants, relocation, version, source] = sizes;
+        let words = imports + constants + relocation + version + source;
+        if bytes.len() != HEADER_BYTES + code as usize + 4 * words as usize {
+            return Err(3);
+        }
+        if imports + relocation > 0 {
+            return Err(4);
+        }
+        let (code, rest) = bytes[HEADER_BYTES..].split_at(code as usize);
+        let (constants, rest) = rest.split_at(4 * constants as usize);
+        let (version, source) = rest.split_at(4 * version as usize);
+        if !version_sound(version) {
+            return Err(5);
+        }
+        if !source_sound(source, code.len()) {
+            return Err(6);
+        }
+        let procedures = count_procedures(code).ok_or(7u32)?;
+        Ok(Record { code, globals, constants, source, procedures })
+    }
+
+    /// Entry offset of a procedure (PROC of 5.2.2).
+    pub fn entry(&self, procedure: u32) -> u32 {
+        halfword(self.code, 2 * procedure as usize)
+    }
+
+    /// Regions in the order of their offsets: procedures 1, 2, .. and then 0.
+    pub fn regions(&self) -> Vec<Region> {
+        let order = (1..self.procedures).chain([0]);
+        let mut regions: Vec<Region> = order
+            .map(|procedure| {
+                let start = self.entry(procedure) as usize;
+                Region { procedure, start, end: self.code.len() }
+            })
+            .collect();
+        for i in 1..regions.len() {
+            regions[i - 1].end = regions[i].start;
+        }
+        regions
+    }
+
+    /// First word of the constants; header word 2 holds it.
+    pub fn constants_at(&self) -> u32 {
+        GLOBALS_AT + self.globals
+    }
+
+    /// Where FP and MP start: 3+g+c.
+    pub fn frames_at(&self) -> u32 {
+        self.constants_at() + self.constants.len() as u32 / 4
+    }
+
+    /// Offset of one source pair.
+    pub fn source_offset(&self, pair: usize) -> Option<u32> {
+        self.source.chunks_exact(8).nth(pair).map(|pair| word(pair, 0))
+    }
+
+    /// Source line of a code offset; 0 before the first pair and outside the code.
+    pub fn line(&self, offset: u32) -> u32 {
+        if offset as usize >= self.code.len() {
+            return 0;
+        }
+        let covering = self.source.chunks_exact(8).rfind(|pair| word(pair, 0) <= offset);
+        covering.map_or(0, |pair| word(pair, 4))
+    }
+}
+
+/// 0 for a sound record, or its refusal.
+pub fn number(bytes: &[u8]) -> u32 {
+    Record::read(bytes).err().unwrap_or(0)
+}
+
+/// Empty, or the first word reads "nn/x": a digit or space, a digit, "/", a hyphen or capital.
+fn version_sound(table: &[u8]) -> bool {
+    match table {
+        [] => true,
+        [tens, units, b'/', issue, ..] => {
+            (tens.is_ascii_digit() || *tens == b' ')
+                && units.is_ascii_digit()
+                && (*issue == b'-' || issue.is_ascii_uppercase())
+        }
+        _ => false,
+    }
+}
+
+/// Whole pairs whose offsets rise strictly and lie below the code size.
+fn source_sound(table: &[u8], code_size: usize) -> bool {
+    let pairs = table.chunks_exact(8);
+    let whole = pairs.remainder().is_empty();
+    let mut offsets = pairs.map(|pair| word(pair, 0));
+    whole
+        && offsets.clone().is_sorted_by(|one, next| one < next)
+        && offsets.all(|offset| (offset as usize) < code_size)
+}
+
+/// Number of procedures, if the entry table is sound.
+fn count_procedures(code: &[u8]) -> Option<u32> {
+    let entry = |n: u32| halfword(code, 2 * n as usize);
+    let inside = |offset: u32| (offset as usize) < code.len();
+    if code.len() < 2 {
+        return None;
+    }
+    if entry(0) == 2 {
+        return inside(2).then_some(1);
+    }
+    if code.len() < 4 {
+        return None;
+    }
+    let first = entry(1);
+    if first % 2 != 0 || !(4..=512).contains(&first) || !inside(first) {
+        return None;
+    }
+    let count = first / 2;
+    let mut order = (1..count).chain([0]).map(entry);
+    let rising = order.clone().is_sorted_by(|one, next| one < next);
+    (rising && order.all(inside)).then_some(count)
+}

@@ -1,0 +1,143 @@
+//! The stored vectors: call cases and pages, held to an implementation.
+
+use crate::cases::Case;
+use crate::interface::Interface;
+use crate::report::{RunFile, LARGEST_RUN_FILE};
+use std::collections::BTreeMap;
+use std::fs;
+use std::path::{Path, PathBuf};
+use std::process::ExitCode;
+
+/// Stands for the answer of a call whose feature is off.
+pub const UNSUPPORTED: &str = "unsupported";
+/// Differences that are printed in full.
+const SHOWN: usize = 5;
+/// Longer than any page.
+const PAGE_BYTES: usize = 4 * LARGEST_RUN_FILE;
+
+#[derive(Default)]
+struct Counts {
+    passed: usize,
+    different: usize,
+    unsupported: usize,
+}
+
+/// Counts by verb, and the differences.
+#[derive(Default)]
+struct Findings {
+    counts: BTreeMap<&'static str, Counts>,
+    differences: usize,
+}
+
+impl Findings {
+    fn note(&mut self, verb: &'static str, name: &str, expected: &str, found: &str) {
+        let counts = self.counts.entry(verb).or_default();
+        if found == expected {
+            counts.passed += 1;
+        } else if found == UNSUPPORTED {
+            counts.unsupported += 1;
+        } else {
+            counts.different += 1;
+            self.differences += 1;
+            if self.differences <= SHOWN {
+                println!("{verb} {name}\n  expected {expected:.400}\n  found    {found:.400}");
+            }
+        }
+    }
+}
+
+/// The program: runs the vectors of the folder that the argument names.
+pub fn main(library: &Interface) -> ExitCode {
+    let Some(folder) = std::env::args_os().nth(1) else {
+        eprintln!("argument: the folder of the vectors");
+        return ExitCode::FAILURE;
+    };
+    match run(Path::new(&folder), library) {
+        Ok(true) => ExitCode::SUCCESS,
+        Ok(false) => ExitCode::FAILURE,
+        Err(error) => {
+            eprintln!("{error}");
+            ExitCode::FAILURE
+        }
+    }
+}
+
+/// Runs all vectors of a folder, prints a line of counts for each verb, and says whether
+/// everything that is supported agreed.
+fn run(folder: &Path, library: &Interface) -> Result<bool, String> {
+    let mut findings = Findings::default();
+    run_calls(folder, library, &mut findings)?;
+    run_pages(folder, library, &mut findings)?;
+    for (verb, counts) in &findings.counts {
+        let Counts { passed, different, unsupported } = counts;
+        println!("{verb}: {passed} passed, {different} different, {unsupported} unsupported");
+    }
+    Ok(findings.differences == 0)
+}
+
+fn run_calls(folder: &Path, library: &Interface, findings: &mut Findings) -> Result<(), String> {
+    let cases = read_text(&folder.join("calls.cases"))?;
+    let answers = read_text(&folder.join("calls.answers"))?;
+    if cases.lines().count() != answers.lines().count() {
+        return Err("calls.cases and calls.answers differ in length".to_string());
+    }
+    for (index, (case, expected)) in cases.lines().zip(answers.lines()).enumerate() {
+        let name = format!("line {}", index + 1);
+        let case: Case = case.parse().map_err(|error| format!("{name}: {error}"))?;
+        findings.note(case.verb(), &name, expected, &answer_text(&case, library));
+        note_record(case.record(), expected, &name, library, findings);
+    }
+    Ok(())
+}
+
+fn run_pages(folder: &Path, library: &Interface, findings: &mut Findings) -> Result<(), String> {
+    let mut paths: Vec<PathBuf> = fs::read_dir(folder.join("pages"))
+        .map_err(|error| format!("pages: {error}"))?
+        .filter_map(|entry| Some(entry.ok()?.path()))
+        .filter(|path| path.extension().is_some_and(|extension| extension == "run"))
+        .collect();
+    paths.sort();
+    for path in paths {
+        let name = path.display().to_string();
+        let file = fs::read(&path).map_err(|error| format!("{name}: {error}"))?;
+        let expected = read_text(&path.with_extension("out"))?;
+        let found = library.report.map_or(UNSUPPORTED.to_string(), |report| {
+            let mut out = vec![0; PAGE_BYTES];
+            let written = report(&file, &mut out);
+            String::from_utf8_lossy(&out[..written]).into_owned()
+        });
+        findings.note("page", &name, &expected, &found);
+        if let Some(file) = RunFile::read(&file) {
+            note_record(file.record, &expected, &name, library, findings);
+        }
+    }
+    Ok(())
+}
+
+/// What an answer tells about the record alone: its number where that is 1 to 7, else soundness.
+fn note_record(
+    record: &[u8],
+    answer: &str,
+    name: &str,
+    library: &Interface,
+    findings: &mut Findings,
+) {
+    let words: Vec<&str> = answer.split_whitespace().collect();
+    let number = match words[..] {
+        ["run" | "line", "refused", number, ..] | ["check" | "load", number, ..] => number,
+        _ => "0",
+    };
+    let expected = if ["1", "2", "3", "4", "5", "6", "7"].contains(&number) { number } else { "0" };
+    let found =
+        library.record.map_or(UNSUPPORTED.to_string(), |calls| (calls.number)(record).to_string());
+    findings.note("record", name, expected, &found);
+}
+
+/// The answer line of an implementation.
+pub fn answer_text(case: &Case, library: &Interface) -> String {
+    case.answer(library).map_or(UNSUPPORTED.to_string(), |answer| answer.to_string())
+}
+
+fn read_text(path: &Path) -> Result<String, String> {
+    fs::read_to_string(path).map_err(|error| format!("{}: {error}", path.display()))
+}

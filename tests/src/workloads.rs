@@ -1,0 +1,206 @@
+//! Programs for timing: endless loops for the machine, full-size code for the check.
+
+use crate::generate::assembler::{Assembler, Branch};
+use crate::generate::record::{set_entry, Parts};
+
+pub struct Workload {
+    pub name: &'static str,
+    pub record: Vec<u8>,
+    pub results: Vec<u8>,
+}
+
+/// A record of procedures 1, 2, .. and then 0, given as code and number of results.
+fn workload(name: &'static str, procedures: Vec<(Vec<u8>, u8)>) -> Workload {
+    let count = procedures.len();
+    let mut code = vec![0; 2 * count];
+    let mut results = vec![0; count];
+    for (index, (body, result_words)) in procedures.into_iter().enumerate() {
+        let procedure = (index + 1) % count;
+        let entry = code.len();
+        set_entry(&mut code, procedure, entry);
+        results[procedure] = result_words;
+        code.extend(body);
+    }
+    let constants = vec![7, 11, 13, 17];
+    let parts = Parts { code, globals: 16, constants, ..Parts::default() };
+    Workload { name, record: parts.assemble(), results }
+}
+
+/// The instructions, over and over.
+fn repeated(write: impl FnOnce(&mut Assembler)) -> Vec<u8> {
+    let mut code = Assembler::default();
+    let top = code.label();
+    code.mark(top);
+    write(&mut code);
+    code.branch(Branch::Jump, top, false);
+    assembled(code)
+}
+
+fn assembled(code: Assembler) -> Vec<u8> {
+    code.assemble().expect("workloads fit their distances")
+}
+
+/// Endless loops.
+pub fn for_run() -> Vec<Workload> {
+    vec![
+        arithmetic(),
+        calls(),
+        stores(),
+        outer_stores(),
+        switches(),
+        two_words(),
+        for_loops(),
+    ]
+}
+
+/// g0 := (g0 * 3 + 7) mod 997; g1 := g0 < 500
+fn arithmetic() -> Workload {
+    let body = repeated(|code| {
+        code.bytes(&[0x20, 0x03, 0xa2, 0x07, 0xa0, 0x83, 0x03, 0xe5, 0xa5, 0x50]);
+        code.bytes(&[0x20, 0x83, 0x01, 0xf4, 0xc0, 0x51]);
+    });
+    workload("arithmetic", vec![(body, 0)])
+}
+
+/// g0 := f(5), where f has a parameter, a local word and a result
+fn calls() -> Workload {
+    let function = vec![0xe8, 1, 1, 0x10, 0x01, 0xa0, 0x41, 0x11, 0xe9];
+    let body = repeated(|code| code.bytes(&[0x05, 0x71, 0x50]));
+    workload("calls", vec![(function, 1), (body, 0)])
+}
+
+/// Through addresses of globals and of the running procedure's own words.
+fn stores() -> Workload {
+    let body = [0xe8, 0, 4].into_iter().chain(repeated(|code| {
+        code.bytes(&[0x8e, 0, 0x05, 0x61, 0x8e, 1, 0x30, 0x50]);
+        code.bytes(&[0x8d, 2, 0x06, 0x60, 0x8d, 0, 0x32, 0x41]);
+    }));
+    workload("stores", vec![(body.collect(), 0)])
+}
+
+/// Three calls deep, into a word of the outermost procedure: walks the links.
+fn outer_stores() -> Workload {
+    let inner = [0xe8, 1, 0].into_iter().chain(repeated(|code| {
+        code.bytes(&[0x10, 0x05, 0x60, 0x10, 0x06, 0x60]);
+    }));
+    let middle = vec![0xe8, 1, 1, 0x10, 0x71, 0xe9];
+    let outer = vec![0xe8, 1, 1, 0x10, 0x72, 0xe9];
+    let main = vec![0xe8, 0, 4, 0x8d, 2, 0x73, 0xe9];
+    workload("outer stores", vec![(inner.collect(), 0), (middle, 0), (outer, 0), (main, 0)])
+}
+
+/// g0 := (g0 + 1) mod 4 and a switch over it
+fn switches() -> Workload {
+    let body = repeated(|code| {
+        code.bytes(&[0x20, 0x01, 0xa0, 0x04, 0xa5, 0x50, 0x20]);
+        let (exit, otherwise) = (code.label(), code.label());
+        let branches: Vec<_> = (0..4).map(|_| code.label()).collect();
+        code.switch(exit, otherwise, branches.clone());
+        for branch in branches {
+            code.mark(branch);
+            code.bytes(&[0x01, 0x51, 0xe4]);
+        }
+        code.mark(otherwise);
+        code.bytes(&[0xe4]);
+        code.mark(exit);
+    });
+    workload("switches", vec![(body, 0)])
+}
+
+fn two_words() -> Workload {
+    let body = repeated(|code| {
+        code.bytes(&[0xf5, 0x20, 0xf5, 0x52, 0xf5, 0x80, 1, 0xf5, 0x54]);
+        code.bytes(&[0x8e, 0, 0xf5, 0x30, 0xf5, 0x56]);
+    });
+    workload("two words", vec![(body, 0)])
+}
+
+/// for g0 := 1 to 100 do g1 := g0
+fn for_loops() -> Workload {
+    let body = repeated(|code| {
+        let exit = code.label();
+        code.bytes(&[0x8e, 0, 0x01, 0x82, 100, 0x01]);
+        code.branch(Branch::Iter, exit, false);
+        code.bytes(&[0x20, 0x51, 0xe1]);
+        code.mark(exit);
+    });
+    workload("for loops", vec![(body, 0)])
+}
+
+/// Accepted code, each close to the largest size or to the most slots.
+pub fn for_check() -> Vec<Workload> {
+    vec![straight(), jumps(), many_procedures(), nested_loops(), long_switch()]
+}
+
+fn straight() -> Workload {
+    let mut body: Vec<u8> = [0x01, 0x02, 0xa0, 0x50].repeat(1022);
+    body.push(0xe9);
+    workload("straight", vec![(body, 0)])
+}
+
+/// Forward over one instruction, each join met by two ways.
+fn jumps() -> Workload {
+    let mut code = Assembler::default();
+    for _ in 0..680 {
+        let after = code.label();
+        code.bytes(&[0x01]);
+        code.branch(Branch::JumpC, after, true);
+        code.bytes(&[0x9e, 0]);
+        code.mark(after);
+    }
+    code.bytes(&[0xe9]);
+    workload("jumps", vec![(assembled(code), 0)])
+}
+
+/// Each calls the next.
+fn many_procedures() -> Workload {
+    let procedures = (1..=255u8).map(|procedure| {
+        let callee = procedure % 255 + 1;
+        (vec![0xe8, 1, 1, 0x10, 0x11, 0xa0, 0x41, 0x10, 0xe5, callee, 0x11, 0xe9], 1)
+    });
+    let main = (vec![0x01, 0x71, 0x50, 0xe9], 0);
+    let mut procedures: Vec<(Vec<u8>, u8)> = procedures.collect();
+    for (body, _) in &mut procedures {
+        // The callee's result goes to a local word.
+        body.splice(10..11, [0x41, 0x11]);
+    }
+    procedures.push(main);
+    workload("many procedures", procedures)
+}
+
+/// Fifty loops inside each other: 250 slots with fifty labels.
+fn nested_loops() -> Workload {
+    let mut code = Assembler::default();
+    let mut exits = Vec::new();
+    for _ in 0..50 {
+        let exit = code.label();
+        code.bytes(&[0x8e, 0, 0x01, 0x02, 0x01]);
+        code.branch(Branch::Iter, exit, false);
+        exits.push(exit);
+    }
+    code.bytes(&[0x01, 0x02, 0xa0, 0x50].repeat(800));
+    for exit in exits.into_iter().rev() {
+        code.bytes(&[0xe1]);
+        code.mark(exit);
+    }
+    code.bytes(&[0xe9]);
+    workload("nested loops", vec![(assembled(code), 0)])
+}
+
+/// One switch with a branch of its own for each of 1,350 selectors.
+fn long_switch() -> Workload {
+    let mut code = Assembler::default();
+    let (exit, otherwise) = (code.label(), code.label());
+    let branches: Vec<_> = (0..1_350).map(|_| code.label()).collect();
+    code.bytes(&[0x20]);
+    code.switch(exit, otherwise, branches.clone());
+    for branch in branches {
+        code.mark(branch);
+        code.bytes(&[0xe4]);
+    }
+    code.mark(otherwise);
+    code.bytes(&[0xe4]);
+    code.mark(exit);
+    code.bytes(&[0xe9]);
+    workload("long switch", vec![(assembled(code), 0)])
+}
