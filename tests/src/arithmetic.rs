@@ -61,5 +61,9 @@ fn signed(result: Option<i32>) -> Result<u32, Stop> {
 /// Ada's mod: the result has the divisor's sign.
 fn modulus(i: i32, j: i32) -> i32 {
     let rest = i.wrapping_rem(j);
-    if rest != 0 && (rest < 0) != (j < 0) { rest + j } else { rest }
+    if rest != 0 && (rest < 0) != (j < 0) {
+        rest + j
+    } else {
+        rest
+    }
 }

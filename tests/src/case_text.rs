@@ -12,9 +12,7 @@ impl FromStr for Case {
         let verb = tokens.next()?;
         let record = tokens.bytes()?;
         let case = match verb {
-            "check" => {
-                Case::Check { record, results: tokens.bytes()?, workspace: tokens.words()? }
-            }
+            "check" => Case::Check { record, results: tokens.bytes()?, workspace: tokens.words()? },
             "load" => Case::Load {
                 record,
                 parameters: tokens.words()?,
@@ -152,4 +150,25 @@ impl<'a> Tokens<'a> {
 
 fn parse<T: FromStr>(token: &str) -> Result<T, String> {
     token.parse().map_err(|_| format!("{token} is no number here"))
+}
+
+#[cfg(test)]
+mod tests {
+    use crate::cases::Case;
+
+    #[test]
+    fn cases_read_as_they_are_written() {
+        let lines = [
+            "check 000000 - 5 2*0 1 2*65535",
+            "load - 0 3 3*7 2 1 2",
+            "run 0f 4294967295 2 3 4 5 6 7 0 1 9",
+            "line ff 12",
+        ];
+        for line in lines {
+            assert_eq!(line.parse::<Case>().map(|case| case.to_string()).as_deref(), Ok(line));
+        }
+        for line in ["", "check", "load - 0 3 4*7 0", "line ff 12 13", "line f 1", "run"] {
+            assert!(line.parse::<Case>().is_err(), "{line}");
+        }
+    }
 }

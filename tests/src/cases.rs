@@ -25,10 +25,19 @@ pub struct Words {
 
 #[derive(Clone, Debug, PartialEq, Eq)]
 pub enum Answer {
-    Check { number: u32, workspace: Vec<u16> },
-    Load { number: u32, machine: Words },
+    Check {
+        number: u32,
+        workspace: Vec<u16>,
+    },
+    Load {
+        number: u32,
+        machine: Words,
+    },
     /// The outcome (end, at, steps), or the refusal.
-    Run { ended: Result<Outcome, u32>, machine: Words },
+    Run {
+        ended: Result<Outcome, u32>,
+        machine: Words,
+    },
     /// The line, or the refusal.
     Line(Result<u32, u32>),
 }

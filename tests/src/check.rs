@@ -12,7 +12,7 @@ use layout::{Layout, Placed};
 pub use stack_map::{Slot, StackMaps};
 
 /// Halfwords of workspace for each code byte.
-pub const SHARE: usize = 4;
+pub const STRIDE: usize = 4;
 
 /// 0, or the lowest number of 1 to 15. Numbers up to 9 leave the workspace as it was.
 pub fn check(record: &[u8], results: &[u8], workspace: &mut [u16]) -> u32 {
@@ -20,7 +20,7 @@ pub fn check(record: &[u8], results: &[u8], workspace: &mut [u16]) -> u32 {
         Ok(record) => record,
         Err(number) => return number,
     };
-    let size = SHARE * record.code.len();
+    let size = STRIDE * record.code.len();
     if workspace.len() < size {
         return 8;
     }
@@ -68,7 +68,7 @@ fn successors_start(layout: &Layout, placed: &Placed) -> bool {
         Instruction::Switch(table) => Some(table.exit(layout.code) as usize),
         _ => None,
     };
-    placed.successors(layout.code).into_iter().all(is_start) && label.map_or(true, is_start)
+    placed.successors(layout.code).into_iter().all(is_start) && label.is_none_or(is_start)
 }
 
 /// ENTER begins procedures 1 and up, may begin procedure 0 without parameters, and stands
@@ -92,10 +92,10 @@ fn callee_exists(record: &Record, placed: &Placed) -> bool {
 
 /// For each code byte: height plus 1, 1 plus the topmost label's origin, 0, 0.
 fn write(maps: &StackMaps, workspace: &mut [u16]) {
-    for (place, share) in workspace.chunks_exact_mut(SHARE).enumerate() {
+    for (place, entry) in workspace.chunks_exact_mut(STRIDE).enumerate() {
         if let Some(slots) = maps.at(place) {
-            share[0] = slots.len() as u16 + 1;
-            share[1] = topmost_label(slots).map_or(0, |origin| origin + 1);
+            entry[0] = slots.len() as u16 + 1;
+            entry[1] = topmost_label(slots).map_or(0, |origin| origin + 1);
         }
     }
 }

@@ -7,7 +7,7 @@ use crate::interface::Interface;
 /// The functions that the enabled features say the archive has.
 pub const PROVED: Interface = Interface {
     #[cfg(feature = "record")]
-    record: Some(crate::interface::RecordCalls { number: record_number, line }),
+    record: Some(crate::interface::RecordCalls { number: record_number, line, decode }),
     #[cfg(not(feature = "record"))]
     record: None,
     #[cfg(feature = "machine")]
@@ -34,6 +34,15 @@ mod archive {
         pub fn icode_record_number(record: *const u8, record_len: usize) -> u32;
         #[cfg(feature = "record")]
         pub fn icode_line(record: *const u8, record_len: usize, offset: u32) -> u64;
+        #[cfg(feature = "record")]
+        pub fn icode_bench_decode(
+            code: *const u8,
+            code_len: usize,
+            limit: usize,
+            at: usize,
+            out: *mut u32,
+            out_len: usize,
+        ) -> u32;
         #[cfg(feature = "check")]
         pub fn icode_check(
             record: *const u8,
@@ -93,6 +102,20 @@ fn line(record: &[u8], offset: u32) -> u64 {
     unsafe { archive::icode_line(record.as_ptr(), record.len(), offset) }
 }
 
+#[cfg(feature = "record")]
+fn decode(code: &[u8], limit: usize, at: usize, out: &mut [u32]) -> u32 {
+    unsafe {
+        archive::icode_bench_decode(
+            code.as_ptr(),
+            code.len(),
+            limit,
+            at,
+            out.as_mut_ptr(),
+            out.len(),
+        )
+    }
+}
+
 #[cfg(feature = "check")]
 fn check(record: &[u8], results: &[u8], workspace: &mut [u16]) -> u32 {
     unsafe {
@@ -109,9 +132,7 @@ fn check(record: &[u8], results: &[u8], workspace: &mut [u16]) -> u32 {
 
 #[cfg(feature = "report")]
 fn report(run_file: &[u8], out: &mut [u8]) -> usize {
-    unsafe {
-        archive::icode_report(run_file.as_ptr(), run_file.len(), out.as_mut_ptr(), out.len())
-    }
+    unsafe { archive::icode_report(run_file.as_ptr(), run_file.len(), out.as_mut_ptr(), out.len()) }
 }
 
 #[cfg(feature = "machine")]

@@ -2,6 +2,7 @@
 
 use crate::cases::{Answer, Case};
 use crate::interface::{Interface, REFERENCE};
+use crate::listing::listing;
 use crate::random::Random;
 use std::collections::BTreeMap;
 use std::ops::RangeInclusive;
@@ -93,6 +94,15 @@ pub fn main(
     expected: &[Expected],
     mut case: impl FnMut(&mut Random, &mut Tally) -> Result<(), String>,
 ) -> ExitCode {
+    main_by_index(default_count, expected, |_, random, tally| case(random, tally))
+}
+
+/// The same for cases that depend on their index, too.
+pub fn main_by_index(
+    default_count: u64,
+    expected: &[Expected],
+    mut case: impl FnMut(u64, &mut Random, &mut Tally) -> Result<(), String>,
+) -> ExitCode {
     let arguments = match Arguments::read(default_count) {
         Ok(arguments) => arguments,
         Err(error) => {
@@ -104,7 +114,7 @@ pub fn main(
     let start = Instant::now();
     let mut tally = Tally::default();
     for index in first..first + count {
-        if let Err(difference) = case(&mut Random::of_case(seed, index), &mut tally) {
+        if let Err(difference) = case(index, &mut Random::of_case(seed, index), &mut tally) {
             println!("different (--seed {seed} --first {index} --count 1):\n{difference}");
             return ExitCode::FAILURE;
         }
@@ -118,7 +128,11 @@ pub fn main(
     }
     let seconds = start.elapsed().as_secs_f64();
     println!("{count} cases, seed {seed}, no difference, {} too rare, {seconds:.1} s", rare.len());
-    if rare.is_empty() { ExitCode::SUCCESS } else { ExitCode::FAILURE }
+    if rare.is_empty() {
+        ExitCode::SUCCESS
+    } else {
+        ExitCode::FAILURE
+    }
 }
 
 fn rare(tally: &Tally, expected: &[Expected]) -> Vec<String> {
@@ -141,7 +155,8 @@ pub fn agree(case: &Case, library: &Interface) -> Result<Answer, String> {
     match (found, expected) {
         (Some(found), Some(expected)) if found == expected => Ok(found),
         (Some(found), Some(expected)) => {
-            Err(format!("case      {case}\nproved    {found}\nreference {expected}"))
+            let code = listing(case.record());
+            Err(format!("case      {case}\nproved    {found}\nreference {expected}\n{code}"))
         }
         _ => Err(format!("{} is not supported", case.verb())),
     }

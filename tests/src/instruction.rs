@@ -72,13 +72,18 @@ pub enum Instruction {
     JumpC(i32),
     JumpT(i32),
     JumpF(i32),
-    Iter { exit: i32 },
+    Iter {
+        exit: i32,
+    },
     Next,
     /// SWITCH and SWITCH_X
     Switch(SwitchTable),
     Leave,
     Call(u32),
-    Enter { parameters: u32, locals: u32 },
+    Enter {
+        parameters: u32,
+        locals: u32,
+    },
     Rtn,
 }
 
@@ -126,8 +131,8 @@ pub fn visit<V: Visitor>(
     place: usize,
     visitor: V,
 ) -> Result<V::Output, V::Error> {
-    use Operator::*;
     use Instruction::*;
+    use Operator::*;
     let code = &code[..limit];
     let opcode = byte(code, place)?;
     let after = place + 1;

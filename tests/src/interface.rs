@@ -1,7 +1,9 @@
 //! The C interface as safe Rust functions, so that the reference and the proved library can be
 //! called alike.
 
+use crate::instruction::{self, Fault};
 use crate::machine::{self, Registers};
+use crate::parts::{parts, PARTS};
 use crate::record::Record;
 use crate::{check, record, report};
 
@@ -12,6 +14,7 @@ pub const OUTCOME_WORDS: usize = 3;
 pub type RecordNumber = fn(record: &[u8]) -> u32;
 /// number * 2^32 + line
 pub type Line = fn(record: &[u8], offset: u32) -> u64;
+pub type Decode = fn(code: &[u8], limit: usize, at: usize, out: &mut [u32]) -> u32;
 pub type Check = fn(record: &[u8], results: &[u8], workspace: &mut [u16]) -> u32;
 pub type Report = fn(run_file: &[u8], out: &mut [u8]) -> usize;
 pub type Load = fn(
@@ -34,6 +37,7 @@ pub type Run = fn(
 pub struct RecordCalls {
     pub number: RecordNumber,
     pub line: Line,
+    pub decode: Decode,
 }
 
 #[derive(Clone, Copy)]
@@ -53,7 +57,7 @@ pub struct Interface {
 
 /// The reference.
 pub const REFERENCE: Interface = Interface {
-    record: Some(RecordCalls { number: record::number, line }),
+    record: Some(RecordCalls { number: record::number, line, decode }),
     machine: Some(MachineCalls { load, run }),
     check: Some(check::check),
     report: Some(report::report),
@@ -63,6 +67,30 @@ fn line(record: &[u8], offset: u32) -> u64 {
     match Record::read(record) {
         Ok(record) => u64::from(record.line(offset)),
         Err(number) => u64::from(number) << 32,
+    }
+}
+
+/// Length of a SWITCH_X with 65,535 ranges.
+const LONGEST_INSTRUCTION: usize = 7 + 10 * 0xffff;
+
+fn decode(code: &[u8], limit: usize, at: usize, out: &mut [u32]) -> u32 {
+    let Ok(out) = <&mut [u32; PARTS]>::try_from(out) else { return 8 };
+    let (decoded, place) = if limit <= code.len() {
+        (instruction::decode(code, limit, at), at)
+    } else {
+        // Bytes past the code count as 0: the instruction alone, with zeros behind it.
+        let mut alone = vec![0; limit.saturating_sub(at).min(LONGEST_INSTRUCTION)];
+        let present = code.get(at..).unwrap_or(&[]);
+        alone.iter_mut().zip(present).for_each(|(to, from)| *to = *from);
+        (instruction::decode(&alone, alone.len(), 0), 0)
+    };
+    match decoded {
+        Ok((instruction, next)) => {
+            *out = parts(instruction, place, next);
+            0
+        }
+        Err(Fault::Unserved) => 10,
+        Err(Fault::Past) => 11,
     }
 }
 

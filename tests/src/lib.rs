@@ -7,6 +7,8 @@ pub mod record;
 pub mod switch_table;
 pub mod instruction;
 pub mod mnemonic;
+pub mod parts;
+pub mod listing;
 pub mod arithmetic;
 pub mod machine;
 pub mod check;
@@ -21,6 +23,7 @@ pub mod selftest;
 // The comparison.
 pub mod cases;
 pub mod case_text;
+pub mod worked_cases;
 pub mod vectors;
 pub mod random;
 pub mod generate;

@@ -2,13 +2,16 @@
 //!
 //! Also the benchmark's yardstick: a direct interpreter with bounds-checked accesses.
 
+mod control;
+mod memory;
 mod step;
+mod stop;
 
 use crate::bytes;
 use crate::record::{Record, GLOBALS_AT};
 use step::Machine;
 
-pub use step::Stop;
+pub use stop::Stop;
 
 pub const LARGEST_MEMORY: usize = 16_384;
 pub const LARGEST_STACK: usize = 1_024;

@@ -1,7 +1,7 @@
 //! The run file and the page that is printed for it (01, "The page printer and the console").
 
 use crate::bytes::{halfword, word, words};
-use crate::check::{check, SHARE};
+use crate::check::{check, STRIDE};
 use crate::machine::{load, run};
 use crate::record::{Record, GLOBALS_AT, LARGEST};
 
@@ -58,7 +58,7 @@ pub fn text(file: &[u8]) -> String {
 }
 
 fn run_file(file: &RunFile) -> Result<String, u32> {
-    let mut workspace = vec![0; SHARE * LARGEST[1] as usize];
+    let mut workspace = vec![0; STRIDE * LARGEST[1] as usize];
     match check(file.record, file.results, &mut workspace) {
         0 => {}
         number => return Err(number),

@@ -17,6 +17,17 @@ pub unsafe fn icode_line(record: *const u8, record_len: usize, offset: u32) -> u
     (RECORD.line)(from_raw_parts(record, record_len), offset)
 }
 
+pub unsafe fn icode_bench_decode(
+    code: *const u8,
+    code_len: usize,
+    limit: usize,
+    at: usize,
+    out: *mut u32,
+    out_len: usize,
+) -> u32 {
+    (RECORD.decode)(from_raw_parts(code, code_len), limit, at, from_raw_parts_mut(out, out_len))
+}
+
 pub unsafe fn icode_check(
     record: *const u8,
     record_len: usize,

@@ -17,7 +17,11 @@ impl SwitchTable {
     #[inline(always)]
     pub fn length(self) -> usize {
         let entries = self.entries as usize;
-        if self.ranges { 7 + 10 * entries } else { 9 + 2 * entries }
+        if self.ranges {
+            7 + 10 * entries
+        } else {
+            9 + 2 * entries
+        }
     }
 
     fn target(self, code: &[u8], at: usize) -> u32 {
@@ -44,7 +48,11 @@ impl SwitchTable {
             return self.target(code, table + 2 * index as usize);
         }
         let at = table + 10 * index as usize + 8;
-        if halfword(code, at) == 0 { self.otherwise(code) } else { self.target(code, at) }
+        if halfword(code, at) == 0 {
+            self.otherwise(code)
+        } else {
+            self.target(code, at)
+        }
     }
 
     /// Where the switch goes for a selector.

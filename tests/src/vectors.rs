@@ -1,8 +1,10 @@
-//! The stored vectors: call cases and pages, held to an implementation.
+//! The papers' worked cases and the stored vectors (call cases and pages), held to an
+//! implementation.
 
 use crate::cases::Case;
 use crate::interface::Interface;
 use crate::report::{RunFile, LARGEST_RUN_FILE};
+use crate::worked_cases;
 use std::collections::BTreeMap;
 use std::fs;
 use std::path::{Path, PathBuf};
@@ -10,6 +12,7 @@ use std::process::ExitCode;
 
 /// Stands for the answer of a call whose feature is off.
 pub const UNSUPPORTED: &str = "unsupported";
+const AGREES: &str = "as in the papers";
 /// Differences that are printed in full.
 const SHOWN: usize = 5;
 /// Longer than any page.
@@ -66,6 +69,13 @@ pub fn main(library: &Interface) -> ExitCode {
 /// everything that is supported agreed.
 fn run(folder: &Path, library: &Interface) -> Result<bool, String> {
     let mut findings = Findings::default();
+    for (name, finding) in worked_cases::run(library) {
+        let found = finding.map_or(UNSUPPORTED.to_string(), |finding| match finding {
+            Ok(()) => AGREES.to_string(),
+            Err(difference) => difference,
+        });
+        findings.note("worked", name, AGREES, &found);
+    }
     run_calls(folder, library, &mut findings)?;
     run_pages(folder, library, &mut findings)?;
     for (verb, counts) in &findings.counts {

@@ -42,15 +42,7 @@ fn assembled(code: Assembler) -> Vec<u8> {
 
 /// Endless loops.
 pub fn for_run() -> Vec<Workload> {
-    vec![
-        arithmetic(),
-        calls(),
-        stores(),
-        outer_stores(),
-        switches(),
-        two_words(),
-        for_loops(),
-    ]
+    vec![arithmetic(), calls(), stores(), outer_stores(), switches(), two_words(), for_loops()]
 }
 
 /// g0 := (g0 * 3 + 7) mod 997; g1 := g0 < 500

@@ -1,9 +1,37 @@
--- Answers as one number, for C.
-use Prim.Native.Nat.{ℕ, _*_}
+-- Answers as numbers, for C.
+use mathlib.Core.Bool.{cond}
+use mathlib.Core.List.{List, [], _∷_}
+use Prim.Native.Nat.{ℕ, _*_, _-_}
+use lib.Dec.{eqb}
+use lib.ListN.{length}
 use Rattle.record.specs.declared.Line.{Line}
-use Rattle.record.specs.declared.Line.the-variants.{Refused, At}
+use Rattle.record.specs.declared.Line.the-variants.{Refused}
+use Rattle.record.specs.declared.Line.the-variants as line
+use Rattle.opcode.specs.declared.Decoded.{Decoded}
+use Rattle.opcode.specs.declared.Decoded.the-variants.{Unserved, Past, At}
+use Rattle.mnemonic.specs.Mnemonic.{mnemonicNumber, modeNumber, operandOf, secondOf}
 
 -- The number that refuses the record in the upper 32 bits; or 0 there, and the line in the lower ones.
 abbrev pub lineCode : Line → ℕ
 lineCode (Refused n) = n * 0x1_0000_0000
-lineCode (At line) = line
+lineCode (line.At n) = n
+
+-- What decoding answers, and what it leaves in `out`.
+pub record Decoding : Type 0 where
+  pub answer : ℕ
+  pub out : List ℕ
+
+abbrev pub decoding : ℕ → List ℕ → Decoding
+decoding a out = record { answer = a; out = out }
+
+-- 10 for an unserved instruction, 11 for one that runs past the limit; or 0, and the number of its mnemonic, its mode, its operands,
+-- and its length in bytes, a prefix counted in.
+abbrev pub decodeAnswer : Decoded → ℕ → List ℕ → Decoding
+decodeAnswer Unserved at out = decoding 10 out
+decodeAnswer Past at out = decoding 11 out
+decodeAnswer (At i next) at out =
+    decoding 0 (mnemonicNumber i ∷ modeNumber i ∷ operandOf i ∷ secondOf i ∷ (next - at) ∷ [])
+
+-- First 8, where `out` has not five words.
+unfoldable pub decodeReply : Decoded → ℕ → List ℕ → Decoding
+decodeReply d at out = cond (eqb (length out) 5) (decodeAnswer d at out) (decoding 8 out)

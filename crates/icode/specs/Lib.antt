@@ -1,2 +1,3 @@
 -- How an answer passes through the C interface.
 pub mod Interface
+pub mod Bench

@@ -1,7 +1,12 @@
 // The C interface, as include/icode.h declares it.
 ghost use mathlib.Core.Path.{_≡_};
 ghost use Rattle.record.specs.Number.{recordNumber, lineOf};
-ghost use Rattle.icode.specs.Interface.{lineCode};
+ghost use Rattle.opcode.specs.Decode.{decodeAt};
+ghost use Rattle.icode.specs.Interface.{lineCode, decoding, decodeReply};
+
+pub mod bench;
+
+use opcode::Decoded;
 use record::Line;
 
 #[no_mangle]
@@ -19,5 +24,28 @@ pub extern "C" fn icode_line(bytes: &[u8], offset: u32) -> u64
     match answer {
         Line::Refused(number) => (number as u64) * 0x1_0000_0000,
         Line::At(line) => line as u64,
+    }
+}
+
+// For the tests: the instruction at a place of the code, within a limit.
+#[no_mangle]
+pub extern "C" fn icode_bench_decode(code: &[u8], limit: usize, at: usize, out: &mut [u32]) -> u32
+    ensures { λ n. ⌜ decoding n (now (out .exit)) ≡ decodeReply (decodeAt (now (code .entry)) limit at) at (now (out .entry)) ⌝ }
+{
+    if out.len() != 5 {
+        return 8;
+    }
+    let decoded = opcode::decode(code, limit, at);
+    match decoded {
+        Decoded::Unserved => 10,
+        Decoded::Past => 11,
+        Decoded::At(i, next) => {
+            out[0] = mnemonic::number_of(i);
+            out[1] = mnemonic::mode_of(i);
+            out[2] = mnemonic::operand_of(i);
+            out[3] = mnemonic::second_of(i);
+            out[4] = (next - at) as u32;
+            0
+        }
     }
 }

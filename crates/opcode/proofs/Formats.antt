@@ -1,5 +1,5 @@
 -- A row's lengths in one number, read off again.
-use mathlib.Core.Path.{_≡_, refl}
+use mathlib.Core.Path.{_≡_, refl, ap}
 use mathlib.Core.List.{List, [], _∷_}
 use Prim.Native.Nat.{ℕ, zero, suc, _+_, _*_, _/_, _%_, _^_, _<_, _≤_}
 use native.Mathlib.Nat.{le-of-suc-le-suc, mul-le-mul}
@@ -62,6 +62,26 @@ doubled unserved code at s = omega arith
 doubled (row operands normal make) code at s = omega arith
 doubled (row operands both make) code at s = rw (s .1) (omega arith)
 
+summed : (fixed each n : ℕ) → fixed < 16 → each ≤ 10 → fixed + each * n ≤ 15 + 10 * n
+summed fixed each n f e = let p : each * n ≤ 10 * n = mul-le-mul {n₂ = 10} {m₂ = n} e (omega arith) in omega arith
+
+bounded :
+    (r : Row) (m : Mode) (code : List ℕ) (at : ℕ) →
+    Short r → formatOf r < 32 * 11 → lengthOf r m code at ≤ 15 + 10 * halfwordAt code (at + 1)
+bounded unserved m code at s f = omega arith
+bounded (row operands both make) m code at s f = summed (fixedOf operands) (eachOf operands) _ (s .0) (omega arith)
+bounded (row operands normal make) Normal code at s f = summed (fixedOf operands) (eachOf operands) _ s (omega arith)
+bounded (row operands normal make) Double code at s f = omega arith
+
+-- At most ten bytes for each entry, by computing the 256 formats.
+format-below : (code : ℕ) → code < 256 → formatOf (rowOf code) < 32 * 11
+unfolding rowOf
+format-below code h =
+    let f : ℕ → ℕ = λ n. formatOf (rowOf n) in
+    let g : ℕ → ℕ = λ n. f n % (32 * 11) in
+    let e : values f 0 256 ≡ values g 0 256 = refl in
+    omega (arith, value-at f 256 code h, value-at g 256 code h, ap (λ (l : List ℕ). getD l code 0) e)
+
 module _ (code : List ℕ) (at format : ℕ) (e : format ≡ formatOf (rowOf (byteAt code at))) where
   -- Without the mark of DOUBLE there is no length in that mode.
   pub length-none : format / 16 % 2 ≡ 0 → lengthIn Double code at ≡ 0
@@ -76,6 +96,21 @@ module _ (code : List ℕ) (at format : ℕ) (e : format ≡ formatOf (rowOf (by
 pub double-short : (code : List ℕ) (at : ℕ) → lengthIn Double code at < 16
 unfolding lengthIn
 double-short code at = doubled (rowOf (byteAt code at)) code at (row-short (byteAt code at))
+
+halfword-below : (code : List ℕ) → ((k : ℕ) → byteAt code k < 256) → (i : ℕ) → halfwordAt code i < 65536
+unfolding halfwordAt
+halfword-below code bytes i = omega (arith, bytes i, bytes (i + 1))
+
+-- Among bytes, entries of ten bytes and as many as a halfword counts are the most.
+pub length-most : (m : Mode) (code : List ℕ) (at : ℕ) → ((k : ℕ) → byteAt code k < 256) → lengthIn m code at ≤ 15 + 10 * 65535
+unfolding lengthIn
+length-most m code at bytes =
+    let b = byteAt code at in
+    omega (
+      arith,
+      bounded (rowOf b) m code at (row-short b) (format-below b (bytes at)),
+      halfword-below code bytes (at + 1),
+    )
 
 pub length-fits : (format n : ℕ) → format < 2 ^ 16 → n < 2 ^ 32 → format % 16 + format / 32 * n < 2 ^ 64
 length-fits format n f h =

@@ -29,7 +29,7 @@ decodeIn m code limit at =
     cond (eqb (lengthIn m code at) 0) Unserved
     (cond (leb (at + lengthIn m code at) limit) (At (instructionAt m code at) (at + lengthIn m code at)) Past)
 
--- The instruction at a place, within a limit. DOUBLE is F5.
+-- The instruction at a place, within a limit; bytes past the end of the list read as 0. DOUBLE is F5.
 unfoldable pub decodeAt : List ℕ → ℕ → ℕ → Decoded
 decodeAt code limit at =
     cond (ltb at limit)

@@ -40,7 +40,7 @@ pub data Operands : Type 0 where
   -- a halfword n and a table: `table fixed each` is fixed + each * n bytes long
   table : ℕ → ℕ → Operands
 
--- How many bytes an instruction has, its code byte at `at`: a fixed number, and for a table so many more for each of n.
+-- How many bytes an instruction has: a fixed number, and for a table so many more for each of n.
 abbrev pub fixedOf : Operands → ℕ
 fixedOf none = 1
 fixedOf digit = 1

@@ -32,7 +32,7 @@ fn write_size(code: u8, length: usize) {
 }
 
 fn write_mnemonic(code: u8, i: Instruction, length: usize) {
-    let name = names::name_of(i);
+    let name = mnemonic::number_of(i);
     for k in 0..8 {
         let character = [names::character(name, k)];
         if character[0] != b' ' {

@@ -1,10 +1,4 @@
-// The mnemonics, eight characters each.
-ghost use Prim.Native.Nat.{_<_};
-use opcode::instruction::Arithmetic;
-use opcode::instruction::Base;
-use opcode::instruction::Instruction;
-use opcode::instruction::Order;
-use opcode::instruction::SetOperation;
+// The mnemonics in the order of their numbers (crate mnemonic), eight characters each.
 
 const NAMES: [u8; 464] = [
     b'L',
@@ -479,87 +473,4 @@ pub const SIZED: u32 = 18;
 // Character `k` of a mnemonic; a space past its end.
 pub fn character(name: u32, k: u32) -> u8 {
     words::byte_at(&NAMES, (name as usize) * 8 + (k as usize))
-}
-
-fn base_place(base: Base) -> u32
-    ensures { λ n. ⌜ n < 4 ⌝ }
-{
-    match base {
-        Base::Local => 0,
-        Base::Global => 1,
-        Base::Constant => 2,
-        Base::Popped => 3,
-    }
-}
-
-fn arithmetic_place(op: Arithmetic) -> u32
-    ensures { λ n. ⌜ n < 5 ⌝ }
-{
-    match op {
-        Arithmetic::Add => 0,
-        Arithmetic::Subtract => 1,
-        Arithmetic::Multiply => 2,
-        Arithmetic::Divide => 3,
-        Arithmetic::Modulus => 4,
-    }
-}
-
-fn order_place(order: Order) -> u32
-    ensures { λ n. ⌜ n < 4 ⌝ }
-{
-    match order {
-        Order::Less => 0,
-        Order::Greater => 1,
-        Order::LessEqual => 2,
-        Order::GreaterEqual => 3,
-    }
-}
-
-fn set_place(op: SetOperation) -> u32
-    ensures { λ n. ⌜ n < 6 ⌝ }
-{
-    match op {
-        SetOperation::Union => 0,
-        SetOperation::Difference => 1,
-        SetOperation::Intersection => 2,
-        SetOperation::Subset => 3,
-        SetOperation::Superset => 4,
-        SetOperation::Member => 5,
-    }
-}
-
-// The place of an instruction's mnemonic.
-pub fn name_of(i: Instruction) -> u32 {
-    match i {
-        Instruction::LoadConstant(_) => 0,
-        Instruction::Load(base, _, _) => 1 + base_place(base),
-        Instruction::LoadAddress(base, _) => 5 + base_place(base),
-        Instruction::Store(base, _, _) => 9 + base_place(base),
-        Instruction::Pop(_) => 18,
-        Instruction::Swap => 19,
-        Instruction::Nop => 20,
-        Instruction::Signed(op) => 21 + arithmetic_place(op),
-        Instruction::Unsigned(op) => 26 + arithmetic_place(op),
-        Instruction::Negate => 31,
-        Instruction::Equal => 32,
-        Instruction::NotEqual => 33,
-        Instruction::CompareSigned(order) => 34 + order_place(order),
-        Instruction::CompareUnsigned(order) => 38 + order_place(order),
-        Instruction::Set(op) => 42 + set_place(op),
-        Instruction::Not => 48,
-        Instruction::Alloc => 49,
-        Instruction::Free => 50,
-        Instruction::Jump(_) => 13,
-        Instruction::JumpC(_) => 14,
-        Instruction::JumpT(_) => 15,
-        Instruction::JumpF(_) => 16,
-        Instruction::Iter(_) => 51,
-        Instruction::Next => 52,
-        Instruction::Switch(_) => 53,
-        Instruction::SwitchX(_) => 54,
-        Instruction::Leave => 55,
-        Instruction::Call(_) => 17,
-        Instruction::Enter(_, _) => 56,
-        Instruction::Rtn => 57,
-    }
 }

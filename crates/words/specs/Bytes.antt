@@ -1,5 +1,5 @@
--- Numbers in a list of bytes, highest byte first (01: "all numbers highest byte first"; manual 5.2.2: halfword and word are
--- 2-byte and 4-byte values). A read past the end gives 0, so that every read is total.
+-- Numbers in a list of bytes, highest byte first (01: "Seven header words, highest byte first"; the manual's chapter 4: big endian;
+-- 5.2.2: halfword and word are 2-byte and 4-byte values). A read past the end gives 0, so that every read is total.
 use mathlib.Core.List.{List}
 use Prim.Native.Nat.{ℕ, _+_, _*_}
 use lib.ListN.{getD}

@@ -6,7 +6,7 @@
 //! The second form prints nothing but the count: it is for valgrind --tool=callgrind. SIDE is
 //! proved or reference; a workload's name is written with - for its spaces.
 
-use conformance::check::SHARE;
+use conformance::check::STRIDE;
 use conformance::ffi::PROVED;
 use conformance::interface::{Interface, OUTCOME_WORDS, REFERENCE, STATE_WORDS};
 use conformance::record::Record;
@@ -31,7 +31,11 @@ fn main() -> ExitCode {
     if let Err(error) = &result {
         eprintln!("{error}");
     }
-    if result.is_ok() { ExitCode::SUCCESS } else { ExitCode::FAILURE }
+    if result.is_ok() {
+        ExitCode::SUCCESS
+    } else {
+        ExitCode::FAILURE
+    }
 }
 
 fn all() -> Result<(), String> {
@@ -107,7 +111,7 @@ fn run(library: &Interface, workload: &Workload, steps: u32) -> Result<(), Strin
 /// Checks the workload `times` times.
 fn check(library: &Interface, workload: &Workload, times: u32) -> Result<(), String> {
     let check = library.check.ok_or("the feature check is off")?;
-    let size = Record::read(&workload.record).map_or(0, |record| SHARE * record.code.len());
+    let size = Record::read(&workload.record).map_or(0, |record| STRIDE * record.code.len());
     let mut workspace = vec![0; size];
     for _ in 0..times {
         match check(black_box(&workload.record), black_box(&workload.results), &mut workspace) {

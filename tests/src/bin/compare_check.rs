@@ -1,7 +1,7 @@
 //! Compares the check of the proved library with the reference: number and whole workspace.
 
 use conformance::cases::Case;
-use conformance::check::SHARE;
+use conformance::check::STRIDE;
 use conformance::ffi::PROVED;
 use conformance::generate::damage::{damage, reroute};
 use conformance::generate::program::{self, Program};
@@ -27,8 +27,8 @@ fn case(random: &mut Random) -> (Vec<u8>, Vec<u8>) {
     let kind = random.below(20);
     let mut program = any_program(random, kind);
     let damages = match kind {
-        0..=6 => 0,
-        7..=16 => random.pick(&[1, 1, 1, 2, 3]),
+        0..=7 => 0,
+        8..=16 => random.pick(&[1, 1, 1, 2, 3]),
         _ => random.below(2),
     };
     if random.percent(25) {
@@ -51,7 +51,8 @@ fn case(random: &mut Random) -> (Vec<u8>, Vec<u8>) {
 
 fn any_program(random: &mut Random, kind: usize) -> Program {
     let code = match kind {
-        0..=16 => return program::usual(random),
+        0 | 1 => return program::flawed(random),
+        2..=16 => return program::usual(random),
         17 | 18 => instructions::soup(random),
         _ => instructions::byte_soup(random),
     };
@@ -61,7 +62,7 @@ fn any_program(random: &mut Random, kind: usize) -> Program {
 /// Workspace with anything in it, mostly long enough.
 fn workspace(random: &mut Random, record: &[u8]) -> Vec<u16> {
     let code = conformance::record::Record::read(record).map_or(4, |record| record.code.len());
-    let size = SHARE * code;
+    let size = STRIDE * code;
     let length = match random.below(40) {
         0 => size - random.within(1..=4).min(size),
         1 => random.below(size + 1),

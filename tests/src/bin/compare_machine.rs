@@ -5,10 +5,12 @@ use conformance::cases::{Answer, Case, Words};
 use conformance::ffi::PROVED;
 use conformance::generate::damage::damage;
 use conformance::generate::program::{self, Program};
+use conformance::generate::record::Parts;
 use conformance::generate::{instructions, record, state};
 use conformance::harness::{self, agree, Expected, Tally};
+use conformance::instruction::{decode, Instruction};
 use conformance::interface::{MachineCalls, REFERENCE};
-use conformance::random::Random;
+use conformance::random::{Random, EDGES};
 use conformance::record::Record;
 
 const CASES: u64 = 300_000;
@@ -21,8 +23,12 @@ fn main() -> std::process::ExitCode {
         Expected::new("load refused", 1..=8, 100),
         Expected::new("run refused", 1..=7, 100),
         Expected::new("run refused", 24..=24, 100),
-        Expected { kind: "opcode done", numbers: instructions::served(), least: 20 },
+        Expected { kind: "opcode done", numbers: instructions::served(), least: 5 },
     ];
+    if let Err(difference) = arithmetic_edges() {
+        println!("different:\n{difference}");
+        return std::process::ExitCode::FAILURE;
+    }
     let served = instructions::served();
     harness::main(CASES, &expected, |random, tally| compare(random, tally, &served))
 }
@@ -62,6 +68,26 @@ fn compare(random: &mut Random, tally: &mut Tally, served: &[u32]) -> Result<(),
     }
 }
 
+/// Every arithmetic, order and set instruction on every pair of edge words.
+fn arithmetic_edges() -> Result<(), String> {
+    let arithmetic = |code: &u8| {
+        let decoded = decode(&[*code], 1, 0);
+        matches!(decoded, Ok((Instruction::Binary(_) | Instruction::NegI | Instruction::Neg, _)))
+    };
+    for opcode in (0..=255).filter(arithmetic) {
+        let code = vec![0, 2, opcode, 0xff];
+        let record = Parts { code, ..Parts::default() }.assemble();
+        for x in EDGES {
+            for y in EDGES {
+                let (memory, stack) = (vec![0, 0, 3], vec![x, y]);
+                let machine = Words { state: [2, 3, 3, 3, 2, 0], memory, stack };
+                agree(&Case::Run { record: record.clone(), budget: 1, machine }, &PROVED)?;
+            }
+        }
+    }
+    Ok(())
+}
+
 /// Loads and, if that was taken, runs in several pieces.
 fn load_and_run(random: &mut Random, tally: &mut Tally, program: &Program) -> Result<(), String> {
     let record = program.parts.assemble();
@@ -91,6 +117,10 @@ fn run_from_fitting(
     let mut machine = state::fitting(random, &parts);
     if random.percent(70) {
         machine.state[0] = parts.entry(0);
+        let opcode = parts.code[parts.entry(0) as usize];
+        if matches!(opcode, 0xe0 | 0xe1) && random.percent(70) {
+            state::loop_operands(random, &parts, &mut machine, opcode == 0xe1);
+        }
     }
     if unfit {
         state::unfit(random, &mut machine);

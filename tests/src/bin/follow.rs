@@ -2,12 +2,13 @@
 //! maps, to the check's workspace and to the rest of the letter's demand 3.
 
 use conformance::cases::{Answer, Case, Words};
-use conformance::check::{self, topmost_label, Slot, StackMaps, SHARE};
+use conformance::check::{self, topmost_label, Slot, StackMaps, STRIDE};
 use conformance::ffi::PROVED;
 use conformance::generate::damage::reroute;
 use conformance::generate::program;
 use conformance::harness::{self, Expected, Tally};
 use conformance::instruction::{decode, Instruction};
+use conformance::listing::listing;
 use conformance::random::Random;
 use conformance::record::Record;
 
@@ -41,13 +42,13 @@ fn compare(random: &mut Random, tally: &mut Tally) -> Result<(), String> {
     follower.follow(machine, tally).map_err(|difference| {
         let results = program.results;
         let case = Case::Check { record: bytes.clone(), results, workspace: vec![] };
-        format!("{difference}\nrecord and results of {case}")
+        format!("{difference}\nrecord and results of {case}\n{}", listing(&bytes))
     })
 }
 
 /// The workspace as the proved check leaves it.
 fn checked(record: &[u8], results: &[u8]) -> Result<Vec<u16>, String> {
-    let size = SHARE * Record::read(record).map_or(0, |record| record.code.len());
+    let size = STRIDE * Record::read(record).map_or(0, |record| record.code.len());
     let (record, results) = (record.to_vec(), results.to_vec());
     let case = Case::Check { record, results, workspace: vec![0xffff; size] };
     match case.answer(&PROVED) {
@@ -153,7 +154,7 @@ impl Follower<'_> {
         if *calls as usize != self.active.len() || *height as usize != self.base() + slots.len() {
             return fail("height or calls unlike the stack map's");
         }
-        let entry = &self.workspace[SHARE * place..][..SHARE];
+        let entry = &self.workspace[STRIDE * place..][..STRIDE];
         let label = topmost_label(slots).map_or(0, |origin| origin + 1);
         if entry != [slots.len() as u16 + 1, label, 0, 0] {
             return fail("workspace unlike the stack map");

@@ -16,9 +16,21 @@ enum Item {
     Bytes(Vec<u8>),
     Mark(Label),
     /// `wide`: the halfword form of JUMP and JUMP_C.
-    Branch { kind: Branch, to: Label, wide: bool },
-    Switch { exit: Label, otherwise: Label, branches: Vec<Label> },
-    SwitchX { exit: Label, otherwise: Label, ranges: Vec<Range> },
+    Branch {
+        kind: Branch,
+        to: Label,
+        wide: bool,
+    },
+    Switch {
+        exit: Label,
+        otherwise: Label,
+        branches: Vec<Label>,
+    },
+    SwitchX {
+        exit: Label,
+        otherwise: Label,
+        ranges: Vec<Range>,
+    },
 }
 
 /// One range of SWITCH_X; without a label its distance is 0.

@@ -62,7 +62,8 @@ impl Body<'_> {
                 self.operator(&SIGNED[..3]);
             }
             _ => {
-                let size = if self.wild() { self.random.word() } else { self.random.below(3) as u32 };
+                let size =
+                    if self.wild() { self.random.word() } else { self.random.below(3) as u32 };
                 self.constant(size);
                 self.code.bytes(&[0xd8]);
             }

@@ -69,10 +69,13 @@ fn of_opcode(random: &mut Random, number: u32) -> Vec<u8> {
     bytes
 }
 
-/// Code whose procedure 0 begins with an instruction of one of the served opcodes, all alike
-/// often.
+/// Opcodes with more to go wrong than the others have.
+const INTRICATE: [u32; 13] =
+    [0xe0, 0xe0, 0xe1, 0xe1, 0xe1, 0xe2, 0xe3, 0xe4, 0xe5, 0xe8, 0xe9, 0xd8, 0xd9];
+
+/// Code whose procedure 0 begins with an instruction of one of the served opcodes.
 pub fn single(random: &mut Random, served: &[u32]) -> Vec<u8> {
-    let opcode = random.pick(served);
+    let opcode = if random.percent(25) { random.pick(&INTRICATE) } else { random.pick(served) };
     let procedures = match opcode {
         0x71..=0x7f => opcode as usize - 0x70 + random.below(3),
         _ => random.within(1..=3),

@@ -14,12 +14,14 @@ pub struct Program {
 }
 
 /// How likely operands are that trap, in percent.
-pub const TAME: usize = 1;
-pub const WILD: usize = 12;
+const TAME: usize = 1;
+const WILD: usize = 12;
+/// How likely statements are that misuse a label, in percent.
+const FLAWED: usize = 12;
 
 /// A structured program of about `fuel` statements, with `nest` loops inside each other.
-pub fn structured(random: &mut Random, fuel: usize, nest: usize, wild: usize) -> Program {
-    let scope = scope(random, wild);
+fn structured(random: &mut Random, fuel: usize, nest: usize, flaw: usize) -> Program {
+    let scope = scope(random, flaw);
     // What is too long is tried again with less.
     let code = (1..)
         .find_map(|attempt| code(random, &scope, fuel / attempt, nest / attempt))
@@ -38,8 +40,13 @@ pub fn usual(random: &mut Random) -> Program {
         31..=80 => (10, random.within(3..=12)),
         _ => (random.pick(&[2, 6, 6, 12, 12, 25]), 0),
     };
-    let wild = random.pick(&[TAME, TAME, WILD]);
-    structured(random, fuel, nest, wild)
+    structured(random, fuel, nest, 0)
+}
+
+/// A program that would be accepted if labels were words like any other.
+pub fn flawed(random: &mut Random) -> Program {
+    let (fuel, nest) = random.pick(&[(6, 0), (12, 1), (12, 3)]);
+    structured(random, fuel, nest, FLAWED)
 }
 
 /// A program of given code, with results that are sound for it.
@@ -49,12 +56,11 @@ pub fn of_code(random: &mut Random, code: Vec<u8>) -> Program {
     let constants = random.words(constants);
     let parts = around(random, code, globals, constants);
     let procedures = Record::read(&parts.assemble()).map_or(1, |record| record.procedures);
-    let results =
-        (0..procedures).map(|n| if n == 0 { 0 } else { random.below(3) as u8 }).collect();
+    let results = (0..procedures).map(|n| if n == 0 { 0 } else { random.below(3) as u8 }).collect();
     Program { parts, results }
 }
 
-fn scope(random: &mut Random, wild: usize) -> Scope {
+fn scope(random: &mut Random, flaw: usize) -> Scope {
     let procedures = match random.below(40) {
         0..=14 => 1,
         15..=37 => random.within(2..=5),
@@ -65,7 +71,8 @@ fn scope(random: &mut Random, wild: usize) -> Scope {
     let constants = random.pick(&[0, 1, 2, 4]);
     let signatures =
         (0..procedures).map(|procedure| signature(random, procedure, procedures)).collect();
-    Scope { signatures, globals, constants, wild }
+    let wild = random.pick(&[TAME, TAME, WILD]);
+    Scope { signatures, globals, constants, wild, flaw }
 }
 
 fn signature(random: &mut Random, procedure: usize, procedures: usize) -> Signature {

@@ -70,13 +70,14 @@ fn source_table(random: &mut Random, code_size: usize) -> Vec<u32> {
     offsets.into_iter().flat_map(|offset| [offset as u32, random.word()]).collect()
 }
 
-/// Code with a sound entry table and random bytes after it.
+/// Code with an entry table and random bytes after it. The table is sound, but for one that is
+/// now and then an entry too long.
 pub fn code_of_any_bytes(random: &mut Random) -> Vec<u8> {
     let procedures = match random.below(20) {
         0..=9 => 1,
         10..=17 => random.within(2..=6),
         18 => random.within(7..=60),
-        _ => random.pick(&[255, 256]),
+        _ => random.pick(&[255, 256, 257]),
     };
     let table = 2 * procedures;
     let rest = procedures + random.pick(&[0, 1, 5, 20, 60]);
@@ -152,7 +153,7 @@ fn damage_source(random: &mut Random, parts: &mut Parts) {
         _ if pairs >= 1 => {
             let pair = random.below(pairs);
             parts.source[2 * pair] =
-                random.pick(&[0, code_size - 1, code_size, code_size + 1, u32::MAX]);
+                random.pick(&[0, code_size.saturating_sub(1), code_size, code_size + 1, u32::MAX]);
         }
         _ => parts.source.extend([1, 1, 0, 1]),
     }
@@ -247,7 +248,6 @@ pub fn largest(random: &mut Random) -> Vec<u8> {
     let mut parts = around(random, code, LARGEST[2], constants);
     parts.version = vec![*b"12/B"; LARGEST[5] as usize];
     let stride = LARGEST[1] / (LARGEST[6] / 2);
-    parts.source =
-        (0..LARGEST[6] / 2).flat_map(|pair| [pair * stride, random.bits()]).collect();
+    parts.source = (0..LARGEST[6] / 2).flat_map(|pair| [pair * stride, random.bits()]).collect();
     parts.assemble()
 }

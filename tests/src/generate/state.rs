@@ -2,7 +2,7 @@
 
 use crate::cases::Words;
 use crate::machine::{LARGEST_MEMORY, LARGEST_STACK};
-use crate::random::Random;
+use crate::random::{Random, EDGES};
 use crate::record::Record;
 
 /// Memory and stack for a fresh load; now and then of a size that load refuses.
@@ -26,13 +26,13 @@ pub fn fresh(random: &mut Random, record: &[u8]) -> (Vec<u32>, Vec<u32>) {
     (random.words(memory), random.words(stack))
 }
 
-/// A state that fits a sound record.
+/// A state that fits a sound record, but for one that has a call too many now and then.
 pub fn fitting(random: &mut Random, record: &Record) -> Words {
     let frames_at = record.frames_at() as usize;
     let calls = match random.below(20) {
         0..=7 => 0,
         8..=17 => random.within(1..=5),
-        _ => random.pick(&[20, 63, 64, 64, 64]),
+        _ => random.pick(&[20, 63, 64, 64, 64, 65]),
     };
     // FP of each active call, upward.
     let mut frames = vec![frames_at];
@@ -47,7 +47,7 @@ pub fn fitting(random: &mut Random, record: &Record) -> Words {
     if random.below(200) == 0 {
         memory_words = LARGEST_MEMORY;
     }
-    let mut pool = Pool { frames: &frames, record, mp, memory_words };
+    let pool = Pool { frames: &frames, record, mp, memory_words };
     let mut memory: Vec<u32> = (0..memory_words).map(|_| pool.word(random)).collect();
     memory[..3].copy_from_slice(&[0, 0, record.constants_at()]);
     for call in 1..=calls {
@@ -65,15 +65,29 @@ pub fn fitting(random: &mut Random, record: &Record) -> Words {
         1 => stack_words - stack_words.min(2),
         _ => random.below(stack_words + 1),
     };
-    let state = [
-        pool.code_offset(random),
-        fp as u32,
-        mp as u32,
-        3,
-        height as u32,
-        calls as u32,
-    ];
+    let state = [pool.code_offset(random), fp as u32, mp as u32, 3, height as u32, calls as u32];
     Words { state, memory, stack }
+}
+
+/// Puts operands of ITER and NEXT on top of the stack, where there is room: address, first, last,
+/// step and, for NEXT, label. The sum of variable and step is likely to leave the range.
+pub fn loop_operands(random: &mut Random, record: &Record, words: &mut Words, label: bool) {
+    let height = words.state[4] as usize;
+    let count = if label { 5 } else { 4 };
+    if height < count {
+        return;
+    }
+    let frames = [words.state[1] as usize];
+    let (mp, memory_words) = (words.state[2] as usize, words.memory.len());
+    let pool = Pool { frames: &frames, record, mp, memory_words };
+    let operands = [
+        pool.address(random),
+        random.word(),
+        random.word(),
+        if random.percent(50) { random.pick(&EDGES) } else { random.word() },
+        pool.code_offset(random),
+    ];
+    words.stack[height - count..height].copy_from_slice(&operands[..count]);
 }
 
 /// Words that mean something to a state.
@@ -85,7 +99,7 @@ struct Pool<'a> {
 }
 
 impl Pool<'_> {
-    fn word(&mut self, random: &mut Random) -> u32 {
+    fn word(&self, random: &mut Random) -> u32 {
         match random.below(20) {
             0..=5 => self.address(random),
             6..=8 => random.below(2) as u32,
@@ -95,7 +109,7 @@ impl Pool<'_> {
     }
 
     /// An address at one of the borders: globals, constants, links, FP, MP, end of memory.
-    fn address(&mut self, random: &mut Random) -> u32 {
+    fn address(&self, random: &mut Random) -> u32 {
         let base = match random.below(8) {
             0 => 3,
             1 => self.record.constants_at() as usize,
@@ -108,7 +122,7 @@ impl Pool<'_> {
         (base + random.below(5)).saturating_sub(3) as u32
     }
 
-    fn code_offset(&mut self, random: &mut Random) -> u32 {
+    fn code_offset(&self, random: &mut Random) -> u32 {
         let size = self.record.code.len();
         match random.below(40) {
             0 => size as u32,

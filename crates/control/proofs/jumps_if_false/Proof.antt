@@ -1,0 +1,33 @@
+-- `control::jumps_if_false` meets its contract: a word above 1 is no boolean.
+use native.Mathlib.Omega.{arith}
+use borrow.Author.Needs.{needs}
+use borrow.Author.Tests.{lt-ltb, le-ltb, eq-eqb, ne-eqb}
+use Rattle.control.proofs.jumps_if_false.Statement.{statement}
+use Rattle.control.specs.Control.{jumpsIfFalse}
+use Rattle.control.proofs.jumps_if_false.Tie as tie
+
+returns : tie.Need-returns
+unfolding jumpsIfFalse
+returns c = rw (le-ltb (c .before .args .b) 2 (omega arith))
+
+jumped-requires : tie.Need-jumped-requires
+jumped-requires c κs = search needs
+
+jump-to-requires : tie.Need-jump-to-requires
+jump-to-requires c κs = search needs
+
+returns-2 : tie.Need-returns-2
+unfolding jumpsIfFalse
+returns-2 c = rw (lt-ltb (c .before .before .before .before .args .b) 2 (omega arith), eq-eqb (c .before .before .before .before .args .b) 0 (c .before .before .if2 .taken), c .jump-to .ensures, c .before .jumped .ensures)
+
+jump-to-requires-2 : tie.Need-jump-to-requires-2
+jump-to-requires-2 c κs = search needs
+
+returns-3 : tie.Need-returns-3
+unfolding jumpsIfFalse
+returns-3 c = rw (lt-ltb (c .before .before .before .args .b) 2 (omega arith), ne-eqb (c .before .before .before .args .b) 0 (c .before .if2 .left), c .jump-to2 .ensures)
+
+pub jumps-if-false-spec : {M : Type 1} → statement M
+jumps-if-false-spec =
+    tie.close
+    (tie.spec returns jumped-requires jump-to-requires returns-2 jump-to-requires-2 returns-3)

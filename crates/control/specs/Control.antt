@@ -1,0 +1,104 @@
+-- Jumps, loops, switches and calls (5.2.4.11 to 5.2.4.15); q, m and next as in Data. 01: "Distances count from the
+-- instruction's own first byte", which is at PC.
+use mathlib.Core.Bool.{Bool, cond, _&&_, _||_}
+use mathlib.Core.List.{List}
+use Prim.Native.Nat.{ℕ, _+_, _-_, _%_}
+use lib.Dec.{eqb, leb, ltb}
+use lib.IntN.{ℤ, pos}
+use lib.ListN.{length}
+use lib.Signed.{ltZ}
+use mir.Syntax.{w32}
+use mir.Val.{toZ}
+use Rattle.record.specs.Entries.{entryAt, entryCount}
+use Rattle.opcode.specs.Switch.{exitDistance, elseDistance, branchDistance, searchDistance}
+use Rattle.opcode.specs.declared.instruction.Mode.the-variants.{Normal}
+use Rattle.opcode.specs.declared.instruction.Arithmetic.the-variants.{Add}
+use Rattle.operate.specs.Arithmetic.{signedValue}
+use Rattle.operate.specs.declared.Value.{Value}
+use Rattle.operate.specs.declared.Value.the-variants.{Word, Trap}
+use Rattle.effect.specs.declared.registers.Registers.{Registers}
+use Rattle.effect.specs.declared.effect.Push.the-variants.{NoPush, PushOne}
+use Rattle.effect.specs.declared.effect.Write.the-variants.{NoWrite, WriteOne, WriteTwo, WriteGone}
+use Rattle.effect.specs.declared.effect.Effect.{Effect}
+use Rattle.effect.specs.declared.effect.Effect.the-variants.{Trap as trap, Finish, Go}
+use Rattle.effect.specs.declared.registers.Areas.{Areas}
+use Rattle.effect.specs.Memory.{read, live, protects}
+use Rattle.effect.specs.Words.{moved, sized, called, returned}
+use Rattle.effect.specs.Data.{boolean, storable}
+
+-- The place at a distance, d being the word of a signed or an unsigned one: a sum modulo 2^32. A place before the code is then
+-- above every code size.
+abbrev pub jumped : Registers → ℕ → ℕ
+jumped q d = (q .pc + d) % 0x1_0000_0000
+
+-- JUMP.
+unfoldable pub jumps : Registers → ℕ → Effect
+jumps q d = Go 0 NoPush NoWrite (moved q (jumped q d))
+
+-- JUMP_C: POP (B); if not B then PC := PC + dist.
+unfoldable pub jumpsIfFalse : Registers → ℕ → ℕ → ℕ → Effect
+jumpsIfFalse q next d b = boolean b (Go 1 NoPush NoWrite (moved q (cond (eqb b 0) (jumped q d) next)))
+
+-- JUMP_T (when is 1) and JUMP_F (when is 0): POP (B); if B is `when` then PUSH (B); PC := PC + dist.
+unfoldable pub jumpsKeeping : Registers → ℕ → ℕ → ℕ → ℕ → Effect
+jumpsKeeping q next when d b =
+    boolean b (cond (eqb b when) (Go 0 NoPush NoWrite (moved q (jumped q d))) (Go 1 NoPush NoWrite (moved q next)))
+
+-- (S > 0 and X > L) or (S < 0 and X < L).
+abbrev pub beyond : ℤ → ℤ → ℤ → Bool
+beyond s x l = (ltZ (pos 0) s && ltZ l x) || (ltZ s (pos 0) && ltZ x l)
+
+-- ITER [ adr, first, last, step ]: past the loop, or MEMORY(A) := F and the label is pushed.
+unfoldable pub iterates : Areas → Registers → List ℕ → ℕ → ℕ → ℕ → ℕ → ℕ → ℕ → Effect
+iterates A q m next d a f l s =
+    cond (beyond (toZ w32 s) (toZ w32 f) (toZ w32 l)) (Go 4 NoPush NoWrite (moved q (jumped q d)))
+    (storable A q m a Normal (Go 0 (PushOne next) (WriteOne a f) (moved q next)))
+
+-- NEXT's sum: MEMORY(A) + S. 01: "NEXT's sum traps likewise".
+unfoldable pub nextSum : List ℕ → ℕ → ℕ → Value
+nextSum m a s = signedValue Add (read m a) s
+
+-- The sum x is stored; then the loop is left, or goes round to the label.
+abbrev pub wentRound : Registers → ℕ → ℕ → ℕ → ℕ → ℕ → ℕ → Effect
+wentRound q next a l s label x =
+    cond (beyond (toZ w32 s) (toZ w32 x) (toZ w32 l)) (Go 5 NoPush (WriteOne a x) (moved q next))
+    (Go 0 NoPush (WriteOne a x) (moved q label))
+
+abbrev pub summed : Areas → Registers → List ℕ → ℕ → ℕ → ℕ → ℕ → ℕ → Value → Effect
+summed A q m next a l s label (Word x) = cond (protects A q m a) (trap 33) (wentRound q next a l s label x)
+summed A q m next a l s label (Trap n) = trap n
+
+-- NEXT [ adr, first, last, step, label ]. 01: "NEXT tests live, then the sum, then protected."
+unfoldable pub repeats : Areas → Registers → List ℕ → ℕ → ℕ → ℕ → ℕ → ℕ → Effect
+repeats A q m next a l s label = cond (live q a 1) (summed A q m next a l s label (nextSum m a s)) (trap 32)
+
+-- The exit label PC + Z is pushed, and the place is PC + distance.
+abbrev pub branched : List ℕ → Registers → ℕ → Effect
+branched code q d = Go 1 (PushOne (q .pc + exitDistance code (q .pc))) NoWrite (moved q (q .pc + d))
+
+-- SWITCH: if X < 0 or X > n then PC := PC + E. As a word, a negative X is above every n.
+unfoldable pub switches : List ℕ → Registers → ℕ → ℕ → Effect
+switches code q n x = branched code q (cond (leb x n) (branchDistance code (q .pc) x) (elseDistance code (q .pc)))
+
+-- SWITCH_X: if D = 0 then PC := PC + E, else PC := PC + D.
+abbrev pub orElse : ℕ → ℕ → ℕ
+orElse d e = cond (eqb d 0) e d
+
+unfoldable pub searches : List ℕ → Registers → ℕ → ℕ → Effect
+searches code q n x = branched code q (orElse (searchDistance code (q .pc) n x) (elseDistance code (q .pc)))
+
+-- 01: "CALL tests callee, depth, memory": 23, 37, 35. "At most 64 calls are active".
+unfoldable pub calls : List ℕ → Registers → List ℕ → ℕ → ℕ → Effect
+calls code q m next p =
+    cond (eqb p 0 || leb (entryCount code) p) (trap 23)
+    (cond (leb 64 (q .calls)) (trap 37)
+    (cond (leb (q .mp + 2) (length m)) (Go 0 NoPush (WriteTwo (q .mp) (q .fp) next) (called q (entryAt code p))) (trap 35)))
+
+-- ENTER: MEMORY(MP..MP+par-1) := the top par words; MP := MP + par + dat.
+unfoldable pub enters : Registers → List ℕ → ℕ → ℕ → ℕ → Effect
+enters q m next par dat =
+    cond (leb (q .mp + par + dat) (length m)) (Go par NoPush (WriteGone (q .mp)) (sized q next (q .mp + par + dat))) (trap 35)
+
+-- 01: "RTN with no active call finishes and changes nothing."
+unfoldable pub returns : Registers → List ℕ → Effect
+returns q m = cond (eqb (q .calls) 0) Finish (Go 0 NoPush NoWrite (returned q m))

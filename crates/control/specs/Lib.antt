@@ -1,0 +1,2 @@
+-- What jumps, loops, switches and calls do.
+pub mod Control

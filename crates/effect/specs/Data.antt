@@ -1,0 +1,80 @@
+-- Loads, stores, stack and operations (5.2.4.2 to 5.2.4.10): q are the registers, m is the memory, and `next` is the place after
+-- the instruction.
+use mathlib.Core.Bool.{cond}
+use mathlib.Core.List.{List}
+use Prim.Native.Nat.{ℕ, _+_, _-_}
+use lib.Dec.{leb, ltb}
+use lib.ListN.{length}
+use Rattle.opcode.specs.declared.instruction.Mode.{Mode}
+use Rattle.opcode.specs.declared.instruction.Mode.the-variants.{Normal, Double}
+use Rattle.opcode.specs.declared.instruction.Base.{Base}
+use Rattle.opcode.specs.declared.instruction.Base.the-variants.{Local, Global, Constant, Popped}
+use Rattle.operate.specs.declared.Value.{Value}
+use Rattle.operate.specs.declared.Value.the-variants.{Word, Trap}
+use Rattle.effect.specs.declared.registers.Registers.{Registers}
+use Rattle.effect.specs.declared.effect.Push.{Push}
+use Rattle.effect.specs.declared.effect.Push.the-variants.{NoPush, PushOne, PushTwo}
+use Rattle.effect.specs.declared.effect.Write.{Write}
+use Rattle.effect.specs.declared.effect.Write.the-variants.{NoWrite, WriteOne, WriteTwo}
+use Rattle.effect.specs.declared.effect.Effect.{Effect}
+use Rattle.effect.specs.declared.effect.Effect.the-variants.{Trap as trap, Go}
+use Rattle.effect.specs.declared.registers.Areas.{Areas}
+use Rattle.effect.specs.Memory.{read, wordsIn, live, protectsAny}
+use Rattle.effect.specs.Words.{popped, moved, sized}
+
+-- What an offset is counted from: FP; GP; CONST_ADR, "MEMORY(GP-1)"; or the address a of POP (A).
+abbrev pub baseOf : Registers → List ℕ → ℕ → Base → ℕ
+baseOf q m a Local = q .fp
+baseOf q m a Global = q .gp
+baseOf q m a Constant = read m (q .gp - 1)
+baseOf q m a Popped = a
+
+abbrev pub loaded : List ℕ → ℕ → Mode → Push
+loaded m a Normal = PushOne (read m a)
+loaded m a Double = PushTwo (read m a) (read m (a + 1))
+
+-- LOAD_L, _G, _T, _F at the address a.
+unfoldable pub loadFrom : Registers → List ℕ → ℕ → ℕ → Mode → ℕ → Effect
+loadFrom q m next gone mode a = cond (live q a (wordsIn mode)) (Go gone (loaded m a mode) NoWrite (moved q next)) (trap 32)
+
+-- LOAD_A_L, _G, _T, _F. 01: "An address sum past 32 bits is not live; LOAD_A_F traps 31 for it."
+unfoldable pub addressOf : Registers → ℕ → ℕ → ℕ → Effect
+addressOf q next gone a = cond (ltb a 0x1_0000_0000) (Go gone (PushOne a) NoWrite (moved q next)) (trap 31)
+
+abbrev pub stored : ℕ → Mode → ℕ → ℕ → Write
+stored a Normal x y = WriteOne a x
+stored a Double x y = WriteTwo a x y
+
+-- A store: 01, "For two words both must be live, then both unprotected."
+abbrev pub storable : Areas → Registers → List ℕ → ℕ → Mode → Effect → Effect
+storable A q m a mode e = cond (live q a (wordsIn mode)) (cond (protectsAny A q m a mode) (trap 33) e) (trap 32)
+
+-- STOR_L, _G, _F at the address a: x, or x and y.
+unfoldable pub storeTo : Areas → Registers → List ℕ → ℕ → ℕ → Mode → ℕ → ℕ → ℕ → Effect
+storeTo A q m next gone mode a x y = storable A q m a mode (Go gone NoPush (stored a mode x y) (moved q next))
+
+-- One word is pushed over so many that go.
+abbrev pub gives : Registers → ℕ → ℕ → ℕ → Effect
+gives q next gone x = Go gone (PushOne x) NoWrite (moved q next)
+
+-- A word over so many that go; or the trap in its place.
+abbrev pub valued : Registers → ℕ → ℕ → Value → Effect
+valued q next gone (Word x) = gives q next gone x
+valued q next gone (Trap n) = trap n
+
+-- 34 is "not a boolean".
+abbrev pub boolean : ℕ → Effect → Effect
+boolean b e = cond (ltb b 2) e (trap 34)
+
+-- NEG.
+unfoldable pub inverted : Registers → ℕ → ℕ → Effect
+inverted q next b = boolean b (gives q next 1 (1 - b))
+
+-- ALLOC: POP (L); PUSH (MP); MP := MP + L. 35 is "memory full".
+unfoldable pub allocated : Registers → List ℕ → ℕ → ℕ → Effect
+allocated q m next l =
+    cond (leb (q .mp + l) (length m)) (Go 1 (PushOne (q .mp)) NoWrite (sized q next (q .mp + l))) (trap 35)
+
+-- FREE: POP (L); MP := MP - L. 38 is "FREE below FP".
+unfoldable pub freed : Registers → ℕ → ℕ → Effect
+freed q next l = cond (leb (q .fp + l) (q .mp)) (Go 1 NoPush NoWrite (sized q next (q .mp - l))) (trap 38)

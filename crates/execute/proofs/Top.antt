@@ -1,0 +1,84 @@
+-- The words that an instruction finds are those at their depths in the stack.
+use Prim.Native.Nat.{ℕ, _+_, _-_, _<_, _≤_}
+use mathlib.Core.Path.{_≡_, _∙_, refl, ap}
+use mathlib.Core.List.{List}
+use native.Mathlib.Omega.{arith}
+use lib.ListN.{take, drop}
+use lib.Seq.{getD-take, getD-drop}
+use Rattle.opcode.specs.declared.instruction.Mode.{Mode}
+use Rattle.opcode.specs.declared.instruction.Mode.the-variants.{Normal, Double}
+use Rattle.opcode.specs.declared.instruction.Base.{Base}
+use Rattle.opcode.specs.declared.instruction.Base.the-variants.{Local, Global, Constant, Popped}
+use Rattle.opcode.specs.declared.instruction.Instruction.the-variants.{Store, Iter, Next}
+use Rattle.effect.specs.declared.registers.Registers.{Registers}
+use Rattle.effect.specs.Program.{Program}
+use Rattle.effect.specs.Memory.{read, wordsIn}
+use Rattle.effect.specs.Words.{popped}
+use Rattle.effect.specs.Data.{baseOf, storeTo}
+use Rattle.execute.specs.Depth.{top, storedEffect, iteratedEffect, repeatedEffect}
+use Rattle.execute.specs.Execute.{execute}
+
+-- Word j of the top n stands at depth n - j.
+pub found : (s : List ℕ) (h n j : ℕ) → n ≤ h → j < n → read (top n h s) j ≡ read s (h - (n - j))
+found s h n j l k =
+    let e : h - n + j ≡ h - (n - j) = omega arith in
+    getD-take n (drop (h - n) s) j 0 k ∙ (getD-drop (h - n) s j 0 ∙ ap (read s) e)
+
+pub base-found : (q : Registers) (m s : List ℕ) (base : Base) → popped base ≤ q .height
+    → baseOf q m (read (top (popped base) (q .height) s) 0) base ≡ baseOf q m (read s (q .height - 1)) base
+base-found q m s Local l = refl
+base-found q m s Global l = refl
+base-found q m s Constant l = refl
+base-found q m s Popped l = found s (q .height) 1 0 l (omega arith)
+
+pub store-found : (P : Program) (q : Registers) (m s : List ℕ) (next : ℕ) (base : Base) (mode : Mode) (n : ℕ)
+    → popped base + wordsIn mode ≤ q .height
+    → execute P q m next (top (popped base + wordsIn mode) (q .height) s) (Store base mode n)
+    ≡ storedEffect (P .areas) q m s next base mode n
+unfolding execute storeTo
+store-found P q m s next Local Normal n l = rw (found s (q .height) 1 0 l (omega arith))
+store-found P q m s next Global Normal n l = rw (found s (q .height) 1 0 l (omega arith))
+store-found P q m s next Constant Normal n l = rw (found s (q .height) 1 0 l (omega arith))
+store-found P q m s next Popped Normal n l =
+    rw (found s (q .height) 2 0 l (omega arith), found s (q .height) 2 1 l (omega arith))
+store-found P q m s next Local Double n l =
+    rw (found s (q .height) 2 0 l (omega arith), found s (q .height) 2 1 l (omega arith))
+store-found P q m s next Global Double n l =
+    rw (found s (q .height) 2 0 l (omega arith), found s (q .height) 2 1 l (omega arith))
+store-found P q m s next Constant Double n l =
+    rw (found s (q .height) 2 0 l (omega arith), found s (q .height) 2 1 l (omega arith))
+store-found P q m s next Popped Double n l =
+    rw (found s (q .height) 3 0 l (omega arith), found s (q .height) 3 1 l (omega arith), found s (q .height) 3 2 l (omega arith))
+
+pub iter-found : (P : Program) (q : Registers) (m s : List ℕ) (next d : ℕ) → 4 ≤ q .height
+    → execute P q m next (top 4 (q .height) s) (Iter d) ≡ iteratedEffect (P .areas) q m s next d
+unfolding execute
+iter-found P q m s next d l =
+    rw (
+      found s (q .height) 4 0 l (omega arith),
+      found s (q .height) 4 1 l (omega arith),
+      found s (q .height) 4 2 l (omega arith),
+      found s (q .height) 4 3 l (omega arith),
+    )
+
+pub next-found : (P : Program) (q : Registers) (m s : List ℕ) (next : ℕ) → 5 ≤ q .height
+    → execute P q m next (top 5 (q .height) s) Next ≡ repeatedEffect (P .areas) q m s next
+unfolding execute
+next-found P q m s next l =
+    rw (
+      found s (q .height) 5 0 l (omega arith),
+      found s (q .height) 5 2 l (omega arith),
+      found s (q .height) 5 3 l (omega arith),
+      found s (q .height) 5 4 l (omega arith),
+    )
+
+-- An access moves one word or two, and pops at most an address besides.
+pub popped-small : (base : Base) → popped base ≤ 1
+popped-small Local = omega arith
+popped-small Global = omega arith
+popped-small Constant = omega arith
+popped-small Popped = omega arith
+
+pub words-small : (mode : Mode) → (1 ≤ wordsIn mode) × (wordsIn mode ≤ 2)
+words-small Normal = (omega arith, omega arith)
+words-small Double = (omega arith, omega arith)

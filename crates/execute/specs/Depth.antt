@@ -1,0 +1,33 @@
+-- The words at the top of the stack; and the effects of STOR, ITER and NEXT by the depth of their words there, 1 being the top: how
+-- the code finds the words that `execute` is handed.
+use mathlib.Core.List.{List}
+use Prim.Native.Nat.{ℕ, _+_, _-_}
+use lib.ListN.{take, drop}
+use Rattle.opcode.specs.declared.instruction.Mode.{Mode}
+use Rattle.opcode.specs.declared.instruction.Base.{Base}
+use Rattle.effect.specs.declared.registers.Registers.{Registers}
+use Rattle.effect.specs.declared.registers.Areas.{Areas}
+use Rattle.effect.specs.declared.effect.Effect.{Effect}
+use Rattle.effect.specs.Memory.{read, wordsIn}
+use Rattle.effect.specs.Words.{popped}
+use Rattle.effect.specs.Data.{baseOf, storeTo}
+use Rattle.control.specs.Control.{iterates, repeats}
+
+-- The top n words of a stack of some height, the lowest first.
+abbrev pub top : ℕ → ℕ → List ℕ → List ℕ
+top n height s = take n (drop (height - n) s)
+
+abbrev pub deep : Registers → List ℕ → ℕ → ℕ
+deep q s depth = read s (q .height - depth)
+
+abbrev pub storedEffect : Areas → Registers → List ℕ → List ℕ → ℕ → Base → Mode → ℕ → Effect
+storedEffect A q m s next base mode offset =
+    storeTo A q m next (popped base + wordsIn mode) mode (baseOf q m (deep q s (popped base + wordsIn mode)) base + offset)
+    (deep q s (wordsIn mode)) (deep q s (wordsIn mode - 1))
+
+abbrev pub iteratedEffect : Areas → Registers → List ℕ → List ℕ → ℕ → ℕ → Effect
+iteratedEffect A q m s next distance =
+    iterates A q m next distance (deep q s 4) (deep q s 3) (deep q s 2) (deep q s 1)
+
+abbrev pub repeatedEffect : Areas → Registers → List ℕ → List ℕ → ℕ → Effect
+repeatedEffect A q m s next = repeats A q m next (deep q s 5) (deep q s 3) (deep q s 2) (deep q s 1)

@@ -1,0 +1,3 @@
+-- What each instruction does.
+pub mod Depth
+pub mod Execute

@@ -1,0 +1,248 @@
+// What an instruction does: the stack words that it finds, and its effect.
+ghost use mathlib.Core.Path.{_≡_};
+ghost use mathlib.Core.Bool.{true};
+ghost use Prim.Native.Nat.{_≤_, _<_, _+_, _-_};
+ghost use lib.ListN.{length};
+ghost use Rattle.effect.specs.Memory.{read, wordsIn};
+ghost use Rattle.effect.specs.Words.{popped, needed};
+ghost use Rattle.effect.specs.Data.{baseOf, loadFrom, addressOf, storeTo};
+ghost use Rattle.control.specs.Control.{iterates, repeats};
+ghost use Rattle.execute.specs.Execute.{execute};
+ghost use Rattle.effect.specs.Memory.{chained};
+ghost use Rattle.effect.specs.Program.{framesStart, program};
+ghost use Rattle.execute.specs.Depth.{top, storedEffect, iteratedEffect, repeatedEffect};
+use effect::access;
+use effect::data;
+use effect::effect::Effect;
+use effect::effect::Push;
+use effect::effect::Write;
+use effect::registers::Areas;
+use effect::registers::Registers;
+use opcode::instruction::Base;
+use opcode::instruction::Instruction;
+use opcode::instruction::Mode;
+
+fn popped_words(base: Base) -> u32
+    ensures { λ n. ⌜ n ≡ popped base ⌝ }
+{
+    match base {
+        Base::Local => 0,
+        Base::Global => 0,
+        Base::Constant => 0,
+        Base::Popped => 1,
+    }
+}
+
+fn words_in(mode: Mode) -> u32
+    ensures { λ n. ⌜ n ≡ wordsIn mode ⌝ }
+{
+    match mode {
+        Mode::Normal => 1,
+        Mode::Double => 2,
+    }
+}
+
+// The number of stack words that an instruction finds.
+pub fn needed_words(i: Instruction) -> u32
+    ensures { λ n. ⌜ n ≡ needed i ⌝ }
+{
+    match i {
+        Instruction::LoadConstant(_) => 0,
+        Instruction::Load(base, _, _) => popped_words(base),
+        Instruction::LoadAddress(base, _) => popped_words(base),
+        Instruction::Store(base, mode, _) => popped_words(base) + words_in(mode),
+        Instruction::Pop(n) => n,
+        Instruction::Swap => 2,
+        Instruction::Nop => 0,
+        Instruction::Signed(_) => 2,
+        Instruction::Unsigned(_) => 2,
+        Instruction::Negate => 1,
+        Instruction::Equal => 2,
+        Instruction::NotEqual => 2,
+        Instruction::CompareSigned(_) => 2,
+        Instruction::CompareUnsigned(_) => 2,
+        Instruction::Set(_) => 2,
+        Instruction::Not => 1,
+        Instruction::Alloc => 1,
+        Instruction::Free => 1,
+        Instruction::Jump(_) => 0,
+        Instruction::JumpC(_) => 1,
+        Instruction::JumpT(_) => 1,
+        Instruction::JumpF(_) => 1,
+        Instruction::Iter(_) => 4,
+        Instruction::Next => 5,
+        Instruction::Switch(_) => 1,
+        Instruction::SwitchX(_) => 1,
+        Instruction::Leave => 1,
+        Instruction::Call(_) => 0,
+        Instruction::Enter(parameters, _) => parameters,
+        Instruction::Rtn => 0,
+    }
+}
+
+// The stack word at a depth, 1 being the top.
+fn stack_word(s: &[u32], height: u32, depth: u32) -> u32
+    ensures { λ x. ⌜ x ≡ read (now (s .entry)) (height - depth) ⌝ }
+{
+    if height < depth {
+        return access::word_at(s, 0);
+    }
+    access::word_at(s, (height - depth) as usize)
+}
+
+// LOAD_L, _G, _T, _F.
+fn load_effect(
+    q: Registers,
+    m: &[u32],
+    next: u32,
+    top: u32,
+    base: Base,
+    mode: Mode,
+    offset: u32,
+) -> Effect
+    ensures { λ e. ⌜ e ≡ loadFrom q (now (m .entry)) next (popped base) mode (baseOf q (now (m .entry)) top base + offset) ⌝ }
+{
+    let a = (data::base_of(q, m, top, base) as usize) + (offset as usize);
+    data::load_from(q, m, next, popped_words(base), mode, a)
+}
+
+// LOAD_A_L, _G, _T, _F.
+fn address_effect(q: Registers, m: &[u32], next: u32, top: u32, base: Base, offset: u32) -> Effect
+    ensures { λ e. ⌜ e ≡ addressOf q next (popped base) (baseOf q (now (m .entry)) top base + offset) ⌝ }
+{
+    let a = (data::base_of(q, m, top, base) as usize) + (offset as usize);
+    data::address_of(q, next, popped_words(base), a)
+}
+
+// STOR_L, _G, _F: the address, if it is popped, lies below the words.
+fn store_effect(
+    areas: Areas,
+    q: Registers,
+    m: &[u32],
+    s: &[u32],
+    next: u32,
+    base: Base,
+    mode: Mode,
+    offset: u32,
+) -> Effect
+    requires { ⌜ chained (now m) (framesStart areas) (q .fp) (q .calls) ≡ true ⌝ }
+    ensures { λ e. ⌜ e ≡ storedEffect areas q (now (m .entry)) (now (s .entry)) next base mode offset ⌝ }
+{
+    let words = words_in(mode);
+    let gone = popped_words(base) + words;
+    let popped = stack_word(s, q.height, gone);
+    let a = (data::base_of(q, m, popped, base) as usize) + (offset as usize);
+    let x = stack_word(s, q.height, words);
+    let y = stack_word(s, q.height, words - 1);
+    data::store_to(areas, q, m, next, gone, mode, a, x, y)
+}
+
+// ITER and NEXT: four words, and NEXT's label above them.
+fn iter_effect(areas: Areas, q: Registers, m: &[u32], s: &[u32], next: u32, distance: u32) -> Effect
+    requires { ⌜ chained (now m) (framesStart areas) (q .fp) (q .calls) ≡ true ⌝ }
+    ensures { λ e. ⌜ e ≡ iteratedEffect areas q (now (m .entry)) (now (s .entry)) next distance ⌝ }
+{
+    let h = q.height;
+    let a = stack_word(s, h, 4);
+    let first = stack_word(s, h, 3);
+    let last = stack_word(s, h, 2);
+    let step = stack_word(s, h, 1);
+    control::iterates(areas, q, m, next, distance, a, first, last, step)
+}
+
+fn next_effect(areas: Areas, q: Registers, m: &[u32], s: &[u32], next: u32) -> Effect
+    requires { ⌜ chained (now m) (framesStart areas) (q .fp) (q .calls) ≡ true ⌝ }
+    ensures { λ e. ⌜ e ≡ repeatedEffect areas q (now (m .entry)) (now (s .entry)) next ⌝ }
+{
+    let h = q.height;
+    let a = stack_word(s, h, 5);
+    let last = stack_word(s, h, 3);
+    let step = stack_word(s, h, 2);
+    let label = stack_word(s, h, 1);
+    control::repeats(areas, q, m, next, a, last, step, label)
+}
+
+// The effect of an instruction whose stack words are there: y is the top one, x the one below it.
+pub fn effect_of(
+    code: &[u8],
+    areas: Areas,
+    q: Registers,
+    m: &[u32],
+    s: &[u32],
+    next: u32,
+    i: Instruction,
+) -> Effect
+    requires { ⌜ chained (now m) (framesStart areas) (q .fp) (q .calls) ≡ true ⌝ }
+    requires { ⌜ length (now m) ≤ 16384 ⌝ }
+    requires { ⌜ q .pc < 4096 ⌝ }
+    requires { ⌜ needed i ≤ q .height ⌝ }
+    ensures { λ e. ⌜ e ≡ execute (program (now (code .entry)) areas) q (now (m .entry)) next (top (needed i) (q .height) (now (s .entry))) i ⌝ }
+{
+    let y = stack_word(s, q.height, 1);
+    let x = stack_word(s, q.height, 2);
+    match i {
+        Instruction::LoadConstant(n) => data::given(q, next, 0, n),
+        Instruction::Load(base, mode, offset) => load_effect(q, m, next, y, base, mode, offset),
+        Instruction::LoadAddress(base, offset) => address_effect(q, m, next, y, base, offset),
+        Instruction::Store(base, mode, offset) => store_effect(
+            areas,
+            q,
+            m,
+            s,
+            next,
+            base,
+            mode,
+            offset,
+        ),
+        Instruction::Pop(n) => control::jump_to(q, n, next),
+        Instruction::Swap => Effect::Go(2, Push::PushTwo(y, x), Write::NoWrite, q.moved(next)),
+        Instruction::Nop => control::jump_to(q, 0, next),
+        Instruction::Signed(op) => data::valued(
+            q,
+            next,
+            2,
+            operate::arithmetic::signed_value(op, x, y),
+        ),
+        Instruction::Unsigned(op) => data::valued(
+            q,
+            next,
+            2,
+            operate::arithmetic::unsigned_value(op, x, y),
+        ),
+        Instruction::Negate => data::valued(q, next, 1, operate::arithmetic::negated_value(y)),
+        Instruction::Equal => data::given(q, next, 2, operate::truth(x == y)),
+        Instruction::NotEqual => data::given(q, next, 2, operate::truth(x != y)),
+        Instruction::CompareSigned(order) => {
+            data::given(
+                q,
+                next,
+                2,
+                operate::truth(operate::compare::signed_test(order, x, y)),
+            )
+        }
+        Instruction::CompareUnsigned(order) => {
+            data::given(
+                q,
+                next,
+                2,
+                operate::truth(operate::compare::unsigned_test(order, x, y)),
+            )
+        }
+        Instruction::Set(op) => data::given(q, next, 2, operate::sets::set_word(op, x, y)),
+        Instruction::Not => data::inverted(q, next, y),
+        Instruction::Alloc => data::allocated(q, m, next, y),
+        Instruction::Free => data::freed(q, next, y),
+        Instruction::Jump(distance) => control::jumps(q, distance),
+        Instruction::JumpC(distance) => control::jumps_if_false(q, next, distance, y),
+        Instruction::JumpT(distance) => control::jumps_keeping(q, next, 1, distance, y),
+        Instruction::JumpF(distance) => control::jumps_keeping(q, next, 0, distance, y),
+        Instruction::Iter(distance) => iter_effect(areas, q, m, s, next, distance),
+        Instruction::Next => next_effect(areas, q, m, s, next),
+        Instruction::Switch(n) => control::switches(code, q, n, y),
+        Instruction::SwitchX(n) => control::searches(code, q, n, y),
+        Instruction::Leave => control::jump_to(q, 1, y),
+        Instruction::Call(p) => control::calls(code, q, m, next, p),
+        Instruction::Enter(parameters, words) => control::enters(q, m, next, parameters, words),
+        Instruction::Rtn => control::returns(areas, q, m),
+    }
+}

@@ -1,0 +1,139 @@
+-- `icode_bench_decode` meets its contract: the length of `out`, then each case of what is decoded; its length fits a word.
+use Prim.Native.Nat.{_+_, _≤_}
+use mathlib.Core.Path.{_∙_, sym, ap}
+use mathlib.Core.List.{[], _∷_}
+use native.Mathlib.Omega.{arith}
+use lib.ListN.{length, length-set}
+use borrow.Author.Needs.{needs}
+use borrow.Author.Tests.{eq-eqb, ne-eqb}
+use Rattle.icode.proofs.icode_bench_decode.Statement.{statement}
+use Rattle.icode.specs.Interface.{decodeReply, decoding}
+use Rattle.icode.proofs.Reach.{reach}
+use Rattle.icode.proofs.Written.{sets-all}
+use Rattle.icode.proofs.icode_bench_decode.Tie as tie
+
+-- The place after the instruction, a word's reach away.
+near :
+    (c : tie.After-second-of) →
+    let at = c .before .before .before .before .before .before .before .before .before .before .before .args .at in
+    let next = c .before .before .before .before .before .decoded .given .0 .1 .0 in
+    (at ≤ next) × (next ≤ at + 655366)
+near c =
+    let decode = c .before .before .before .before .before .before .before in
+    let bytes = decode .before .before .before .shared-slice-known in
+    let a = decode .before .before .before .before .args in
+    reach (a .code .now) (λ k. omega (arith, bytes .given k)) (a .limit) (a .at)
+    (sym (decode .decode .ensures) ∙ c .before .before .before .before .before .decoded .given .1)
+
+returns : tie.Need-returns
+unfolding decodeReply
+returns c = rw (ne-eqb (length (c .before .before .before .args .out .now)) 5 (c .if1 .taken))
+
+decode-requires : tie.Need-decode-requires
+decode-requires c κs = search needs
+
+enum-told : tie.Need-enum-told
+enum-told c = search needs
+
+enum-told-2 : tie.Need-enum-told-2
+enum-told-2 c = search needs
+
+enum-known-decoded : tie.Need-enum-known-decoded
+enum-known-decoded c = search needs
+
+number-of-requires : tie.Need-number-of-requires
+number-of-requires c κs = search needs
+
+slice-write-out : tie.Need-slice-write-out
+slice-write-out c = search needs
+
+mode-of-requires : tie.Need-mode-of-requires
+mode-of-requires c κs = search needs
+
+slice-write-out-2 : tie.Need-slice-write-out-2
+slice-write-out-2 c = search needs
+
+operand-of-requires : tie.Need-operand-of-requires
+operand-of-requires c κs = search needs
+
+slice-write-out-3 : tie.Need-slice-write-out-3
+slice-write-out-3 c = simp length-set (omega arith)
+
+second-of-requires : tie.Need-second-of-requires
+second-of-requires c κs = search needs
+
+slice-write-out-4 : tie.Need-slice-write-out-4
+slice-write-out-4 c = simp length-set (omega arith)
+
+sub-out : tie.Need-sub-out
+sub-out c = near c .0
+
+cast-out : tie.Need-cast-out
+cast-out c = omega (arith, near c)
+
+slice-write-out-5 : tie.Need-slice-write-out-5
+slice-write-out-5 c = simp length-set (omega arith)
+
+returns-2 : tie.Need-returns-2
+unfolding decodeReply
+returns-2 c =
+    let decode = c .before .before in
+    rw (
+      eq-eqb (length (decode .before .before .before .before .args .out .now)) 5 (decode .before .if1 .left),
+      ← decode .decode .ensures,
+      c .enum-told .given .1,
+    )
+
+returns-3 : tie.Need-returns-3
+unfolding decodeReply
+returns-3 c =
+    let decode = c .before .before in
+    rw (
+      eq-eqb (length (decode .before .before .before .before .args .out .now)) 5 (decode .before .if1 .left),
+      ← decode .decode .ensures,
+      c .enum-told2 .given .1,
+    )
+
+same-length : tie.Need-same-length
+same-length c = search needs
+
+returns-4 : tie.Need-returns-4
+unfolding decodeReply
+returns-4 c =
+    let decode = c .before .before .before .before .before .before .before in
+    let out = decode .before .before .before .before .args .out .now in
+    rw (
+      eq-eqb (length out) 5 (decode .before .if1 .left),
+      ← decode .decode .ensures,
+      c .before .before .before .before .before .decoded .given .1,
+      c .before .before .before .number-of .ensures,
+      c .before .before .mode-of .ensures,
+      c .before .operand-of .ensures,
+      c .second-of .ensures,
+    )
+    (ap (decoding 0) (sets-all out (_ ∷ _ ∷ _ ∷ _ ∷ _ ∷ []) (decode .before .if1 .left)))
+
+pub icode-bench-decode-spec : {M : Type 1} → statement M
+icode-bench-decode-spec =
+    tie.close
+    (tie.spec
+    returns
+    decode-requires
+    enum-told
+    enum-told-2
+    enum-known-decoded
+    number-of-requires
+    slice-write-out
+    mode-of-requires
+    slice-write-out-2
+    operand-of-requires
+    slice-write-out-3
+    second-of-requires
+    slice-write-out-4
+    sub-out
+    cast-out
+    slice-write-out-5
+    returns-2
+    returns-3
+    same-length
+    returns-4)

@@ -1,0 +1,196 @@
+-- A step leaves a state that fits: each instruction's effect keeps memory and frames, and carrying it out keeps the stack.
+use Prim.Native.Nat.{ℕ, zero, suc, _+_, _-_, _≤_, _<_}
+use mathlib.Core.Path.{_≡_, _∙_, refl, sym}
+use mathlib.Core.Bool.{Bool, true, false, cond, _||_}
+use mathlib.Core.List.{List}
+use native.Mathlib.Omega.{arith}
+use lib.Dec.{eqb, leb, ltb}
+use lib.ListN.{length}
+use lib.Seq.{sets, length-sets}
+use lib.IntN.{ℤ}
+use mir.Syntax.{w32}
+use mir.Val.{toZ}
+use borrow.Author.Tests.{ltb-false, leb-true, leb-false, eqb-false}
+use Rattle.record.specs.Entries.{entryAt, entryCount}
+use Rattle.opcode.specs.Decode.{decodeAt}
+use Rattle.opcode.specs.declared.Decoded.{Decoded}
+use Rattle.opcode.specs.declared.Decoded.the-variants.{Unserved, Past, At}
+use Rattle.opcode.specs.declared.instruction.Instruction.{Instruction}
+use Rattle.opcode.specs.declared.instruction.Instruction.the-variants.{LoadConstant, Load, LoadAddress, Store, Pop, Swap, Nop, Signed, Unsigned, Negate, Equal, NotEqual, CompareSigned, CompareUnsigned, Set, Not, Alloc, Free, Jump, JumpC, JumpT, JumpF, Iter, Next, Switch, SwitchX, Leave, Call, Enter, Rtn}
+use Rattle.opcode.specs.declared.instruction.Mode.the-variants.{Normal}
+use Rattle.operate.specs.Arithmetic.{signedValue, unsignedValue, negatedValue}
+use Rattle.operate.specs.declared.Value.{Value}
+use Rattle.operate.specs.declared.Value.the-variants.{Word, Trap as Stop}
+use Rattle.effect.specs.declared.effect.Effect.{Effect}
+use Rattle.effect.specs.declared.effect.Effect.the-variants.{Trap, Finish, Go}
+use Rattle.effect.specs.declared.effect.Push.{Push}
+use Rattle.effect.specs.declared.effect.Push.the-variants.{NoPush, PushOne}
+use Rattle.effect.specs.declared.effect.Write.the-variants.{NoWrite, WriteOne, WriteTwo, WriteGone}
+use Rattle.effect.specs.declared.registers.Areas.{Areas}
+use Rattle.effect.specs.declared.registers.Registers.{Registers}
+use Rattle.effect.specs.Program.{program, framesStart}
+use Rattle.effect.specs.Memory.{read, live, protects, wordsIn}
+use Rattle.effect.specs.Words.{needed, popped, pushes, moved, sized, raised, called, returned}
+use Rattle.effect.specs.Data.{baseOf, loaded, stored, loadFrom, addressOf, storeTo, valued, inverted, allocated, freed}
+use Rattle.control.specs.Control.{jumped, jumps, jumpsIfFalse, jumpsKeeping, beyond, iterates, nextSum, wentRound, summed, repeats, switches, searches, calls, enters, returns}
+use Rattle.execute.specs.Depth.{top}
+use Rattle.execute.specs.Execute.{execute}
+use Rattle.machine.specs.Step.{After, after, trapping, advanced, written, pushed, settled, performed, stepOf}
+use Rattle.machine.specs.declared.step.Machine.{Machine}
+use Rattle.machine.specs.declared.step.Outcome.{Outcome}
+use Rattle.machine.proofs.Fitting.{Fitting}
+use Rattle.machine.proofs.Keeping.{Steady, Keeps, keeps-cond, sized-keeps, moved-keeps, stored-keeps, storable-keeps, mode-keeps, entered-keeps, called-keeps, returned-keeps}
+
+apart : (a b : Bool) → (a || b) ≡ false → (a ≡ false) × (b ≡ false)
+apart true b e = let z : _≡_ {A = Bool} true false = e in (cc, cc)
+apart false b e = (refl, e)
+
+module _ (code : List ℕ) (A : Areas) (q : Registers) (m s : List ℕ) (F : Fitting A q m s) where
+  value-keeps : (next gone : ℕ) (v : Value) → Keeps A m (valued q next gone v)
+  value-keeps next gone (Word x) = moved-keeps A q m s F gone (PushOne x) next
+  value-keeps next gone (Stop n) = tt
+
+  tested : (t : Bool) (e : Effect) (n : ℕ) → (t ≡ true → Keeps A m e) → Keeps A m (cond t e (Trap n))
+  tested t e n h = keeps-cond A m t e (Trap n) h (λ l. tt)
+
+  kept-jump : (when d b next : ℕ) → Keeps A m (jumpsKeeping q next when d b)
+  unfolding jumpsKeeping
+  kept-jump when d b next =
+      tested (ltb b 2) (cond (eqb b when) (Go 0 NoPush NoWrite (moved q (jumped q d))) (Go 1 NoPush NoWrite (moved q next))) 34
+      (λ l. keeps-cond A m (eqb b when) (Go 0 NoPush NoWrite (moved q (jumped q d))) (Go 1 NoPush NoWrite (moved q next))
+      (λ e. moved-keeps A q m s F 0 NoPush (jumped q d)) (λ e. moved-keeps A q m s F 1 NoPush next))
+
+  round-keeps : (next a l st label x : ℕ) → protects A q m a ≡ false → Keeps A m (wentRound q next a l st label x)
+  round-keeps next a l st label x h =
+      keeps-cond A m (beyond (toZ w32 st) (toZ w32 x) (toZ w32 l)) (Go 5 NoPush (WriteOne a x) (moved q next))
+      (Go 0 NoPush (WriteOne a x) (moved q label)) (λ e. stored-keeps A q m s F a x 5 NoPush next h)
+      (λ e. stored-keeps A q m s F a x 0 NoPush label h)
+
+  summed-keeps : (next a l st label : ℕ) (v : Value) → Keeps A m (summed A q m next a l st label v)
+  summed-keeps next a l st label (Word x) =
+      keeps-cond A m (protects A q m a) (Trap 33) (wentRound q next a l st label x) (λ e. tt) (round-keeps next a l st label x)
+  summed-keeps next a l st label (Stop n) = tt
+
+  call-keeps : (next p : ℕ) → Keeps A m (calls code q m next p)
+  unfolding calls
+  call-keeps next p =
+      keeps-cond A m (eqb p 0 || leb (entryCount code) p) (Trap 23)
+      (cond (leb 64 (q .calls)) (Trap 37)
+      (cond (leb (q .mp + 2) (length m)) (Go 0 NoPush (WriteTwo (q .mp) (q .fp) next) (called q (entryAt code p))) (Trap 35)))
+      (λ e. tt)
+      (λ e. keeps-cond A m (leb 64 (q .calls)) (Trap 37)
+      (cond (leb (q .mp + 2) (length m)) (Go 0 NoPush (WriteTwo (q .mp) (q .fp) next) (called q (entryAt code p))) (Trap 35))
+      (λ d. tt)
+      (λ d. tested (leb (q .mp + 2) (length m)) (Go 0 NoPush (WriteTwo (q .mp) (q .fp) next) (called q (entryAt code p))) 35
+      (λ r. called-keeps A q m s F 0 NoPush next (entryAt code p) (leb-false 64 (q .calls) d) (leb-true (q .mp + 2) (length m) r))))
+
+  pub execute-keeps : (next : ℕ) (ws : List ℕ) (i : Instruction) → Keeps A m (execute (program code A) q m next ws i)
+  unfolding execute loadFrom addressOf storeTo inverted allocated freed jumps jumpsIfFalse iterates repeats switches searches enters returns
+  execute-keeps next ws (LoadConstant n) = moved-keeps A q m s F 0 (PushOne n) next
+  execute-keeps next ws (Load base mode n) =
+      tested (live q (baseOf q m (read ws 0) base + n) (wordsIn mode)) _ 32
+      (λ l. moved-keeps A q m s F (popped base) (loaded m (baseOf q m (read ws 0) base + n) mode) next)
+  execute-keeps next ws (LoadAddress base n) =
+      tested (ltb (baseOf q m (read ws 0) base + n) 0x1_0000_0000) _ 31
+      (λ l. moved-keeps A q m s F (popped base) (PushOne (baseOf q m (read ws 0) base + n)) next)
+  execute-keeps next ws (Store base mode n) =
+      storable-keeps A q m s F (baseOf q m (read ws 0) base + n) mode _
+      (mode-keeps A q m s F (baseOf q m (read ws 0) base + n) mode (read ws (popped base)) (read ws (popped base + 1))
+      (popped base + wordsIn mode) NoPush next)
+  execute-keeps next ws (Pop n) = moved-keeps A q m s F n NoPush next
+  execute-keeps next ws Swap = moved-keeps A q m s F 2 NoPush next
+  execute-keeps next ws Nop = moved-keeps A q m s F 0 NoPush next
+  execute-keeps next ws (Signed op) = value-keeps next 2 (signedValue op (read ws 0) (read ws 1))
+  execute-keeps next ws (Unsigned op) = value-keeps next 2 (unsignedValue op (read ws 0) (read ws 1))
+  execute-keeps next ws Negate = value-keeps next 1 (negatedValue (read ws 0))
+  execute-keeps next ws Equal = moved-keeps A q m s F 2 NoPush next
+  execute-keeps next ws NotEqual = moved-keeps A q m s F 2 NoPush next
+  execute-keeps next ws (CompareSigned order) = moved-keeps A q m s F 2 NoPush next
+  execute-keeps next ws (CompareUnsigned order) = moved-keeps A q m s F 2 NoPush next
+  execute-keeps next ws (Set op) = moved-keeps A q m s F 2 NoPush next
+  execute-keeps next ws Not = tested (ltb (read ws 0) 2) _ 34 (λ l. moved-keeps A q m s F 1 (PushOne (1 - read ws 0)) next)
+  execute-keeps next ws Alloc =
+      tested (leb (q .mp + read ws 0) (length m)) _ 35
+      (λ l. sized-keeps A q m s F 1 (PushOne (q .mp)) next (q .mp + read ws 0) (omega (arith, F .frame))
+      (leb-true (q .mp + read ws 0) (length m) l))
+  execute-keeps next ws Free =
+      tested (leb (q .fp + read ws 0) (q .mp)) _ 38
+      (λ l. sized-keeps A q m s F 1 NoPush next (q .mp - read ws 0) (omega (arith, leb-true (q .fp + read ws 0) (q .mp) l))
+      (omega (arith, F .within)))
+  execute-keeps next ws (Jump d) = moved-keeps A q m s F 0 NoPush (jumped q d)
+  execute-keeps next ws (JumpC d) =
+      tested (ltb (read ws 0) 2) _ 34 (λ l. moved-keeps A q m s F 1 NoPush (cond (eqb (read ws 0) 0) (jumped q d) next))
+  execute-keeps next ws (JumpT d) = kept-jump 1 d (read ws 0) next
+  execute-keeps next ws (JumpF d) = kept-jump 0 d (read ws 0) next
+  execute-keeps next ws (Iter d) =
+      keeps-cond A m (beyond (toZ w32 (read ws 3)) (toZ w32 (read ws 1)) (toZ w32 (read ws 2))) _ _
+      (λ e. moved-keeps A q m s F 4 NoPush (jumped q d))
+      (λ e. storable-keeps A q m s F (read ws 0) Normal _ (stored-keeps A q m s F (read ws 0) (read ws 1) 0 (PushOne next) next))
+  execute-keeps next ws Next =
+      tested (live q (read ws 0) 1) _ 32
+      (λ l. summed-keeps next (read ws 0) (read ws 2) (read ws 3) (read ws 4) (nextSum m (read ws 0) (read ws 3)))
+  execute-keeps next ws (Switch n) = moved-keeps A q m s F 1 NoPush _
+  execute-keeps next ws (SwitchX n) = moved-keeps A q m s F 1 NoPush _
+  execute-keeps next ws Leave = moved-keeps A q m s F 1 NoPush (read ws 0)
+  execute-keeps next ws (Call p) = call-keeps next p
+  execute-keeps next ws (Enter par dat) =
+      tested (leb (q .mp + par + dat) (length m)) _ 35
+      (λ l. entered-keeps A q m s F par NoPush next (q .mp + par + dat) (omega (arith, F .frame))
+      (leb-true (q .mp + par + dat) (length m) l))
+  execute-keeps next ws Rtn =
+      keeps-cond A m (eqb (q .calls) 0) Finish _ (λ e. tt) (λ e. returned-keeps A q m s F 0 NoPush (eqb-false (q .calls) 0 e))
+
+-- What holds of a step's result: the same data areas, and a state that fits.
+pub record Holds (A : Areas) (a : After) : Type 0 where
+  pub areas : a .stepped .machine .areas ≡ A
+  pub fit : Fitting A (a .stepped .machine .registers) (a .memory) (a .stack)
+
+holds-cond : (A : Areas) (t : Bool) (a b : After) → (t ≡ true → Holds A a) → (t ≡ false → Holds A b) → Holds A (cond t a b)
+holds-cond A true a b h k = h refl
+holds-cond A false a b h k = k refl
+
+module _ (code : List ℕ) (M : Machine) (m s : List ℕ) (F : Fitting (M .areas) (M .registers) m s) where
+  still : (o : Outcome) → Holds (M .areas) (after (record { outcome = o; machine = M }) m s)
+  still o = record { areas = refl; fit = F }
+
+  settled-holds : (size : ℕ) (e : Effect) → Keeps (M .areas) m e → Holds (M .areas) (settled size M m s e)
+  unfolding settled
+  settled-holds size (Trap n) k = still _
+  settled-holds size Finish k = still _
+  settled-holds size (Go gone push write next) k =
+      let h : ℕ = M .registers .height - gone + pushes push in
+      let n : List ℕ = written m (top gone (M .registers .height) s) write in
+      let y : Steady (M .areas) next m n = k (top gone (M .registers .height) s) in
+      holds-cond (M .areas) (ltb (length s) h) _ _ (λ t. still _)
+      (λ t. holds-cond (M .areas) (ltb (next .pc) size) _ _
+      (λ u. record {
+        areas = refl;
+        fit = record {
+          areas = rw (y .size) (F .areas);
+          room = rw (y .size) (F .room);
+          deep = rw (length-sets s (M .registers .height - gone) (pushed push)) (F .deep);
+          word0 = y .word0;
+          word1 = y .word1;
+          word2 = y .word2;
+          global = y .global;
+          frame = y .frame;
+          within = rw (y .size) (y .within);
+          height = rw (length-sets s (M .registers .height - gone) (pushed push)) (ltb-false (length s) h t);
+          depth = y .depth;
+          links = y .links;
+        };
+      })
+      (λ u. still _))
+
+  performed-holds : (d : Decoded) → Holds (M .areas) (performed code M m s d)
+  unfolding performed
+  performed-holds Unserved = still _
+  performed-holds Past = still _
+  performed-holds (At i next) =
+      holds-cond (M .areas) (ltb (M .registers .height) (needed i)) _ _ (λ t. still _)
+      (λ t. settled-holds (length code) _
+      (execute-keeps code (M .areas) (M .registers) m s F next (top (needed i) (M .registers .height) s) i))
+
+  pub step-holds : Holds (M .areas) (stepOf code M m s)
+  unfolding stepOf
+  step-holds = performed-holds (decodeAt code (length code) (M .registers .pc))

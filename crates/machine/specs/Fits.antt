@@ -1,0 +1,29 @@
+-- Which states a run takes (24), and the sizes that load takes (8).
+use mathlib.Core.Bool.{Bool, _&&_}
+use mathlib.Core.List.{List}
+use Prim.Native.Nat.{ℕ}
+use lib.Dec.{eqb, leb}
+use lib.ListN.{length}
+use Rattle.effect.specs.declared.registers.Registers.{Registers}
+use Rattle.effect.specs.declared.registers.Areas.{Areas}
+use Rattle.effect.specs.Program.{constantsStart, framesStart}
+use Rattle.effect.specs.Memory.{read, chained}
+
+-- 01, number 8: "memory under 3+g+c or over 16,384, stack over 1,024".
+unfoldable pub sizesTaken : Areas → List ℕ → List ℕ → Bool
+sizesTaken A m s = leb (framesStart A) (length m) && (leb (length m) 16384 && leb (length s) 1024)
+
+-- "words 0 to 2 are as loaded".
+unfoldable pub headerKept : Areas → List ℕ → Bool
+headerKept A m = eqb (read m 0) 0 && (eqb (read m 1) 0 && eqb (read m 2) (constantsStart A))
+
+-- "GP is 3, FP <= MP <= memory, the height is within the stack, at most 64 calls are active".
+unfoldable pub registersFit : Registers → List ℕ → List ℕ → Bool
+registersFit q m s =
+    eqb (q .gp) 3 && (leb (q .fp) (q .mp) && (leb (q .mp) (length m) && (leb (q .height) (length s) && leb (q .calls) 64)))
+
+-- "A state fits when the lent sizes are ones load takes, words 0 to 2 are as loaded, .., and following the saved FP that many
+-- times, each at least 2 lower, ends at 3+g+c."
+unfoldable pub fits : Areas → Registers → List ℕ → List ℕ → Bool
+fits A q m s =
+    sizesTaken A m s && (headerKept A m && (registersFit q m s && chained m (framesStart A) (q .fp) (q .calls)))

@@ -1,0 +1,5 @@
+-- A step, the states that fit, load, and run.
+pub mod Step
+pub mod Fits
+pub mod Load
+pub mod Run

@@ -1,0 +1,110 @@
+// Run: steps up to a budget, counted as they are completed.
+ghost use mathlib.Core.Path.{_≡_};
+ghost use mathlib.Core.Bool.{true};
+ghost use Prim.Native.Nat.{_≤_};
+ghost use lib.ListN.{length};
+ghost use Rattle.machine.specs.Fits.{fits};
+ghost use Rattle.machine.specs.Run.{ran, ended, endedAt, runFrom, runOf, endNumber};
+use crate::fits;
+use crate::load;
+use crate::step::Machine;
+use crate::step::Outcome;
+use effect::registers::Registers;
+use record::Reading;
+
+// How a run ended.
+pub enum End {
+    Finished,
+    Spent,
+    Trapped(u32),
+}
+
+// The end, the completed steps, and the registers then: PC is the place.
+pub struct Ended {
+    pub ending: End,
+    pub steps: u32,
+    pub registers: Registers,
+}
+
+pub enum Answer {
+    Refused(u32),
+    Ended(Ended),
+}
+
+// The number of an end: 0 finished, 1 spent, or the trap.
+pub fn end_number(e: End) -> u32
+    ensures { λ n. ⌜ n ≡ endNumber e ⌝ }
+{
+    match e {
+        End::Finished => 0,
+        End::Spent => 1,
+        End::Trapped(n) => n,
+    }
+}
+
+impl Machine {
+    fn ended(self, ending: End, steps: u32) -> Ended
+        ensures { λ e. ⌜ e ≡ endedAt ending steps self ⌝ }
+    {
+        let registers = self.registers;
+        Ended {
+            ending,
+            steps,
+            registers,
+        }
+    }
+}
+
+fn run_steps(
+    code: &[u8],
+    budget: u32,
+    start: Machine,
+    memory: &mut [u32],
+    stack: &mut [u32],
+) -> Ended
+    requires { ⌜ length (now code) ≤ 4096 ⌝ }
+    requires { ⌜ fits (start .areas) (start .registers) (now memory) (now stack) ≡ true ⌝ }
+    ensures { λ e. ⌜ ended e (now (memory .exit)) (now (stack .exit)) ≡ runFrom (now (code .entry)) budget 0 start (now (memory .entry)) (now (stack .entry)) ⌝ }
+{
+    let mut machine = start;
+    let mut steps = 0;
+    while steps < budget {
+        let stepped = machine.step(code, memory, stack);
+        let after = stepped.machine;
+        let outcome = stepped.outcome;
+        machine = after;
+        match outcome {
+            Outcome::Went => {
+                steps += 1;
+            }
+            Outcome::Finished => {
+                return machine.ended(End::Finished, steps + 1);
+            }
+            Outcome::Trapped(n) => {
+                return machine.ended(End::Trapped(n), steps);
+            }
+        }
+    }
+    machine.ended(End::Spent, steps)
+}
+
+// Numbers 1 to 7 and 24, or the run from a state; refused, it changes nothing.
+pub fn run(r: &[u8], budget: u32, q: Registers, memory: &mut [u32], stack: &mut [u32]) -> Answer
+    ensures { λ a. ⌜ ran a (now (memory .exit)) (now (stack .exit)) ≡ runOf (now (r .entry)) budget q (now (memory .entry)) (now (stack .entry)) ⌝ }
+{
+    let reading = record::read(r);
+    match reading {
+        Reading::Refused(number) => Answer::Refused(number),
+        Reading::Sound(h) => {
+            let areas = load::areas_in(h);
+            if !fits::state_fits(areas, q, memory, stack) {
+                return Answer::Refused(24);
+            }
+            let start = Machine {
+                areas,
+                registers: q,
+            };
+            Answer::Ended(run_steps(record::header::code_of(r), budget, start, memory, stack))
+        }
+    }
+}

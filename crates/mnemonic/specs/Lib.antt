@@ -1,0 +1,2 @@
+-- What a listing shows of an instruction.
+pub mod Mnemonic

@@ -1,0 +1,96 @@
+-- What a listing shows of an instruction, as numbers.
+use Prim.Native.Nat.{ℕ, _+_}
+use Rattle.opcode.specs.declared.instruction.Mode.{Mode}
+use Rattle.opcode.specs.declared.instruction.Mode.the-variants.{Normal, Double}
+use Rattle.opcode.specs.declared.instruction.Base.{Base}
+use Rattle.opcode.specs.declared.instruction.Base.the-variants.{Local, Global, Constant, Popped}
+use Rattle.opcode.specs.declared.instruction.Arithmetic.{Arithmetic}
+use Rattle.opcode.specs.declared.instruction.Arithmetic.the-variants.{Add, Subtract, Multiply, Divide, Modulus}
+use Rattle.opcode.specs.declared.instruction.Order.{Order}
+use Rattle.opcode.specs.declared.instruction.Order.the-variants.{Less, Greater, LessEqual, GreaterEqual}
+use Rattle.opcode.specs.declared.instruction.SetOperation.{SetOperation}
+use Rattle.opcode.specs.declared.instruction.SetOperation.the-variants.{Union, Difference, Intersection, Subset, Superset, Member}
+use Rattle.opcode.specs.declared.instruction.Instruction.{Instruction}
+use Rattle.opcode.specs.declared.instruction.Instruction.the-variants.{LoadConstant, Load, LoadAddress, Store, Pop, Swap, Nop, Signed, Unsigned, Negate, Equal, NotEqual, CompareSigned, CompareUnsigned, Set, Not, Alloc, Free, Jump, JumpC, JumpT, JumpF, Iter, Next, Switch, SwitchX, Leave, Call, Enter, Rtn}
+use Rattle.mnemonic.specs.declared.Parts.{Parts}
+
+-- The places of mnemonics that stand in a row.
+abbrev pub basePlace : Base → ℕ
+basePlace Local = 0  -- _L
+basePlace Global = 1  -- _G
+basePlace Constant = 2  -- _T
+basePlace Popped = 3  -- _F
+
+abbrev pub arithmeticPlace : Arithmetic → ℕ
+arithmeticPlace Add = 0  -- ADD
+arithmeticPlace Subtract = 1  -- SUB
+arithmeticPlace Multiply = 2  -- MUL
+arithmeticPlace Divide = 3  -- DIV
+arithmeticPlace Modulus = 4  -- MOD
+
+abbrev pub orderPlace : Order → ℕ
+orderPlace Less = 0  -- LES
+orderPlace Greater = 1  -- GRT
+orderPlace LessEqual = 2  -- LEQ
+orderPlace GreaterEqual = 3  -- GEQ
+
+abbrev pub setPlace : SetOperation → ℕ
+setPlace Union = 0  -- ADD_S
+setPlace Difference = 1  -- SUB_S
+setPlace Intersection = 2  -- MUL_S
+setPlace Subset = 3  -- LEQ_S
+setPlace Superset = 4  -- GEQ_S
+setPlace Member = 5  -- TEST
+
+abbrev pub modePlace : Mode → ℕ
+modePlace Normal = 0
+modePlace Double = 1
+
+-- The number of the mnemonic, which all sizes of an operand share; the mode; the operand and the second one, 0 where there is none.
+abbrev pub parts : ℕ → ℕ → ℕ → ℕ → Parts
+parts number mode operand second = record { number = number; mode = mode; operand = operand; second = second }
+
+unfoldable pub partsOf : Instruction → Parts
+partsOf (LoadConstant n) = parts 0 0 n 0  -- LOAD_C
+partsOf (Load base mode n) = parts (1 + basePlace base) (modePlace mode) n 0  -- 1 .. 4 LOAD_L, LOAD_G, LOAD_T, LOAD_F
+partsOf (LoadAddress base n) = parts (5 + basePlace base) 0 n 0  -- 5 .. 8 LOAD_A_L, LOAD_A_G, LOAD_A_T, LOAD_A_F
+partsOf (Store base mode n) = parts (9 + basePlace base) (modePlace mode) n 0  -- 9 .. 12 STOR_L, STOR_G, (11: there is no STOR_T), STOR_F
+partsOf (Jump n) = parts 13 0 n 0  -- JUMP
+partsOf (JumpC n) = parts 14 0 n 0  -- JUMP_C
+partsOf (JumpT n) = parts 15 0 n 0  -- JUMP_T
+partsOf (JumpF n) = parts 16 0 n 0  -- JUMP_F
+partsOf (Call n) = parts 17 0 n 0  -- CALL
+partsOf (Pop n) = parts 18 0 n 0  -- POP
+partsOf Swap = parts 19 0 0 0  -- SWAP
+partsOf Nop = parts 20 0 0 0  -- NOP
+partsOf (Signed op) = parts (21 + arithmeticPlace op) 0 0 0  -- 21 .. 25 ADD_I, SUB_I, MUL_I, DIV_I, MOD_I
+partsOf (Unsigned op) = parts (26 + arithmeticPlace op) 0 0 0  -- 26 .. 30 ADD_U, SUB_U, MUL_U, DIV_U, MOD_U
+partsOf Negate = parts 31 0 0 0  -- NEG_I
+partsOf Equal = parts 32 0 0 0  -- EQU
+partsOf NotEqual = parts 33 0 0 0  -- NEQ
+partsOf (CompareSigned order) = parts (34 + orderPlace order) 0 0 0  -- 34 .. 37 LES_I, GRT_I, LEQ_I, GEQ_I
+partsOf (CompareUnsigned order) = parts (38 + orderPlace order) 0 0 0  -- 38 .. 41 LES_U, GRT_U, LEQ_U, GEQ_U
+partsOf (Set op) = parts (42 + setPlace op) 0 0 0  -- 42 .. 47 ADD_S, SUB_S, MUL_S, LEQ_S, GEQ_S, TEST
+partsOf Not = parts 48 0 0 0  -- NEG
+partsOf Alloc = parts 49 0 0 0  -- ALLOC
+partsOf Free = parts 50 0 0 0  -- FREE
+partsOf (Iter n) = parts 51 0 n 0  -- ITER
+partsOf Next = parts 52 0 0 0  -- NEXT
+partsOf (Switch n) = parts 53 0 n 0  -- SWITCH
+partsOf (SwitchX n) = parts 54 0 n 0  -- SWITCH_X
+partsOf Leave = parts 55 0 0 0  -- LEAVE
+partsOf (Enter n k) = parts 56 0 n k  -- ENTER
+partsOf Rtn = parts 57 0 0 0  -- RTN
+
+abbrev pub mnemonicNumber : Instruction → ℕ
+mnemonicNumber i = partsOf i .number
+
+-- 1 where DOUBLE stands before it, else 0.
+abbrev pub modeNumber : Instruction → ℕ
+modeNumber i = partsOf i .mode
+
+abbrev pub operandOf : Instruction → ℕ
+operandOf i = partsOf i .operand
+
+abbrev pub secondOf : Instruction → ℕ
+secondOf i = partsOf i .second

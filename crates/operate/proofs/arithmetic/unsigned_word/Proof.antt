@@ -1,0 +1,18 @@
+-- `operate::arithmetic::unsigned_word` meets its contract: below 2^32 a number is a word.
+use native.Mathlib.Omega.{arith}
+use borrow.Author.Needs.{needs}
+use Rattle.operate.proofs.arithmetic.unsigned_word.Statement.{statement}
+use Rattle.operate.proofs.Naturals.{in-word, past-word}
+use Rattle.operate.proofs.arithmetic.unsigned_word.Tie as tie
+
+cast-t3 : tie.Need-cast-t3
+cast-t3 c = search needs
+
+returns : tie.Need-returns
+returns c = in-word _ (omega arith)
+
+returns-2 : tie.Need-returns-2
+returns-2 c = past-word _ (c .if1 .left)
+
+pub unsigned-word-spec : {M : Type 1} → statement M
+unsigned-word-spec = tie.close (tie.spec cast-t3 returns returns-2)

@@ -1,0 +1,22 @@
+-- A word or a trap, and when a number is a word. 01: "An arithmetic result outside its 32-bit range traps"; 31 is "number does not
+-- fit".
+use mathlib.Core.Bool.{Bool, cond}
+use Prim.Native.Nat.{ℕ}
+use lib.Dec.{ltb}
+use lib.IntN.{ℤ, pos, negsuc}
+use lib.Signed.{mag}
+use mir.Syntax.{w32}
+use mir.Val.{ofZ}
+use Rattle.operate.specs.declared.Value.{Value}
+use Rattle.operate.specs.declared.Value.the-variants.{Word, Trap}
+
+unfoldable pub signedWord : ℤ → Value
+signedWord z = cond (ltb (mag z) 0x8000_0000) (Word (ofZ w32 z)) (Trap 31)
+
+unfoldable pub unsignedWord : ℤ → Value
+unsignedWord (pos n) = cond (ltb n 0x1_0000_0000) (Word n) (Trap 31)
+unsignedWord (negsuc n) = Trap 31
+
+-- 01: "A boolean is 0 or 1."
+abbrev pub truthOf : Bool → ℕ
+truthOf t = cond t 1 0

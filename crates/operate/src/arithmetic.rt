@@ -1,0 +1,94 @@
+// Signed and unsigned arithmetic on words: x and then y were pushed.
+ghost use mathlib.Core.Path.{_≡_};
+ghost use Rattle.operate.specs.Arithmetic.{signedNumber, modZ, signedValue, unsignedValue, negatedValue};
+ghost use lib.IntN.{pos};
+ghost use Rattle.operate.specs.Value.{unsignedWord};
+use crate::Value;
+use opcode::instruction::Arithmetic;
+
+// The word of a number; trap 31 where there is none.
+fn unsigned_word(n: u64) -> Value
+    ensures { λ v. ⌜ v ≡ unsignedWord (pos n) ⌝ }
+{
+    if n < 0x1_0000_0000 {
+        return Value::Word(n as u32);
+    }
+    Value::Trap(31)
+}
+
+// Ada's mod of two signed words, y not 0.
+fn modulus(x: u32, y: u32) -> Value
+    requires { ⌜ (y ≡ 0 → ⊥) ⌝ }
+    ensures { λ v. ⌜ v ≡ signedValue Arithmetic.Modulus x y ⌝ }
+{
+    let divisor = integer::signed(y);
+    let rest = integer::signed(x) % divisor;
+    if rest == 0 {
+        return crate::signed_word(rest);
+    }
+    if rest < 0 {
+        if divisor < 0 {
+            return crate::signed_word(rest);
+        }
+        return crate::signed_word(rest + divisor);
+    }
+    if divisor < 0 {
+        return crate::signed_word(rest + divisor);
+    }
+    crate::signed_word(rest)
+}
+
+pub fn signed_value(op: Arithmetic, x: u32, y: u32) -> Value
+    ensures { λ v. ⌜ v ≡ signedValue op x y ⌝ }
+{
+    match op {
+        Arithmetic::Add => crate::signed_word(integer::signed(x) + integer::signed(y)),
+        Arithmetic::Subtract => crate::signed_word(integer::signed(x) - integer::signed(y)),
+        Arithmetic::Multiply => crate::signed_word(integer::signed(x) * integer::signed(y)),
+        Arithmetic::Divide => {
+            if y == 0 {
+                return Value::Trap(30);
+            }
+            crate::signed_word(integer::signed(x) / integer::signed(y))
+        }
+        Arithmetic::Modulus => {
+            if y == 0 {
+                return Value::Trap(30);
+            }
+            modulus(x, y)
+        }
+    }
+}
+
+pub fn unsigned_value(op: Arithmetic, x: u32, y: u32) -> Value
+    ensures { λ v. ⌜ v ≡ unsignedValue op x y ⌝ }
+{
+    match op {
+        Arithmetic::Add => unsigned_word((x as u64) + (y as u64)),
+        Arithmetic::Subtract => {
+            if x < y {
+                return Value::Trap(31);
+            }
+            Value::Word(x - y)
+        }
+        Arithmetic::Multiply => unsigned_word((x as u64) * (y as u64)),
+        Arithmetic::Divide => {
+            if y == 0 {
+                return Value::Trap(30);
+            }
+            Value::Word(x / y)
+        }
+        Arithmetic::Modulus => {
+            if y == 0 {
+                return Value::Trap(30);
+            }
+            Value::Word(x % y)
+        }
+    }
+}
+
+pub fn negated_value(x: u32) -> Value
+    ensures { λ v. ⌜ v ≡ negatedValue x ⌝ }
+{
+    crate::signed_word(0 - integer::signed(x))
+}

@@ -1,0 +1,55 @@
+/* The proved I-code library. A slice is a pointer and a length, counted in elements: each pointer is valid for its length, and what is
+ * written does not overlap what is read. Nothing is kept between calls, and what is const is left as it is. */
+#ifndef ICODE_H
+#define ICODE_H
+
+#include <stddef.h>
+#include <stdint.h>
+
+#ifdef __cplusplus
+extern "C" {
+#endif
+
+/* 0 for a sound record, else the number that refuses it, 1 to 7. */
+uint32_t icode_record_number(const uint8_t *record, size_t record_len);
+
+/* The source line of a code offset, as number * 2^32 + line. The number is that of icode_record_number; where it is not 0 the line is
+ * 0. The line is also 0 before the first pair of the source table and outside the code. */
+uint64_t icode_line(const uint8_t *record, size_t record_len, uint32_t offset);
+
+/* For tests: decodes the instruction at a place of the code, which has to end at or before the limit. Bytes past code_len count as 0.
+ * Answers the first of these that holds:
+ *   8   out_len is not 5,
+ *   11  its code byte, or a prefix before it, does not stand below the limit,
+ *   10  it is not served, or not in its mode,
+ *   11  its operands run past the limit,
+ *   0   it is decoded.
+ * Only 0 writes, and then all five words:
+ *   out[0]  the number of the mnemonic, 0 to 57, as crates/mnemonic/specs/Mnemonic.antt lists them,
+ *   out[1]  1 where DOUBLE stands before it, else 0,
+ *   out[2]  the operand as a word, 0 where there is none,
+ *   out[3]  the second operand (of ENTER) as a word, 0 where there is none,
+ *   out[4]  the length in bytes, a prefix counted in. */
+uint32_t icode_bench_decode(const uint8_t *code, size_t code_len, size_t limit, size_t at, uint32_t *out, size_t out_len);
+
+/* For the bench, where code that was not checked may be loaded and run. A state is six words: PC, FP, MP, GP, the height of the stack
+ * and the number of active calls. Numbers 1 to 7 come first, as above. */
+
+/* Loads a record: 0, or 1 to 7, or 8 where there are more parameters than globals, memory or stack have a size that is not taken, or
+ * state_len is not 6. Only 0 writes: all of memory, and the state. The stack is not written. */
+uint32_t icode_bench_load(const uint8_t *record, size_t record_len, const uint32_t *parameters, size_t parameters_len,
+                          uint32_t *memory, size_t memory_len, const uint32_t *stack, size_t stack_len, uint32_t *state,
+                          size_t state_len);
+
+/* Runs from a state for at most budget steps: 0, or 1 to 7, or 24 where the state does not fit, state_len is not 6 or outcome_len is
+ * not 3. Only 0 writes: memory, stack and state as the steps leave them, and outcome[0] the end (0 finished, 1 spent, or the trap),
+ * outcome[1] the place, outcome[2] the completed steps. */
+uint32_t icode_bench_run(const uint8_t *record, size_t record_len, uint32_t budget, uint32_t *memory, size_t memory_len,
+                         uint32_t *stack, size_t stack_len, uint32_t *state, size_t state_len, uint32_t *outcome,
+                         size_t outcome_len);
+
+#ifdef __cplusplus
+}
+#endif
+
+#endif

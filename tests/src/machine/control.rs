@@ -1,0 +1,101 @@
+//! Loops and calls.
+
+use super::step::{Machine, Step};
+use super::stop::Stop;
+use super::MOST_CALLS;
+use crate::arithmetic::signed_sum;
+use crate::instruction::Width;
+
+impl Machine<'_> {
+    /// ITER: address, first, last, step. The address is tested only where the loop is entered.
+    #[inline(always)]
+    pub(super) fn iterate(&mut self, exit: i32, next: i32) -> Step<()> {
+        let low = self.without(4)?;
+        let [address, first, last, step] = self.words_at(low);
+        if passed(step, first, last) {
+            return self.go(exit, low);
+        }
+        let to = self.live(Some(address), Width::One)?;
+        self.unprotected(address)?;
+        self.push(0, next as u32, next)?;
+        self.memory[to] = first;
+        Ok(())
+    }
+
+    /// NEXT tests live, then the sum, then protected.
+    #[inline(always)]
+    pub(super) fn next(&mut self, next: i32) -> Step<()> {
+        let low = self.without(5)?;
+        let [address, _, last, step] = self.words_at(low);
+        let label = self.stack[low as usize + 4];
+        let to = self.live(Some(address), Width::One)?;
+        let sum = signed_sum(self.memory[to], step)?;
+        self.unprotected(address)?;
+        if passed(step, sum, last) {
+            self.go(next, low)?;
+        } else {
+            self.go_to_word(label, low + 5)?;
+        }
+        self.memory[to] = sum;
+        Ok(())
+    }
+
+    #[inline(always)]
+    pub(super) fn words_at(&self, low: u32) -> [u32; 4] {
+        let words = &self.stack[low as usize..][..4];
+        [words[0], words[1], words[2], words[3]]
+    }
+
+    /// CALL tests callee, depth, memory.
+    #[inline(always)]
+    pub(super) fn call(&mut self, procedure: u32, next: i32) -> Step<()> {
+        if procedure == 0 || procedure >= self.procedures {
+            return Err(Stop::NoCallee);
+        }
+        if self.registers.calls == MOST_CALLS {
+            return Err(Stop::TooManyCalls);
+        }
+        let mp = self.allocated(2)?;
+        let at = 2 * procedure as usize;
+        let entry = u32::from(u16::from_be_bytes([self.code[at], self.code[at + 1]]));
+        self.go_to_word(entry, self.registers.height)?;
+        let link = self.registers.mp as usize;
+        self.memory[link] = self.registers.fp;
+        self.memory[link + 1] = next as u32;
+        self.registers.fp = mp;
+        self.registers.mp = mp;
+        self.registers.calls += 1;
+        Ok(())
+    }
+
+    #[inline(always)]
+    pub(super) fn enter(&mut self, parameters: u32, locals: u32, next: i32) -> Step<()> {
+        let low = self.without(parameters)?;
+        let mp = self.allocated(parameters + locals)?;
+        self.go(next, low)?;
+        let count = parameters as usize;
+        self.memory[self.registers.mp as usize..][..count]
+            .copy_from_slice(&self.stack[low as usize..][..count]);
+        self.registers.mp = mp;
+        Ok(())
+    }
+
+    /// RTN with an active call. The saved return address is an unsigned code offset.
+    #[inline(always)]
+    pub(super) fn ret(&mut self) -> Step<()> {
+        let link = self.registers.fp - 2;
+        let return_to = self.memory[link as usize + 1];
+        self.go_to_word(return_to, self.registers.height)?;
+        self.registers.mp = link;
+        self.registers.fp = self.memory[link as usize];
+        self.registers.calls -= 1;
+        Ok(())
+    }
+}
+
+/// Has a loop variable passed its last value? Signed; a step of 0 never does.
+#[inline(always)]
+fn passed(step: u32, value: u32, last: u32) -> bool {
+    let (step, value, last) = (step as i32, value as i32, last as i32);
+    (step > 0 && value > last) || (step < 0 && value < last)
+}
