@@ -5,6 +5,7 @@ use lib.ListN.{length}
 use borrow.Author.Needs.{needs}
 use borrow.Author.Tests.{lt-ltb, le-ltb}
 use Rattle.machine.proofs.step.Machine.settled.Statement.{statement}
+use Rattle.machine.specs.Step.{settled as settledOf}
 use Rattle.machine.proofs.Sets.{pushes-small}
 use Rattle.machine.proofs.step.Machine.settled.Tie as tie
 

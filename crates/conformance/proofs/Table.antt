@@ -1,0 +1,29 @@
+-- Each case of the table has its outcome: the definitions, computed.
+use mathlib.Core.Path.{_≡_, refl}
+use Rattle.words.specs.Bytes.{halfwordAt, wordAt}
+use Rattle.record.specs.Entries.{entryAt, entryCount, countSound, entriesInOrder, entriesSound, regionEnd}
+use Rattle.record.specs.Header.{headerOf, sizesFit, codeAt, constantsAt, relocationAt, versionsAt, sourcesAt, recordLength, codeOf}
+use Rattle.record.specs.Number.{recordNumber, readingOf, lineOf}
+use Rattle.record.specs.Source.{sourceOffsets, sourceSound, lineAt}
+use Rattle.record.specs.Version.{issueAt, versionSound}
+use Rattle.opcode.specs.Decode.{instructionAt, decodeIn, decodeAt}
+use Rattle.opcode.specs.Length.{lengthIn, lengthAt}
+use Rattle.opcode.specs.Operand.{extended}
+use Rattle.opcode.specs.Switch.{exitDistance, elseDistance, branchDistance, rangeDistance, rangeHolds, searchDistance}
+use Rattle.opcode.specs.Table.{rowOf}
+use Rattle.operate.specs.Arithmetic.{modZ, signedValue, unsignedValue, negatedValue}
+use Rattle.operate.specs.Sets.{setWord}
+use Rattle.operate.specs.Value.{signedWord, unsignedWord}
+use Rattle.effect.specs.Data.{loadFrom, addressOf, storeTo, inverted, allocated, freed}
+use Rattle.effect.specs.Memory.{live, protects}
+use Rattle.control.specs.Control.{jumps, jumpsIfFalse, jumpsKeeping, iterates, nextSum, repeats, switches, searches, calls, enters, returns}
+use Rattle.execute.specs.Execute.{execute}
+use Rattle.machine.specs.Fits.{sizesTaken, headerKept, registersFit, fits}
+use Rattle.machine.specs.Load.{constantWords, initialData, loadedMemory, startOf, loadNumber, loadOf}
+use Rattle.machine.specs.Run.{runNumber, runOf}
+use Rattle.machine.specs.Step.{settled, performed, stepOf}
+use Rattle.conformance.specs.Cases.{recordOf, played, table, Stands}
+
+pub stands : Stands table
+unfolding halfwordAt wordAt entryAt entryCount countSound entriesInOrder entriesSound regionEnd headerOf sizesFit codeAt constantsAt relocationAt versionsAt sourcesAt recordLength codeOf recordNumber readingOf lineOf sourceOffsets sourceSound lineAt issueAt versionSound instructionAt decodeIn decodeAt lengthIn lengthAt extended exitDistance elseDistance branchDistance rangeDistance rangeHolds searchDistance rowOf modZ signedValue unsignedValue negatedValue setWord signedWord unsignedWord loadFrom addressOf storeTo inverted allocated freed live protects jumps jumpsIfFalse jumpsKeeping iterates nextSum repeats switches searches calls enters returns execute sizesTaken headerKept registersFit fits constantWords initialData loadedMemory startOf loadNumber loadOf runNumber runOf settled performed stepOf recordOf played table
+stands = refl

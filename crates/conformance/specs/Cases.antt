@@ -1,0 +1,80 @@
+-- 01's plates marked P, as a table: code, parameters and globals, and what loading and running them gives. "Globals as given,
+-- constants none; memory 64, stack 16, budget 1,000 unless named." What the check gives for them joins when check is defined.
+use mathlib.Core.List.{List, [], _∷_, _++_, map}
+use mathlib.Core.Path.{_≡_}
+use Prim.Native.Nat.{ℕ, _+_, _/_, _%_}
+use lib.ListN.{length, take, drop, replicate}
+use Rattle.effect.specs.declared.registers.Registers.{Registers}
+use Rattle.machine.specs.declared.load.Loaded.{Loaded}
+use Rattle.machine.specs.declared.load.Loaded.the-variants.{Refused, Ready}
+use Rattle.machine.specs.declared.run.Answer.{Answer}
+use Rattle.machine.specs.declared.run.Answer.the-variants.{Refused as NotRun, Ended}
+use Rattle.machine.specs.Load.{loadOf}
+use Rattle.machine.specs.Run.{endNumber, runOf}
+
+pub record Case : Type 0 where
+  pub code : List ℕ
+  pub parameters : List ℕ
+  pub globals : ℕ
+
+-- A refusal; or the end, its place, the completed steps, the globals and the stack words then.
+pub data Outcome : Type 0 where
+  refused : ℕ → Outcome
+  ended : ℕ → ℕ → ℕ → List ℕ → List ℕ → Outcome
+
+pub record Row : Type 0 where
+  pub given : Case
+  pub outcome : Outcome
+
+word : ℕ → List ℕ
+word n = n / 16777216 % 256 ∷ n / 65536 % 256 ∷ n / 256 % 256 ∷ n % 256 ∷ []
+
+-- The record of a case: header and code, with no other part.
+unfoldable pub recordOf : Case → List ℕ
+unfolding word
+recordOf c =
+    word 0 ++ (word (length (c .code)) ++ (word (c .globals) ++ (word 0 ++ (word 0 ++ (word 0 ++ (word 0 ++ c .code))))))
+
+abbrev pub shown : Case → Answer → List ℕ → List ℕ → Outcome
+shown c (NotRun n) m s = refused n
+shown c (Ended e) m s =
+    ended (endNumber (e .ending)) (e .registers .pc) (e .steps) (take (c .globals) (drop 3 m)) (take (e .registers .height) s)
+
+abbrev pub ran : Case → Loaded → List ℕ → List ℕ → Outcome
+ran c (Refused n) m s = refused n
+ran c (Ready q) m s =
+    let a = runOf (recordOf c) 1000 q m s in
+    shown c (a .answer) (a .memory) (a .stack)
+
+-- Loaded into 64 words of memory with a stack of 16, and run for at most 1,000 steps.
+unfoldable pub played : Case → Outcome
+played c =
+    let l = loadOf (recordOf c) (c .parameters) (replicate 64 0) (replicate 16 0) in
+    ran c (l .answer) (l .memory) (replicate 16 0)
+
+row : List ℕ → List ℕ → ℕ → Outcome → Row
+row code parameters globals outcome =
+    record { given = record { code = code; parameters = parameters; globals = globals }; outcome = outcome }
+
+-- Plates 1 to 7, 9 and 10. -6 is the word 4,294,967,290.
+unfoldable pub table : List Row
+unfolding row
+table =
+    row (0x00 ∷ 0x02 ∷ 0xE9 ∷ []) [] 0 (ended 0 2 1 [] [])
+    ∷ row (0x00 ∷ 0x02 ∷ 0x20 ∷ 0x21 ∷ 0xA1 ∷ 0x52 ∷ 0xE9 ∷ []) (9 ∷ 9 ∷ []) 3 (ended 0 6 5 (9 ∷ 9 ∷ 0 ∷ []) [])
+    ∷ row (0x00 ∷ 0x02 ∷ 0x20 ∷ 0x21 ∷ 0xA5 ∷ 0x52 ∷ 0xE9 ∷ []) (7 ∷ 0 ∷ []) 3 (ended 30 4 2 (7 ∷ 0 ∷ 0 ∷ []) (7 ∷ 0 ∷ []))
+    ∷ row (0x00 ∷ 0x02 ∷ 0x20 ∷ 0x21 ∷ 0xA5 ∷ 0x52 ∷ 0xE9 ∷ []) (7 ∷ 3 ∷ []) 3 (ended 0 6 5 (7 ∷ 3 ∷ 1 ∷ []) [])
+    ∷ row
+    (0x00 ∷ 0x02 ∷ 0x8E ∷ 0x00 ∷ 0x01 ∷ 0x03 ∷ 0x01 ∷ 0xE0 ∷ 0x00 ∷ 0x08 ∷ 0x21 ∷ 0x20 ∷ 0xA1 ∷ 0x51 ∷ 0xE1 ∷ 0xE9 ∷ [])
+    [] 2 (ended 0 15 21 (4 ∷ 4294967290 ∷ []) [])
+    ∷ row
+    (0x00 ∷ 0x02 ∷ 0x8E ∷ 0x00 ∷ 0x03 ∷ 0x01 ∷ 0x01 ∷ 0xE0 ∷ 0x00 ∷ 0x08 ∷ 0x21 ∷ 0x20 ∷ 0xA1 ∷ 0x51 ∷ 0xE1 ∷ 0xE9 ∷ [])
+    [] 2 (ended 0 15 6 (0 ∷ 0 ∷ []) [])
+    ∷ row (0x00 ∷ 0x02 ∷ 0xA1 ∷ 0xE9 ∷ []) [] 0 (ended 22 2 0 [] [])
+    ∷ row (0x00 ∷ 0x02 ∷ 0x01 ∷ 0xE9 ∷ []) [] 0 (ended 0 3 2 [] (1 ∷ []))
+    ∷ row (0x00 ∷ 0x02 ∷ []) [] 0 (refused 7)
+    ∷ []
+
+-- Each case of the table has the outcome that stands beside it.
+abbrev pub Stands : List Row → Type 0
+Stands rows = map (λ r. played (r .given)) rows ≡ map (λ r. r .outcome) rows
