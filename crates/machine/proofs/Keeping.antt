@@ -8,7 +8,7 @@ use native.Mathlib.Omega.{arith}
 use lib.Dec.{eqb, leb, ltb}
 use lib.ListN.{length, set}
 use lib.Seq.{sets, getD-set-same, getD-set-other}
-use borrow.Author.Tests.{ltb-false, leb-true, leb-false, eqb-false, le-leb}
+use borrow.Author.Tests.{ltb-true, ltb-false, leb-true, leb-false, eqb-false, le-leb}
 use Rattle.opcode.specs.declared.instruction.Mode.{Mode}
 use Rattle.opcode.specs.declared.instruction.Mode.the-variants.{Normal, Double}
 use Rattle.effect.specs.declared.effect.Effect.{Effect}
@@ -22,14 +22,15 @@ use Rattle.effect.specs.Program.{constantsStart, framesStart}
 use Rattle.effect.specs.Memory.{read, savedFp, isLink, chained, live, protects, protectsAny, wordsIn}
 use Rattle.effect.specs.Words.{moved, sized, called, returned}
 use Rattle.effect.specs.Data.{storable, stored}
-use Rattle.effect.proofs.Links.{chain-lower, chain-rest, link-above}
+use Rattle.effect.proofs.Links.{chain-lower, chain-rest}
+use Rattle.effect.proofs.Protected.{free-above}
 use Rattle.machine.specs.Step.{written}
 use Rattle.machine.proofs.Fitting.{Fitting}
-use Rattle.machine.proofs.Stored.{Intact, intact-none, intact-then, stored-above}
+use Rattle.machine.proofs.Stored.{Intact, intact-none, intact-then, stored-above, sets-under}
 use Rattle.machine.proofs.Stored.{stored as stored-one}
 
--- The registers q lie rightly in the memory n, which came of m.
-pub record Steady (A : Areas) (q : Registers) (m n : List ℕ) : Type 0 where
+-- The registers q lie rightly in the memory n, which came of m under the registers q₀ with each protected word as it was.
+pub record Steady (A : Areas) (q₀ q : Registers) (m n : List ℕ) : Type 0 where
   pub size : length n ≡ length m
   pub word0 : read n 0 ≡ 0
   pub word1 : read n 1 ≡ 0
@@ -39,23 +40,24 @@ pub record Steady (A : Areas) (q : Registers) (m n : List ℕ) : Type 0 where
   pub within : q .mp ≤ length m
   pub depth : q .calls ≤ 64
   pub links : chained n (framesStart A) (q .fp) (q .calls) ≡ true
+  pub spared : (a : ℕ) → protects A q₀ m a ≡ true → read n a ≡ read m a
 
 -- An effect leaves registers and memory so, whatever words go.
-abbrev pub Keeps : Areas → List ℕ → Effect → Type 0
-Keeps A m (Trap n) = Unit {0}
-Keeps A m Finish = Unit {0}
-Keeps A m (Go gone push write q) = (vs : List ℕ) → Steady A q m (written m vs write)
+abbrev pub Keeps : Areas → Registers → List ℕ → Effect → Type 0
+Keeps A q₀ m (Trap n) = Unit {0}
+Keeps A q₀ m Finish = Unit {0}
+Keeps A q₀ m (Go gone push write q) = (vs : List ℕ) → Steady A q₀ q m (written m vs write)
 
-pub keeps-cond : (A : Areas) (m : List ℕ) (t : Bool) (e f : Effect) → (t ≡ true → Keeps A m e) → (t ≡ false → Keeps A m f)
-    → Keeps A m (cond t e f)
-keeps-cond A m true e f h k = h refl
-keeps-cond A m false e f h k = k refl
+pub keeps-cond : (A : Areas) (q : Registers) (m : List ℕ) (t : Bool) (e f : Effect) → (t ≡ true → Keeps A q m e) → (t ≡ false → Keeps A q m f)
+    → Keeps A q m (cond t e f)
+keeps-cond A q m true e f h k = h refl
+keeps-cond A q m false e f h k = k refl
 
 module _ (A : Areas) (q : Registers) (m s : List ℕ) (F : Fitting A q m s) where
   -- Memory intact, and MP where it was or moved within memory.
   intact-sized : (n : List ℕ) (place mp : ℕ) → Intact m n (framesStart A) (q .fp) (q .calls) → q .fp ≤ mp → mp ≤ length m
-      → Steady A (sized q place mp) m n
-  intact-sized n place mp i l r =
+      → ((a : ℕ) → protects A q m a ≡ true → read n a ≡ read m a) → Steady A q (sized q place mp) m n
+  intact-sized n place mp i l r p =
       record {
         size = i .size;
         word0 = i .word0 ∙ F .word0;
@@ -66,13 +68,14 @@ module _ (A : Areas) (q : Registers) (m s : List ℕ) (F : Fitting A q m s) wher
         within = r;
         depth = F .depth;
         links = i .links ∙ F .links;
+        spared = p;
       }
 
   pub sized-keeps : (gone : ℕ) (push : Push) (place mp : ℕ) → q .fp ≤ mp → mp ≤ length m
-      → Keeps A m (Go gone push NoWrite (sized q place mp))
-  sized-keeps gone push place mp l r = λ vs. intact-sized m place mp (intact-none m (framesStart A) (q .fp) (q .calls)) l r
+      → Keeps A q m (Go gone push NoWrite (sized q place mp))
+  sized-keeps gone push place mp l r = λ vs. intact-sized m place mp (intact-none m (framesStart A) (q .fp) (q .calls)) l r (λ a p. refl)
 
-  pub moved-keeps : (gone : ℕ) (push : Push) (place : ℕ) → Keeps A m (Go gone push NoWrite (moved q place))
+  pub moved-keeps : (gone : ℕ) (push : Push) (place : ℕ) → Keeps A q m (Go gone push NoWrite (moved q place))
   moved-keeps gone push place = sized-keeps gone push place (q .mp) (F .frame) (F .within)
 
   apart : (a b : Bool) → (a || b) ≡ false → (a ≡ false) × (b ≡ false)
@@ -86,16 +89,30 @@ module _ (A : Areas) (q : Registers) (m s : List ℕ) (F : Fitting A q m s) wher
       let u = apart (leb (constantsStart A) a && ltb a (framesStart A)) (isLink m (q .fp) (q .calls) a) (t .1) in
       (ltb-false a 3 (t .0), u .1)
 
+  -- A protected word is another than one that is not, and lies below FP.
+  other : (a b : ℕ) → protects A q m a ≡ true → protects A q m b ≡ false → a ≡ b → ⊥
+  other a b p h e = let z : _≡_ {A = Bool} true false = sym p ∙ (rw e h) in let w : _≡_ {A = ℕ} 0 1 = cc in absurd (omega arith)
+
+  low : (a : ℕ) → protects A q m a ≡ true → a < q .fp
+  low a p = by (ltb a (q .fp)) refl
+    where
+      by : (t : Bool) → ltb a (q .fp) ≡ t → a < q .fp
+      by true e = ltb-true a (q .fp) e
+      by false e =
+          let z : _≡_ {A = Bool} true false = sym p ∙ free-above A q m a (F .links) (ltb-false a (q .fp) e) in
+          let w : _≡_ {A = ℕ} 0 1 = cc in
+          absurd (omega arith)
+
   -- A store to an address that is not protected.
   pub stored-keeps : (a x gone : ℕ) (push : Push) (place : ℕ) → protects A q m a ≡ false
-      → Keeps A m (Go gone push (WriteOne a x) (moved q place))
+      → Keeps A q m (Go gone push (WriteOne a x) (moved q place))
   stored-keeps a x gone push place h =
       let t = free-link a h in
       λ vs. intact-sized (set m a x) place (q .mp) (stored-one m (framesStart A) (q .fp) (q .calls) a x (F .links) (t .1) (t .0))
-      (F .frame) (F .within)
+      (F .frame) (F .within) (λ b p. getD-set-other m a b x 0 (other b a p h))
 
   stored-two : (a x y gone : ℕ) (push : Push) (place : ℕ) → protects A q m a ≡ false → protects A q m (a + 1) ≡ false
-      → Keeps A m (Go gone push (WriteTwo a x y) (moved q place))
+      → Keeps A q m (Go gone push (WriteTwo a x y) (moved q place))
   stored-two a x y gone push place h k =
       let t = free-link a h in
       let u = free-link (a + 1) k in
@@ -105,16 +122,17 @@ module _ (A : Areas) (q : Registers) (m s : List ℕ) (F : Fitting A q m s) wher
       stored-one (set m a x) (framesStart A) (q .fp) (q .calls) (a + 1) y (one .links ∙ F .links) (one .same (a + 1) ∙ u .1)
       (omega arith) in
       λ vs. rw (← native.Mathlib.Numerals.add-one a) (intact-sized (set (set m a x) (a + 1) y) place (q .mp)
-      (intact-then m (set m a x) (set (set m a x) (a + 1) y) (framesStart A) (q .fp) (q .calls) one two) (F .frame) (F .within))
+      (intact-then m (set m a x) (set (set m a x) (a + 1) y) (framesStart A) (q .fp) (q .calls) one two) (F .frame) (F .within)
+      (λ b p. getD-set-other (set m a x) (a + 1) b y 0 (other b (a + 1) p k) ∙ getD-set-other m a b x 0 (other b a p h)))
 
-  pub storable-keeps : (a : ℕ) (mode : Mode) (e : Effect) → (protectsAny A q m a mode ≡ false → Keeps A m e)
-      → Keeps A m (storable A q m a mode e)
+  pub storable-keeps : (a : ℕ) (mode : Mode) (e : Effect) → (protectsAny A q m a mode ≡ false → Keeps A q m e)
+      → Keeps A q m (storable A q m a mode e)
   storable-keeps a mode e h =
-      keeps-cond A m (live q a (wordsIn mode)) (cond (protectsAny A q m a mode) (Trap 33) e) (Trap 32)
-      (λ l. keeps-cond A m (protectsAny A q m a mode) (Trap 33) e (λ p. tt) h) (λ l. tt)
+      keeps-cond A q m (live q a (wordsIn mode)) (cond (protectsAny A q m a mode) (Trap 33) e) (Trap 32)
+      (λ l. keeps-cond A q m (protectsAny A q m a mode) (Trap 33) e (λ p. tt) h) (λ l. tt)
 
   pub mode-keeps : (a : ℕ) (mode : Mode) (x y gone : ℕ) (push : Push) (place : ℕ) → protectsAny A q m a mode ≡ false
-      → Keeps A m (Go gone push (stored a mode x y) (moved q place))
+      → Keeps A q m (Go gone push (stored a mode x y) (moved q place))
   mode-keeps a Normal x y gone push place h = stored-keeps a x gone push place h
   mode-keeps a Double x y gone push place h =
       let t = apart (protects A q m a) (protects A q m (a + 1)) h in
@@ -122,14 +140,15 @@ module _ (A : Areas) (q : Registers) (m s : List ℕ) (F : Fitting A q m s) wher
 
   -- Words stored from MP on, and MP moved past them.
   pub entered-keeps : (gone : ℕ) (push : Push) (place mp : ℕ) → q .fp ≤ mp → mp ≤ length m
-      → Keeps A m (Go gone push (WriteGone (q .mp)) (sized q place mp))
+      → Keeps A q m (Go gone push (WriteGone (q .mp)) (sized q place mp))
   entered-keeps gone push place mp l r =
       λ vs. intact-sized (sets m (q .mp) vs) place mp
       (stored-above m (framesStart A) (q .fp) (q .calls) (q .mp) vs (F .links) (omega arith) (F .frame)) l r
+      (λ b p. sets-under m (q .mp) vs b (omega (arith, low b p, F .frame)))
 
   -- CALL: the new frame's links are its own two words.
   pub called-keeps : (gone : ℕ) (push : Push) (next entry : ℕ) → q .calls < 64 → q .mp + 2 ≤ length m
-      → Keeps A m (Go gone push (WriteTwo (q .mp) (q .fp) next) (called q entry))
+      → Keeps A q m (Go gone push (WriteTwo (q .mp) (q .fp) next) (called q entry))
   called-keeps gone push next entry c r =
       let n : List ℕ = sets m (q .mp) (q .fp ∷ next ∷ []) in
       let i : Intact m n (framesStart A) (q .fp) (q .calls) =
@@ -149,10 +168,11 @@ module _ (A : Areas) (q : Registers) (m s : List ℕ) (F : Fitting A q m s) wher
         within = r;
         depth = omega arith;
         links = rw (k, saved, le-leb (q .fp + 2) (q .mp + 2) (omega (arith, F .frame))) (i .links ∙ F .links);
+        spared = λ b p. sets-under m (q .mp) (q .fp ∷ next ∷ []) b (omega (arith, low b p, F .frame));
       }
 
   -- RTN: the frame below.
-  pub returned-keeps : (gone : ℕ) (push : Push) → (q .calls ≡ 0 → ⊥) → Keeps A m (Go gone push NoWrite (returned q m))
+  pub returned-keeps : (gone : ℕ) (push : Push) → (q .calls ≡ 0 → ⊥) → Keeps A q m (Go gone push NoWrite (returned q m))
   returned-keeps gone push c =
       let k : q .calls ≡ suc (q .calls - 1) = omega arith in
       let h : chained m (framesStart A) (q .fp) (suc (q .calls - 1)) ≡ true = rw k at (F .links) in
@@ -167,4 +187,5 @@ module _ (A : Areas) (q : Registers) (m s : List ℕ) (F : Fitting A q m s) wher
         within = omega (arith, F .frame, F .within);
         depth = omega (arith, F .depth);
         links = chain-rest m (framesStart A) (q .fp) (q .calls - 1) h;
+        spared = λ b p. refl;
       }

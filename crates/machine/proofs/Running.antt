@@ -61,7 +61,7 @@ module _ (code : List ℕ) (budget : ℕ) (M₀ : Machine) (m₀ s₀ : List ℕ
     pub went : r .outcome ≡ Went → length m′ ≡ length m → length s′ ≡ length s
         → Running code budget M₀ m₀ s₀ (r .machine) m′ s′ (steps + 1)
     went o k l =
-        let H : Holds (M .areas) (after r m′ s′) =
+        let H : Holds (M .areas) (M .registers) m (after r m′ s′) =
         rw e (step-holds code M m s (fitting (M .areas) (M .registers) m s (R .fit))) in
         record {
           count = omega arith;

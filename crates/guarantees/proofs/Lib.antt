@@ -1,0 +1,3 @@
+-- The guarantees, proved.
+pub mod Refusals
+pub mod Steps

@@ -1,0 +1,2 @@
+-- What load, step and run guarantee.
+pub mod Guarantees
