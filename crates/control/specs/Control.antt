@@ -2,7 +2,7 @@
 -- instruction's own first byte", which is at PC.
 use mathlib.Core.Bool.{Bool, cond, _&&_, _||_}
 use mathlib.Core.List.{List}
-use Prim.Native.Nat.{ℕ, _+_, _-_, _%_}
+use Prim.Native.Nat.{ℕ, _+_, _-_}
 use lib.Dec.{eqb, leb, ltb}
 use lib.IntN.{ℤ, pos}
 use lib.ListN.{length}
@@ -10,7 +10,8 @@ use lib.Signed.{ltZ}
 use mir.Syntax.{w32}
 use mir.Val.{toZ}
 use Rattle.record.specs.Entries.{entryAt, entryCount}
-use Rattle.opcode.specs.Switch.{exitDistance, elseDistance, branchDistance, searchDistance}
+use Rattle.opcode.specs.Distance.{placeAt}
+use Rattle.opcode.specs.Switch.{exitDistance, elseDistance, branchDistance, searchDistance, orElse}
 use Rattle.opcode.specs.declared.instruction.Mode.the-variants.{Normal}
 use Rattle.opcode.specs.declared.instruction.Arithmetic.the-variants.{Add}
 use Rattle.operate.specs.Arithmetic.{signedValue}
@@ -26,10 +27,8 @@ use Rattle.effect.specs.Memory.{read, live, protects}
 use Rattle.effect.specs.Words.{moved, sized, called, returned}
 use Rattle.effect.specs.Data.{boolean, storable}
 
--- The place at a distance, d being the word of a signed or an unsigned one: a sum modulo 2^32. A place before the code is then
--- above every code size.
 abbrev pub jumped : Registers → ℕ → ℕ
-jumped q d = (q .pc + d) % 0x1_0000_0000
+jumped q d = placeAt (q .pc) d
 
 -- JUMP.
 unfoldable pub jumps : Registers → ℕ → Effect
@@ -80,10 +79,7 @@ branched code q d = Go 1 (PushOne (q .pc + exitDistance code (q .pc))) NoWrite (
 unfoldable pub switches : List ℕ → Registers → ℕ → ℕ → Effect
 switches code q n x = branched code q (cond (leb x n) (branchDistance code (q .pc) x) (elseDistance code (q .pc)))
 
--- SWITCH_X: if D = 0 then PC := PC + E, else PC := PC + D.
-abbrev pub orElse : ℕ → ℕ → ℕ
-orElse d e = cond (eqb d 0) e d
-
+-- SWITCH_X.
 unfoldable pub searches : List ℕ → Registers → ℕ → ℕ → Effect
 searches code q n x = branched code q (orElse (searchDistance code (q .pc) n x) (elseDistance code (q .pc)))
 

@@ -11,6 +11,7 @@ use Rattle.opcode.specs.declared.instruction.Base.{Base}
 use Rattle.opcode.specs.declared.instruction.Base.the-variants.{Local, Global, Constant, Popped}
 use Rattle.operate.specs.declared.Value.{Value}
 use Rattle.operate.specs.declared.Value.the-variants.{Word, Trap}
+use Rattle.shape.specs.Counts.{wordsIn}
 use Rattle.effect.specs.declared.registers.Registers.{Registers}
 use Rattle.effect.specs.declared.effect.Push.{Push}
 use Rattle.effect.specs.declared.effect.Push.the-variants.{NoPush, PushOne, PushTwo}
@@ -19,8 +20,8 @@ use Rattle.effect.specs.declared.effect.Write.the-variants.{NoWrite, Wri
 use Rattle.effect.specs.declared.effect.Effect.{Effect}
 use Rattle.effect.specs.declared.effect.Effect.the-variants.{Trap as trap, Go}
 use Rattle.effect.specs.declared.registers.Areas.{Areas}
-use Rattle.effect.specs.Memory.{read, wordsIn, live, protectsAny}
-use Rattle.effect.specs.Words.{popped, moved, sized}
+use Rattle.effect.specs.Memory.{read, live, protectsAny}
+use Rattle.effect.specs.Words.{moved, sized}
 
 -- What an offset is counted from: FP; GP; CONST_ADR, "MEMORY(GP-1)"; or the address a of POP (A).
 abbrev pub baseOf : Registers → List ℕ → ℕ → Base → ℕ

@@ -14,11 +14,6 @@ use Rattle.opcode.specs.declared.instruction.Mode.the-variants.{Normal, Double}
 abbrev pub read : List ℕ → ℕ → ℕ
 read m a = getD m a 0
 
--- How many words an access moves.
-abbrev pub wordsIn : Mode → ℕ
-wordsIn Normal = 1
-wordsIn Double = 2
-
 -- n words from a on are live. 01: "An address is live when below MP"; "An address sum past 32 bits is not live": MP is a word;
 -- "For two words both must be live".
 unfoldable pub live : Registers → ℕ → ℕ → Bool

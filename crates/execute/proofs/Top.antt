@@ -10,10 +10,10 @@ use Rattle.opcode.specs.declared.instruction.Mode.the-variants.{Normal, Double}
 use Rattle.opcode.specs.declared.instruction.Base.{Base}
 use Rattle.opcode.specs.declared.instruction.Base.the-variants.{Local, Global, Constant, Popped}
 use Rattle.opcode.specs.declared.instruction.Instruction.the-variants.{Store, Iter, Next}
+use Rattle.shape.specs.Counts.{popped, wordsIn}
 use Rattle.effect.specs.declared.registers.Registers.{Registers}
 use Rattle.effect.specs.Program.{Program}
-use Rattle.effect.specs.Memory.{read, wordsIn}
-use Rattle.effect.specs.Words.{popped}
+use Rattle.effect.specs.Memory.{read}
 use Rattle.effect.specs.Data.{baseOf, storeTo}
 use Rattle.execute.specs.Depth.{top, storedEffect, iteratedEffect, repeatedEffect}
 use Rattle.execute.specs.Execute.{execute}
@@ -71,14 +71,3 @@ next-found P q m s next l =
       found s (q .height) 5 3 l (omega arith),
       found s (q .height) 5 4 l (omega arith),
     )
-
--- An access moves one word or two, and pops at most an address besides.
-pub popped-small : (base : Base) → popped base ≤ 1
-popped-small Local = omega arith
-popped-small Global = omega arith
-popped-small Constant = omega arith
-popped-small Popped = omega arith
-
-pub words-small : (mode : Mode) → (1 ≤ wordsIn mode) × (wordsIn mode ≤ 2)
-words-small Normal = (omega arith, omega arith)
-words-small Double = (omega arith, omega arith)

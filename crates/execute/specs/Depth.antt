@@ -5,11 +5,11 @@ use Prim.Native.Nat.{ℕ, _+_, _-_}
 use lib.ListN.{take, drop}
 use Rattle.opcode.specs.declared.instruction.Mode.{Mode}
 use Rattle.opcode.specs.declared.instruction.Base.{Base}
+use Rattle.shape.specs.Counts.{popped, wordsIn}
 use Rattle.effect.specs.declared.registers.Registers.{Registers}
 use Rattle.effect.specs.declared.registers.Areas.{Areas}
 use Rattle.effect.specs.declared.effect.Effect.{Effect}
-use Rattle.effect.specs.Memory.{read, wordsIn}
-use Rattle.effect.specs.Words.{popped}
+use Rattle.effect.specs.Memory.{read}
 use Rattle.effect.specs.Data.{baseOf, storeTo}
 use Rattle.control.specs.Control.{iterates, repeats}
 

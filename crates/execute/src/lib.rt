@@ -1,10 +1,10 @@
-// What an instruction does: the stack words that it finds, and its effect.
+// What an instruction does with the stack words that it finds.
 ghost use mathlib.Core.Path.{_≡_};
 ghost use mathlib.Core.Bool.{true};
 ghost use Prim.Native.Nat.{_≤_, _<_, _+_, _-_};
 ghost use lib.ListN.{length};
-ghost use Rattle.effect.specs.Memory.{read, wordsIn};
-ghost use Rattle.effect.specs.Words.{popped, needed};
+ghost use Rattle.shape.specs.Counts.{popped, needed};
+ghost use Rattle.effect.specs.Memory.{read};
 ghost use Rattle.effect.specs.Data.{baseOf, loadFrom, addressOf, storeTo};
 ghost use Rattle.control.specs.Control.{iterates, repeats};
 ghost use Rattle.execute.specs.Execute.{execute};
@@ -21,64 +21,6 @@ use effect::registers::Registers;
 use opcode::instruction::Base;
 use opcode::instruction::Instruction;
 use opcode::instruction::Mode;
-
-fn popped_words(base: Base) -> u32
-    ensures { λ n. ⌜ n ≡ popped base ⌝ }
-{
-    match base {
-        Base::Local => 0,
-        Base::Global => 0,
-        Base::Constant => 0,
-        Base::Popped => 1,
-    }
-}
-
-fn words_in(mode: Mode) -> u32
-    ensures { λ n. ⌜ n ≡ wordsIn mode ⌝ }
-{
-    match mode {
-        Mode::Normal => 1,
-        Mode::Double => 2,
-    }
-}
-
-// The number of stack words that an instruction finds.
-pub fn needed_words(i: Instruction) -> u32
-    ensures { λ n. ⌜ n ≡ needed i ⌝ }
-{
-    match i {
-        Instruction::LoadConstant(_) => 0,
-        Instruction::Load(base, _, _) => popped_words(base),
-        Instruction::LoadAddress(base, _) => popped_words(base),
-        Instruction::Store(base, mode, _) => popped_words(base) + words_in(mode),
-        Instruction::Pop(n) => n,
-        Instruction::Swap => 2,
-        Instruction::Nop => 0,
-        Instruction::Signed(_) => 2,
-        Instruction::Unsigned(_) => 2,
-        Instruction::Negate => 1,
-        Instruction::Equal => 2,
-        Instruction::NotEqual => 2,
-        Instruction::CompareSigned(_) => 2,
-        Instruction::CompareUnsigned(_) => 2,
-        Instruction::Set(_) => 2,
-        Instruction::Not => 1,
-        Instruction::Alloc => 1,
-        Instruction::Free => 1,
-        Instruction::Jump(_) => 0,
-        Instruction::JumpC(_) => 1,
-        Instruction::JumpT(_) => 1,
-        Instruction::JumpF(_) => 1,
-        Instruction::Iter(_) => 4,
-        Instruction::Next => 5,
-        Instruction::Switch(_) => 1,
-        Instruction::SwitchX(_) => 1,
-        Instruction::Leave => 1,
-        Instruction::Call(_) => 0,
-        Instruction::Enter(parameters, _) => parameters,
-        Instruction::Rtn => 0,
-    }
-}
 
 // The stack word at a depth, 1 being the top.
 fn stack_word(s: &[u32], height: u32, depth: u32) -> u32
@@ -103,7 +45,7 @@ fn load_effect(
     ensures { λ e. ⌜ e ≡ loadFrom q (now (m .entry)) next (popped base) mode (baseOf q (now (m .entry)) top base + offset) ⌝ }
 {
     let a = (data::base_of(q, m, top, base) as usize) + (offset as usize);
-    data::load_from(q, m, next, popped_words(base), mode, a)
+    data::load_from(q, m, next, shape::popped_words(base), mode, a)
 }
 
 // LOAD_A_L, _G, _T, _F.
@@ -111,7 +53,7 @@ fn address_effect(q: Registers, m: &[u32], next: u32, top: u32, base: Base, offs
     ensures { λ e. ⌜ e ≡ addressOf q next (popped base) (baseOf q (now (m .entry)) top base + offset) ⌝ }
 {
     let a = (data::base_of(q, m, top, base) as usize) + (offset as usize);
-    data::address_of(q, next, popped_words(base), a)
+    data::address_of(q, next, shape::popped_words(base), a)
 }
 
 // STOR_L, _G, _F: the address, if it is popped, lies below the words.
@@ -128,8 +70,8 @@ fn store_effect(
     requires { ⌜ chained (now m) (framesStart areas) (q .fp) (q .calls) ≡ true ⌝ }
     ensures { λ e. ⌜ e ≡ storedEffect areas q (now (m .entry)) (now (s .entry)) next base mode offset ⌝ }
 {
-    let words = words_in(mode);
-    let gone = popped_words(base) + words;
+    let words = shape::words_in(mode);
+    let gone = shape::popped_words(base) + words;
     let popped = stack_word(s, q.height, gone);
     let a = (data::base_of(q, m, popped, base) as usize) + (offset as usize);
     let x = stack_word(s, q.height, words);

@@ -11,6 +11,7 @@ use lib.Seq.{sets, getD-set-same, getD-set-other}
 use borrow.Author.Tests.{ltb-true, ltb-false, leb-true, leb-false, eqb-false, le-leb}
 use Rattle.opcode.specs.declared.instruction.Mode.{Mode}
 use Rattle.opcode.specs.declared.instruction.Mode.the-variants.{Normal, Double}
+use Rattle.shape.specs.Counts.{wordsIn}
 use Rattle.effect.specs.declared.effect.Effect.{Effect}
 use Rattle.effect.specs.declared.effect.Effect.the-variants.{Trap, Finish, Go}
 use Rattle.effect.specs.declared.effect.Push.{Push}
@@ -19,7 +20,7 @@ use Rattle.effect.specs.declared.effect.Write.the-variants.{NoWrite, WriteOne, 
 use Rattle.effect.specs.declared.registers.Areas.{Areas}
 use Rattle.effect.specs.declared.registers.Registers.{Registers}
 use Rattle.effect.specs.Program.{constantsStart, framesStart}
-use Rattle.effect.specs.Memory.{read, savedFp, isLink, chained, live, protects, protectsAny, wordsIn}
+use Rattle.effect.specs.Memory.{read, savedFp, isLink, chained, live, protects, protectsAny}
 use Rattle.effect.specs.Words.{moved, sized, called, returned}
 use Rattle.effect.specs.Data.{storable, stored}
 use Rattle.effect.proofs.Links.{chain-lower, chain-rest}

@@ -21,6 +21,7 @@ use Rattle.opcode.specs.declared.instruction.Mode.the-variants.{Normal}
 use Rattle.operate.specs.Arithmetic.{signedValue, unsignedValue, negatedValue}
 use Rattle.operate.specs.declared.Value.{Value}
 use Rattle.operate.specs.declared.Value.the-variants.{Word, Trap as Stop}
+use Rattle.shape.specs.Counts.{needed, popped, wordsIn}
 use Rattle.effect.specs.declared.effect.Effect.{Effect}
 use Rattle.effect.specs.declared.effect.Effect.the-variants.{Trap, Finish, Go}
 use Rattle.effect.specs.declared.effect.Push.{Push}
@@ -29,8 +30,8 @@ use Rattle.effect.specs.declared.effect.Write.the-variants.{NoWrite, WriteOne, 
 use Rattle.effect.specs.declared.registers.Areas.{Areas}
 use Rattle.effect.specs.declared.registers.Registers.{Registers}
 use Rattle.effect.specs.Program.{program, framesStart}
-use Rattle.effect.specs.Memory.{read, live, protects, wordsIn}
-use Rattle.effect.specs.Words.{needed, popped, pushes, moved, sized, raised, called, returned}
+use Rattle.effect.specs.Memory.{read, live, protects}
+use Rattle.effect.specs.Words.{pushes, moved, sized, raised, called, returned}
 use Rattle.effect.specs.Data.{baseOf, loaded, stored, loadFrom, addressOf, storeTo, valued, inverted, allocated, freed}
 use Rattle.control.specs.Control.{jumped, jumps, jumpsIfFalse, jumpsKeeping, beyond, iterates, nextSum, wentRound, summed, repeats, switches, searches, calls, enters, returns}
 use Rattle.execute.specs.Depth.{top}

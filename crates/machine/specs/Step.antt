@@ -10,6 +10,7 @@ use lib.Seq.{sets}
 use Rattle.opcode.specs.Decode.{decodeAt}
 use Rattle.opcode.specs.declared.Decoded.{Decoded}
 use Rattle.opcode.specs.declared.Decoded.the-variants.{Unserved, Past, At}
+use Rattle.shape.specs.Counts.{needed}
 use Rattle.effect.specs.declared.effect.Push.{Push}
 use Rattle.effect.specs.declared.effect.Push.the-variants.{NoPush, PushOne, PushTwo}
 use Rattle.effect.specs.declared.effect.Write.{Write}
@@ -18,7 +19,7 @@ use Rattle.effect.specs.declared.effect.Effect.{Effect}
 use Rattle.effect.specs.declared.effect.Effect.the-variants.{Trap, Finish, Go}
 use Rattle.effect.specs.declared.registers.Registers.{Registers}
 use Rattle.effect.specs.Program.{program}
-use Rattle.effect.specs.Words.{needed, pushes, raised}
+use Rattle.effect.specs.Words.{pushes, raised}
 use Rattle.execute.specs.Depth.{top}
 use Rattle.execute.specs.Execute.{execute}
 use Rattle.machine.specs.declared.step.Machine.{Machine}

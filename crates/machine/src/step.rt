@@ -180,7 +180,7 @@ impl Machine {
             Decoded::Unserved => self.trapped(20),
             Decoded::Past => self.trapped(21),
             Decoded::At(i, next) => {
-                if q.height < execute::needed_words(i) {
+                if q.height < shape::needed_words(i) {
                     return self.trapped(22);
                 }
                 let e = execute::effect_of(code, areas, q, memory, stack, next as u32, i);

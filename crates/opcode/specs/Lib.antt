@@ -3,4 +3,5 @@ pub mod Operand
 pub mod Table
 pub mod Length
 pub mod Decode
+pub mod Distance
 pub mod Switch

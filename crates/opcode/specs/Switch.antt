@@ -3,6 +3,7 @@
 use mathlib.Core.Bool.{Bool, cond, _&&_}
 use mathlib.Core.List.{List}
 use Prim.Native.Nat.{ℕ, zero, suc, _+_, _*_}
+use lib.Dec.{eqb}
 use lib.Signed.{leZ}
 use mir.Syntax.{w32}
 use mir.Val.{toZ}
@@ -39,3 +40,7 @@ searchFrom code at x k (suc n) = cond (rangeHolds code at k x) (rangeDistance co
 
 unfoldable pub searchDistance : List ℕ → ℕ → ℕ → ℕ → ℕ
 searchDistance code at n x = searchFrom code at x 0 n
+
+-- SWITCH_X: if D = 0 then PC := PC + E, else PC := PC + D.
+abbrev pub orElse : ℕ → ℕ → ℕ
+orElse d e = cond (eqb d 0) e d

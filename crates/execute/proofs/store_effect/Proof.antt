@@ -2,7 +2,7 @@
 use native.Mathlib.Omega.{arith}
 use borrow.Author.Needs.{needs}
 use Rattle.execute.proofs.store_effect.Statement.{statement}
-use Rattle.execute.proofs.Top.{popped-small, words-small}
+use Rattle.shape.proofs.Counting.{popped-small, words-small}
 use Rattle.execute.proofs.store_effect.Tie as tie
 
 words-in-requires : tie.Need-words-in-requires

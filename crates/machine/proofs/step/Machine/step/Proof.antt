@@ -4,10 +4,10 @@ use native.Mathlib.Omega.{arith}
 use lib.ListN.{length}
 use borrow.Author.Needs.{needs}
 use borrow.Author.Tests.{lt-ltb, le-ltb}
+use Rattle.shape.specs.Counts.{needed}
 use Rattle.machine.proofs.step.Machine.step.Statement.{statement}
 use Rattle.machine.specs.Step.{stepOf, performed}
 use Rattle.machine.proofs.Fitting.{fitting, decoded-within}
-use Rattle.effect.specs.Words.{needed}
 use Rattle.machine.proofs.step.Machine.step.Tie as tie
 
 cast-decode : tie.Need-cast-decode

@@ -1,9 +1,9 @@
--- `execute::needed_words` meets its contract, instruction by instruction.
+-- `shape::needed_words` meets its contract, instruction by instruction.
 use native.Mathlib.Omega.{arith}
 use borrow.Author.Needs.{needs}
-use Rattle.execute.proofs.needed_words.Statement.{statement}
-use Rattle.execute.proofs.Top.{popped-small, words-small}
-use Rattle.execute.proofs.needed_words.Tie as tie
+use Rattle.shape.proofs.needed_words.Statement.{statement}
+use Rattle.shape.proofs.Counting.{popped-small, words-small}
+use Rattle.shape.proofs.needed_words.Tie as tie
 
 enum-told : tie.Need-enum-told
 enum-told c = search needs

@@ -1,0 +1,2 @@
+-- Laws about the stack words that an instruction finds.
+pub mod Counting
