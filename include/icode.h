@@ -17,6 +17,20 @@ uint32_t icode_record_number(const uint8_t *record, size_t record_len);
  * 0. The line is also 0 before the first pair of the source table and outside the code. */
 uint64_t icode_line(const uint8_t *record, size_t record_len, uint32_t offset);
 
+/* Checks a record before it runs. results has one byte for each procedure, from 0 on: how many result words it leaves, 0 to 2, and 0
+ * for procedure 0. Answers 0 where the record is accepted, else the lowest number that refuses it:
+ *   1 to 7    as above,
+ *   8         the workspace has under four halfwords for each code byte,
+ *   9         the results list has a wrong length or content,
+ *   10 to 14  the code is not cut into served instructions that are in order,
+ *   15        some procedure has no stack picture.
+ * Up to 9 the workspace stays as it was. Else its first four halfwords for each code byte are written: all 0 for 10 to 15; for 0, at
+ * byte i, workspace[4 * i] is the height of the procedure's share of the stack there plus 1 (0 where the picture has nothing),
+ * workspace[4 * i + 1] is 1 plus the offset of the ITER or SWITCH that pushed its topmost label (0 where there is no label), and the
+ * other two are 0. What lies past that is not written. */
+uint32_t icode_check(const uint8_t *record, size_t record_len, const uint8_t *results, size_t results_len, uint16_t *workspace,
+                     size_t workspace_len);
+
 /* For tests: decodes the instruction at a place of the code, which has to end at or before the limit. Bytes past code_len count as 0.
  * Answers the first of these that holds:
  *   8   out_len is not 5,

@@ -2,6 +2,7 @@
 ghost use mathlib.Core.Path.{_≡_};
 ghost use Rattle.record.specs.Number.{recordNumber, lineOf};
 ghost use Rattle.opcode.specs.Decode.{decodeAt};
+ghost use Rattle.verifier.specs.Check.{checking, checkOf};
 ghost use Rattle.icode.specs.Interface.{lineCode, decoding, decodeReply};
 
 pub mod bench;
@@ -25,6 +26,13 @@ pub extern "C" fn icode_line(bytes: &[u8], offset: u32) -> u64
         Line::Refused(number) => (number as u64) * 0x1_0000_0000,
         Line::At(line) => line as u64,
     }
+}
+
+#[no_mangle]
+pub extern "C" fn icode_check(bytes: &[u8], results: &[u8], workspace: &mut [u16]) -> u32
+    ensures { λ n. ⌜ checking n (now (workspace .exit)) ≡ checkOf (now (bytes .entry)) (now (results .entry)) (now (workspace .entry)) ⌝ }
+{
+    verifier::check::check(bytes, results, workspace)
 }
 
 // For the tests: the instruction at a place of the code, within a limit.

@@ -1,0 +1,3 @@
+-- Laws about heights and topmost labels.
+pub mod Origins
+pub mod Lowering

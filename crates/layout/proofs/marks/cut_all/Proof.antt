@@ -1,0 +1,86 @@
+-- `marks::cut_all` meets its contract: each turn marks a region, and what is left decides. The measure is the procedures left.
+use Prim.Native.Nat.{_-_}
+use mathlib.Core.Path.{_∙_}
+use native.Mathlib.Omega.{arith}
+use borrow.Author.Needs.{needs}
+use Rattle.layout.proofs.marks.cut_all.Statement.{statement}
+use Rattle.layout.proofs.Bounds.{count-below}
+use Rattle.layout.proofs.Turns.{Regions, regions-start, regions-last, regions-bad, regions-next}
+use Rattle.layout.proofs.marks.cut_all.Tie as tie
+
+abbrev Inv-loop : tie.InvT-loop
+Inv-loop code w₀ count p₀ w p = Regions code w₀ w p
+
+abbrev μ-loop : tie.MeasureT-loop
+μ-loop code w₀ count p₀ w p = count - p
+
+entry-count-requires : tie.Need-entry-count-requires Inv-loop μ-loop
+entry-count-requires c κs = search needs
+
+loop-holds : tie.Need-loop-holds Inv-loop μ-loop
+loop-holds c = regions-start (c .before .before .before .args .code .now) (c .before .before .before .args .w .now)
+
+cut-region-requires : tie.Need-cut-region-requires Inv-loop μ-loop
+cut-region-requires c κs =
+    let bytes = c .before .before .before .before .before .shared-slice-known in
+    let below = count-below (c .before .before .before .before .before .before .args .code .now) (λ k. omega (arith, bytes .given k)) in
+    (c .before .before .before .before .before .before .pre, omega (arith, c .before .before .before .entry-count .ensures, c .before .loop-test .taken))
+
+same-length : tie.Need-same-length Inv-loop μ-loop
+same-length c = search needs
+
+returns : tie.Need-returns Inv-loop μ-loop
+returns c =
+    let a = c .before .before .before .before .before .before .before .before .before .before .args in
+    let l = c .before .before .before .before .before .before .loop in
+    let r = c .before .before .before .cut-region in
+    regions-bad (a .code .now) (a .w .now) (l .w) (l .p) (l .inv)
+    (rw (c .before .before .before .before .before .before .before .entry-count .ensures) at (c .before .before .before .before .before .loop-test .taken))
+    (r .result) _ (r .ensures) (c .if1 .taken)
+
+add-p : tie.Need-add-p Inv-loop μ-loop
+add-p c = search needs
+
+loop-less : tie.Need-loop-less Inv-loop μ-loop
+loop-less c = search needs
+
+loop-again : tie.Need-loop-again Inv-loop μ-loop
+loop-again c =
+    let a = c .before .before .before .before .before .before .before .before .before .before .args in
+    let l = c .before .before .before .before .before .before .loop in
+    let r = c .before .before .before .cut-region in
+    regions-next (a .code .now) (a .w .now) (l .w) (l .p) (l .inv)
+    (rw (c .before .before .before .before .before .before .before .entry-count .ensures) at (c .before .before .before .before .before .loop-test .taken))
+    (r .result) _ (r .ensures) (c .if1 .left) (r .kept .1 .1 .0)
+
+cut-region-requires-2 : tie.Need-cut-region-requires-2 Inv-loop μ-loop
+cut-region-requires-2 c κs = search needs
+
+same-length-2 : tie.Need-same-length-2 Inv-loop μ-loop
+same-length-2 c = search needs
+
+returns-2 : tie.Need-returns-2 Inv-loop μ-loop
+returns-2 c =
+    let a = c .before .before .before .before .before .before .before .before .before .args in
+    let l = c .before .before .before .before .before .loop in
+    c .before .before .cut-region2 .ensures
+    ∙ regions-last (a .code .now) (a .w .now) (l .w) (l .p) (l .inv)
+    (rw (c .before .before .before .before .before .before .entry-count .ensures) at (c .before .before .before .before .loop-test .left))
+
+pub cut-all-spec : {M : Type 1} → statement M
+cut-all-spec =
+    tie.close
+    (tie.spec
+    Inv-loop
+    μ-loop
+    entry-count-requires
+    loop-holds
+    cut-region-requires
+    same-length
+    returns
+    add-p
+    loop-less
+    loop-again
+    cut-region-requires-2
+    same-length-2
+    returns-2)

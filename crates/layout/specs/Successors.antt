@@ -1,0 +1,46 @@
+-- Where control may go from an instruction. 01: "where NEXT goes round to and LEAVE goes is for the picture".
+use mathlib.Core.List.{List, [], _∷_}
+use Prim.Native.Nat.{ℕ, zero, suc, _+_}
+use Rattle.opcode.specs.Distance.{placeAt}
+use Rattle.opcode.specs.Switch.{exitDistance, elseDistance, branchDistance, rangeDistance, orElse}
+use Rattle.shape.specs.declared.Shape.{Shape}
+use Rattle.shape.specs.declared.Shape.the-variants.{Straight, Drop, Goto, Branch, Keep, Loop, Again, Select, Exit, Invoke, Begin, Return}
+use Rattle.shape.specs.declared.Table.{Table}
+use Rattle.shape.specs.declared.Table.the-variants.{Branches, Ranges}
+
+-- 01: "SWITCH has n+1 branches".
+abbrev pub tableSize : Table → ℕ → ℕ
+tableSize Branches n = n + 1
+tableSize Ranges n = n
+
+-- Where branch k goes; for SWITCH_X "distance 0 means ELSE".
+abbrev pub tableTarget : List ℕ → ℕ → Table → ℕ → ℕ
+tableTarget code at Branches k = at + branchDistance code at k
+tableTarget code at Ranges k = at + orElse (rangeDistance code at k) (elseDistance code at)
+
+abbrev pub tableFrom : List ℕ → ℕ → Table → ℕ → ℕ → List ℕ
+tableFrom code at t k zero = []
+tableFrom code at t k (suc n) = tableTarget code at t k ∷ tableFrom code at t (k + 1) n
+
+-- The label of a switch, where its LEAVE goes.
+abbrev pub exitLabel : List ℕ → ℕ → ℕ
+exitLabel code at = at + exitDistance code at
+
+-- The ELSE part, then every branch of the table.
+unfoldable pub selectTargets : List ℕ → ℕ → Table → ℕ → List ℕ
+selectTargets code at t n = (at + elseDistance code at) ∷ tableFrom code at t 0 (tableSize t n)
+
+-- The successors of the instruction at an offset, of a shape, before `next`; and the label of a switch.
+abbrev pub targets : List ℕ → ℕ → ℕ → Shape → List ℕ
+targets code at next (Straight pops pushes) = next ∷ []
+targets code at next (Drop n) = next ∷ []
+targets code at next (Goto d) = placeAt at d ∷ []
+targets code at next (Branch d) = next ∷ placeAt at d ∷ []
+targets code at next (Keep d) = next ∷ placeAt at d ∷ []
+targets code at next (Loop d) = next ∷ placeAt at d ∷ []
+targets code at next Again = next ∷ []
+targets code at next (Select t n) = exitLabel code at ∷ selectTargets code at t n
+targets code at next Exit = []
+targets code at next (Invoke p) = next ∷ []
+targets code at next (Begin par) = next ∷ []
+targets code at next Return = []

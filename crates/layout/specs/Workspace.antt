@@ -1,0 +1,75 @@
+-- How the code holds its marks in the workspace: four halfwords for each code byte, of which the fourth is the mark. The contracts
+-- of the functions that write are equations with these definitions; proofs/Marking joins them with `cutOf`.
+use mathlib.Core.Bool.{cond}
+use mathlib.Core.List.{List, [], _∷_}
+use Prim.Native.Nat.{ℕ, zero, suc, _+_, _-_, _*_}
+use lib.Dec.{eqb, ltb}
+use lib.ListN.{length, getD, set}
+use Rattle.words.specs.Refusal.{refusal, _when_}
+use Rattle.record.specs.Entries.{entryAt, entryCount, regionEnd}
+use Rattle.opcode.specs.Decode.{decodeAt}
+use Rattle.opcode.specs.declared.Decoded.{Decoded}
+use Rattle.opcode.specs.declared.Decoded.the-variants.{Unserved, Past, At}
+use Rattle.shape.specs.Shape.{shapeOf}
+use Rattle.shape.specs.declared.Shape.{Shape}
+use Rattle.layout.specs.Cut.{Marks}
+use Rattle.layout.specs.Faults.{strays, misplaced, uncallable}
+
+-- The marks that a workspace holds for so many code bytes.
+abbrev pub marksIn : List ℕ → ℕ → Marks
+marksIn w size at = cond (ltb at size) (getD w (4 * at + 3) 0) 0
+
+-- A number, 0 for none, and the workspace left with it.
+pub record Numbered : Type 0 where
+  pub number : ℕ
+  pub workspace : List ℕ
+
+abbrev pub numbered : ℕ → List ℕ → Numbered
+numbered n w = record { number = n; workspace = w }
+
+abbrev pub markAt : (ℕ → List ℕ → Numbered) → ℕ → ℕ → List ℕ → Decoded → Numbered
+markAt go p at w Unserved = numbered 10 w
+markAt go p at w Past = numbered 11 w
+markAt go p at w (At i next) = go next (set w (4 * at + 3) (p + 1))
+
+abbrev pub markFrom : List ℕ → ℕ → ℕ → ℕ → List ℕ → Numbered
+markFrom code p zero at w = numbered 0 w
+markFrom code p (suc n) at w =
+    cond (ltb at (regionEnd code p)) (markAt (markFrom code p n) p at w (decodeAt code (regionEnd code p) at)) (numbered 0 w)
+
+unfoldable pub markRegion : List ℕ → ℕ → List ℕ → Numbered
+markRegion code p w = markFrom code p (length code) (entryAt code p) w
+
+abbrev pub thenMark : (List ℕ → Numbered) → ℕ → List ℕ → Numbered
+thenMark go zero w = go w
+thenMark go (suc n) w = numbered (suc n) w
+
+abbrev pub markProcedures : List ℕ → ℕ → ℕ → List ℕ → Numbered
+markProcedures code p zero w = markRegion code 0 w
+markProcedures code p (suc n) w =
+    let a = markRegion code p w in
+    thenMark (markProcedures code (p + 1) n) (a .number) (a .workspace)
+
+unfoldable pub markAll : List ℕ → List ℕ → Numbered
+markAll code w = markProcedures code 1 (entryCount code - 1) w
+
+-- The lowest of 12 to 14 that one instruction gives, and the lower of two such numbers, 0 being none: how the code finds
+-- `codeNumber` in one pass.
+unfoldable pub faultOf : List ℕ → Marks → ℕ → ℕ → ℕ → Shape → ℕ
+faultOf code marks p at next s =
+    refusal
+    (12 when strays code marks p at next s
+    ∷ 13 when misplaced code p at next s
+    ∷ 14 when uncallable code p at next s
+    ∷ [])
+
+abbrev pub faultIn : List ℕ → Marks → ℕ → ℕ → Decoded → ℕ
+faultIn code marks p at Unserved = 0
+faultIn code marks p at Past = 0
+faultIn code marks p at (At i next) = faultOf code marks p at next (shapeOf i)
+
+unfoldable pub faultAt : List ℕ → Marks → ℕ → ℕ → ℕ
+faultAt code marks p at = faultIn code marks p at (decodeAt code (regionEnd code p) at)
+
+unfoldable pub lower : ℕ → ℕ → ℕ
+lower a b = cond (eqb a 0) b (cond (eqb b 0) a (cond (ltb b a) b a))

@@ -1,0 +1,62 @@
+// Cutting: every start gets its mark in the workspace.
+ghost use mathlib.Core.Path.{_≡_};
+ghost use Prim.Native.Nat.{_≤_, _<_};
+ghost use lib.ListN.{length};
+ghost use Rattle.layout.specs.Workspace.{marksIn, numbered, markRegion, markAll};
+use crate::workspace;
+use opcode::Decoded;
+use record::entries;
+
+// The mark of an offset, 0 outside of so many code bytes.
+pub fn mark_at(w: &[u16], size: usize, at: usize) -> u16
+    requires { ⌜ size ≤ 65535 ⌝ }
+    ensures { λ r. ⌜ r ≡ marksIn (now (w .entry)) size at ⌝ }
+{
+    if size <= at {
+        return 0;
+    }
+    workspace::half_at(w, 4 * at + 3)
+}
+
+// Procedure `p`'s region is cut end to end: 0, or 10 or 11 for a bad instruction.
+fn cut_region(code: &[u8], p: u32, w: &mut [u16]) -> u32
+    requires { ⌜ length (now code) ≤ 65535 ⌝ }
+    requires { ⌜ p < 65535 ⌝ }
+    ensures { λ n. ⌜ numbered n (now (w .exit)) ≡ markRegion (now (code .entry)) p (now (w .entry)) ⌝ }
+{
+    let limit = entries::region_end(code, p);
+    let mut at = entries::entry_at(code, p) as usize;
+    for _ in 0..code.len() {
+        if limit <= at {
+            return 0;
+        }
+        match opcode::decode(code, limit, at) {
+            Decoded::Unserved => {
+                return 10;
+            }
+            Decoded::Past => {
+                return 11;
+            }
+            Decoded::At(_, next) => {
+                workspace::set_half(w, 4 * at + 3, (p + 1) as u16);
+                at = next;
+            }
+        }
+    }
+    0
+}
+
+// All regions, in the order 1, 2, .., 0.
+pub fn cut_all(code: &[u8], w: &mut [u16]) -> u32
+    requires { ⌜ length (now code) ≤ 65535 ⌝ }
+    ensures { λ n. ⌜ numbered n (now (w .exit)) ≡ markAll (now (code .entry)) (now (w .entry)) ⌝ }
+{
+    let count = entries::entry_count(code);
+    for p in 1..count {
+        let number = cut_region(code, p, w);
+        if number != 0 {
+            return number;
+        }
+    }
+    cut_region(code, 0, w)
+}

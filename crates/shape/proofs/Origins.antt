@@ -1,0 +1,209 @@
+-- Where decoded shapes come from. A loop, a switch and a procedure's beginning are made by rows of their own in the tables of codes,
+-- none of which DOUBLE (F5) may stand before: the shape tells the first byte, and the first byte the row.
+use mathlib.Core.Bool.{Bool, true, false, cond, false≢true, _&&_, _||_}
+use mathlib.Core.Path.{_≡_, refl, ap}
+use mathlib.Core.List.{List, [], _∷_}
+use Prim.Native.Nat.{ℕ, _+_, _/_, _<_, _≤_}
+use native.Mathlib.Omega.{arith}
+use borrow.Author.Tests.{lt-ltb, le-leb, leb-true, eq-eqb, ne-eqb, eqb-true, eqb-false}
+use lib.Dec.{eqb, ltb, leb}
+use Rattle.words.specs.Bytes.{byteAt}
+use Rattle.opcode.specs.Operand.{operand, operand2}
+use Rattle.opcode.specs.Table.{Row, row, unserved, allows, Entry, entry, find, rowOf}
+use Rattle.opcode.specs.Table.{shortTable, dataTable, operationTable, controlTable}
+use Rattle.opcode.specs.Length.{lengthOf, lengthIn}
+use Rattle.opcode.specs.Decode.{made, instructionAt, decodeIn, decodeAt}
+use Rattle.opcode.specs.declared.Decoded.the-variants.{Unserved, Past, At}
+use Rattle.opcode.specs.declared.instruction.Mode.{Mode}
+use Rattle.opcode.specs.declared.instruction.Mode.the-variants.{Normal, Double}
+use Rattle.opcode.specs.declared.instruction.Instruction.{Instruction}
+use Rattle.shape.specs.declared.Shape.{Shape}
+use Rattle.shape.specs.declared.Shape.the-variants.{Straight, Drop, Goto, Branch, Keep, Loop, Again, Select, Exit, Invoke, Begin, Return}
+use Rattle.shape.specs.declared.Table.{Table}
+use Rattle.shape.specs.Shape.{shapeOf}
+
+-- What decoding finds at the code byte.
+record Found (m : Mode) (code : List ℕ) (limit at : ℕ) (i : Instruction) (next : ℕ) : Type 0 where
+  served : lengthIn m code at ≡ 0 → ⊥
+  same : instructionAt m code at ≡ i
+  ends : at + lengthIn m code at ≡ next
+  within : next ≤ limit
+
+-- And at the first byte: the code byte itself, or DOUBLE before it.
+data Origin (code : List ℕ) (limit at : ℕ) (i : Instruction) (next : ℕ) : Type 0 where
+  single : (byteAt code at ≡ 0xF5 → ⊥) → Found Normal code limit at i next → Origin code limit at i next
+  double : byteAt code at ≡ 0xF5 → Found Double code limit (at + 1) i next → Origin code limit at i next
+
+module _ (code : List ℕ) (limit : ℕ) (i : Instruction) (next : ℕ) where
+  found : (m : Mode) (at : ℕ) → decodeIn m code limit at ≡ At i next → Found m code limit at i next
+  unfolding decodeIn
+  found m at = by (eqb (lengthIn m code at) 0) refl (leb (at + lengthIn m code at) limit) refl
+    where
+      by : (t : Bool) → eqb (lengthIn m code at) 0 ≡ t → (u : Bool) → leb (at + lengthIn m code at) limit ≡ u
+          → cond t Unserved (cond u (At (instructionAt m code at) (at + lengthIn m code at)) Past) ≡ At i next
+          → Found m code limit at i next
+      by true s u l e = let z : _≡_ {A = ℕ} 0 1 = cc in absurd (omega arith)
+      by false s true l e =
+          let p : at + lengthIn m code at ≡ next = cc in
+          record {
+            served = eqb-false (lengthIn m code at) 0 s;
+            same = cc;
+            ends = p;
+            within = omega (arith, leb-true (at + lengthIn m code at) limit l);
+          }
+      by false s false l e = let z : _≡_ {A = ℕ} 0 1 = cc in absurd (omega arith)
+
+  decoded-in : (m : Mode) (at : ℕ) → Found m code limit at i next → decodeIn m code limit at ≡ At i next
+  unfolding decodeIn
+  decoded-in m at r =
+      rw (ne-eqb (lengthIn m code at) 0 (r .served), le-leb (at + lengthIn m code at) limit (omega arith), r .same, r .ends)
+
+  origin : (at : ℕ) → decodeAt code limit at ≡ At i next → Origin code limit at i next
+  unfolding decodeAt
+  origin at = by (ltb at limit) (eqb (byteAt code at) 0xF5) refl (ltb (at + 1) limit)
+    where
+      by : (t u : Bool) → eqb (byteAt code at) 0xF5 ≡ u → (v : Bool)
+          → cond t (cond u (cond v (decodeIn Double code limit (at + 1)) Past) (decodeIn Normal code limit at)) Past ≡ At i next
+          → Origin code limit at i next
+      by true true b true e = double (eqb-true (byteAt code at) 0xF5 b) (found Double (at + 1) e)
+      by true true b false e = let z : _≡_ {A = ℕ} 0 1 = cc in absurd (omega arith)
+      by true false b v e = single (eqb-false (byteAt code at) 0xF5 b) (found Normal at e)
+      by false u b v e = let z : _≡_ {A = ℕ} 0 1 = cc in absurd (omega arith)
+
+  decoded : (at : ℕ) → Origin code limit at i next → decodeAt code limit at ≡ At i next
+  unfolding decodeAt
+  decoded at (single f r) =
+      let h : at < limit = omega (arith, r .served) in
+      rw (lt-ltb at limit h, ne-eqb (byteAt code at) 0xF5 f, decoded-in Normal at r)
+  decoded at (double f r) =
+      let h : at + 1 < limit = omega (arith, r .served) in
+      rw (lt-ltb at limit (omega arith), eq-eqb (byteAt code at) 0xF5 f, lt-ltb (at + 1) limit h, decoded-in Double (at + 1) r)
+
+-- Whether the first byte may be the one given, by the shape.
+abbrev begins : Shape → ℕ → Bool
+begins (Loop d) first = eqb first 0xE0
+begins (Select t n) first = eqb first 0xE2 || eqb first 0xE3
+begins (Begin par) first = eqb first 0xE8
+begins (Straight pops pushes) first = true
+begins (Drop n) first = true
+begins (Goto d) first = true
+begins (Branch d) first = true
+begins (Keep d) first = true
+begins Again first = true
+begins Exit first = true
+begins (Invoke p) first = true
+begins Return first = true
+
+-- A test of every row of a table, with its key, holds of the row that is found.
+abbrev every : (ℕ → Row → Bool) → List Entry → Bool
+every f [] = true
+every f (entry k r ∷ rest) = f k r && every f rest
+
+both-true : (a b : Bool) → (a && b) ≡ true → (a ≡ true) × (b ≡ true)
+both-true true b e = (refl, e)
+both-true false b e = absurd (false≢true e)
+
+picked :
+    (f : ℕ → Row → Bool) (key k : ℕ) (r s : Row) (b : Bool) →
+    eqb key k ≡ b → f k r ≡ true → f key s ≡ true → f key (cond b r s) ≡ true
+picked f key k r s true e p q = rw (eqb-true key k e) p
+picked f key k r s false e p q = q
+
+find-every : (f : ℕ → Row → Bool) (t : List Entry) (key : ℕ) → f key unserved ≡ true → every f t ≡ true → f key (find t key) ≡ true
+find-every f [] key u e = u
+find-every f (entry k r ∷ rest) key u e =
+    let p = both-true (f k r) (every f rest) e in
+    picked f key k r (find rest key) (eqb key k) refl (p .0) (find-every f rest key u (p .1))
+
+either : (g : Row → Bool) (b : Bool) (r s : Row) → g r ≡ true → g s ≡ true → g (cond b r s) ≡ true
+either g true r s p q = p
+either g false r s p q = q
+
+-- The same of all codes; the short table has keys of another kind, first digits, so the test is not told them.
+row-every :
+    (f : ℕ → Row → Bool) (code : ℕ) →
+    f code unserved ≡ true →
+    every (λ k. f code) shortTable ≡ true → every f dataTable ≡ true → every f operationTable ≡ true → every f controlTable ≡ true →
+    f code (rowOf code) ≡ true
+unfolding rowOf
+row-every f code u s d o c =
+    either (f code) (eqb code 0x70) _ _ u
+    (either (f code) (ltb code 0x80) _ _ (find-every (λ k. f code) shortTable (code / 16) u s)
+    (either (f code) (ltb code 0xA0) _ _ (find-every f dataTable code u d)
+    (either (f code) (ltb code 0xDA) _ _ (find-every f operationTable code u o) (find-every f controlTable code u c))))
+
+module _ (m : Mode) (code : List ℕ) (at : ℕ) where
+  -- The test: what a row makes in a mode that it serves may begin with the byte.
+  abbrev agrees : ℕ → Row → Bool
+  agrees first unserved = true
+  agrees first (row operands modes make) =
+      cond (allows modes m) (begins (shapeOf (make m (operand operands code at) (operand2 operands code at))) first) true
+
+  agreed : (r : Row) (first : ℕ) → (lengthOf r m code at ≡ 0 → ⊥) → agrees first r ≡ true → begins (shapeOf (made r m code at)) first ≡ true
+  agreed unserved first s e = absurd (s refl)
+  agreed (row operands modes make) first s e = by (allows modes m) _ _ s e
+    where
+      by : (b : Bool) (n : ℕ) (t : Bool) → (cond b n 0 ≡ 0 → ⊥) → cond b t true ≡ true → t ≡ true
+      by true n t s e = e
+      by false n t s e = absurd (s refl)
+
+unprefixed :
+    {code : List ℕ} {limit at next : ℕ} {i : Instruction} →
+    Origin code limit at i next → (byteAt code at ≡ 0xF5 → ⊥) → Found Normal code limit at i next
+unprefixed (single f r) n = r
+unprefixed (double f r) n = absurd (n f)
+
+module _ (code : List ℕ) (limit at next : ℕ) (i : Instruction) (e : decodeAt code limit at ≡ At i next) where
+  shape-begins : begins (shapeOf i) (byteAt code at) ≡ true
+  unfolding shapeOf lengthIn instructionAt
+  shape-begins = by (origin code limit i next at e)
+    where
+      by : Origin code limit at i next → begins (shapeOf i) (byteAt code at) ≡ true
+      by (single f r) =
+          let b = byteAt code at in
+          rw (← r .same) (agreed Normal code at (rowOf b) b (r .served) (row-every (agrees Normal code at) b refl refl refl refl refl))
+      by (double f r) =
+          let b = byteAt code (at + 1) in
+          let test : ℕ → Row → Bool = λ k. agrees Double code (at + 1) 0xF5 in
+          rw (← r .same, f) (agreed Double code (at + 1) (rowOf b) 0xF5 (r .served) (row-every test b refl refl refl refl refl))
+
+  pub loop-origin : {d : ℕ} → shapeOf i ≡ Loop d → (byteAt code at ≡ 0xE0) × (next ≡ at + 3)
+  unfolding lengthIn rowOf
+  loop-origin s =
+      let f : byteAt code at ≡ 0xE0 = eqb-true (byteAt code at) 0xE0 (rw s at shape-begins) in
+      let r = unprefixed (origin code limit i next at e) (λ n. omega arith) in
+      (f, omega (arith, rw f at (r .ends)))
+
+  pub select-origin :
+      {t : Table} {n : ℕ} →
+      shapeOf i ≡ Select t n →
+      (eqb (byteAt code at) 0xE0 ≡ false) × ((eqb (byteAt code at) 0xE2 || eqb (byteAt code at) 0xE3) ≡ true)
+  select-origin s =
+      let b = rw s at shape-begins in
+      (ne-eqb (byteAt code at) 0xE0 (λ f. false≢true (rw f at b)), b)
+
+  pub begin-parameters : {par : ℕ} → shapeOf i ≡ Begin par → par ≡ byteAt code (at + 1)
+  unfolding instructionAt rowOf shapeOf
+  begin-parameters s =
+      let f : byteAt code at ≡ 0xE8 = eqb-true (byteAt code at) 0xE8 (rw s at shape-begins) in
+      let r = unprefixed (origin code limit i next at e) (λ n. omega arith) in
+      cc (rw f at (ap shapeOf (r .same)))
+
+  -- An instruction ends behind its first byte and within the limit.
+  pub decoded-after : (at < next) × (next ≤ limit)
+  decoded-after = by (origin code limit i next at e)
+    where
+      by : Origin code limit at i next → (at < next) × (next ≤ limit)
+      by (single f r) = (omega (arith, r .served), r .within)
+      by (double f r) = (omega (arith, r .served), r .within)
+
+  -- A wider limit changes nothing.
+  pub decoded-wider : (more : ℕ) → limit ≤ more → decodeAt code more at ≡ At i next
+  decoded-wider more l = decoded code more i next at (by (origin code limit i next at e))
+    where
+      widened : {m : Mode} {k : ℕ} → Found m code limit k i next → Found m code more k i next
+      widened r = record { served = r .served; same = r .same; ends = r .ends; within = omega arith }
+
+      by : Origin code limit at i next → Origin code more at i next
+      by (single f r) = single f (widened r)
+      by (double f r) = double f (widened r)

@@ -1,0 +1,113 @@
+-- At first the entries wait with their parameter words, and no other offset has a list: marks name one procedure an offset, so that
+-- different procedures have different entries.
+use mathlib.Core.Bool.{Bool, true, false, cond}
+use mathlib.Core.List.{List, []}
+use mathlib.Core.Option.{some}
+use mathlib.Core.Path.{_≡_, refl, sym, _∙_}
+use Prim.Native.Nat.{ℕ, zero, suc, _+_, _-_, _≤_, _<_}
+use native.Mathlib.Omega.{arith}
+use lib.Dec.{eqb}
+use lib.ListN.{length}
+use borrow.Author.Tests.{eqb-true, eqb-false}
+use Rattle.words.specs.Bytes.{byteAt}
+use Rattle.record.specs.Entries.{entryAt, entryCount}
+use Rattle.layout.specs.Cut.{updated}
+use Rattle.stackmap.specs.Slots.{Slot, pushWords}
+use Rattle.stackmap.specs.Ways.{Module, parametersOf}
+use Rattle.stackmap.specs.StackMap.{firstSlots, entered}
+use Rattle.stackmap.specs.Walk.{blank, waiting, done, States, mapOf, entriesWait}
+use Rattle.stackmap.specs.Theorems.{Sound}
+use Rattle.stackmap.proofs.Updates.{Change, changed, spared, change, updated-here}
+use Rattle.stackmap.proofs.Placing.{owned, Placed, AllPlaced, placed, placed-update, waiting-early}
+
+words-length : (n : ℕ) → length (pushWords n []) ≡ n
+words-length zero = refl
+words-length (suc n) = rw (words-length n)
+
+cond-most : (b : Bool) (x y n : ℕ) → x ≤ n → y ≤ n → cond b x y ≤ n
+cond-most true x y n g h = g
+cond-most false x y n g h = h
+
+module _ (M : Module) (S : Sound M) where
+  first-short : (p : ℕ) → length (firstSlots M p) ≤ 255
+  first-short p =
+      rw (words-length (parametersOf M p))
+      (cond-most (eqb p 0) 0 (byteAt (M .code) (entryAt (M .code) p + 1)) 255 (omega arith) (S .bytes (entryAt (M .code) p + 1)))
+
+  first-placed : (p : ℕ) → p < entryCount (M .code) → Placed M (entryAt (M .code) p) (firstSlots M p)
+  first-placed p h = placed M p (entryAt (M .code) p) (firstSlots M p) (S .entries p h) (first-short p) entered
+
+  -- Procedure p's entry is made to wait.
+  abbrev entering : ℕ → States → States
+  entering p σ = updated σ (entryAt (M .code) p) (waiting (firstSlots M p))
+
+  -- Procedure q's entry has its list.
+  abbrev Has : States → ℕ → Type 0
+  Has σ q = mapOf σ (entryAt (M .code) q) ≡ some (firstSlots M q)
+
+  has-one : (p : ℕ) (σ : States) → Has (entering p σ) p
+  has-one p σ = rw (updated-here σ (entryAt (M .code) p) (waiting (firstSlots M p)))
+
+  has-kept : (p q : ℕ) (σ : States) → p < entryCount (M .code) → q < entryCount (M .code) → Has σ q → Has (entering p σ) q
+  has-kept p q σ g h H = by (change σ (entryAt (M .code) p) (waiting (firstSlots M p)) (entryAt (M .code) q))
+    where
+      by : Change σ (entryAt (M .code) p) (waiting (firstSlots M p)) (entryAt (M .code) q) → Has (entering p σ) q
+      by (changed s e) =
+          let one = owned M p (entryAt (M .code) p) (S .entries p g) in
+          let two = owned M q (entryAt (M .code) q) (S .entries q h) in
+          let same : p ≡ q = sym one ∙ rw (← s) two in
+          rw same (has-one q σ)
+      by (spared s e) = rw e H
+
+  pub record Entered (σ : States) : Type 0 where
+    pub sane : AllPlaced M σ
+    pub fresh : (at : ℕ) (l : List Slot) → σ at ≡ done l → ⊥
+
+  enter : (p : ℕ) (σ : States) → p < entryCount (M .code) → Entered σ → Entered (entering p σ)
+  enter p σ h E =
+      record {
+        sane = placed-update M σ (entryAt (M .code) p) (firstSlots M p) (E .sane) (first-placed p h);
+        fresh = λ at l d. E .fresh at l (waiting-early σ (entryAt (M .code) p) (firstSlots M p) at l d);
+      }
+
+  pub enter-all : (n p : ℕ) (σ : States) → p + n ≤ entryCount (M .code) → Entered σ → Entered (entriesWait M p n σ)
+  enter-all zero p σ h E = enter 0 σ (S .counted) E
+  enter-all (suc n) p σ h E = enter-all n (p + 1) (entering p σ) (omega arith) (enter p σ (omega arith) E)
+
+  all-kept : (n p q : ℕ) (σ : States) → p + n ≤ entryCount (M .code) → q < entryCount (M .code) → Has σ q → Has (entriesWait M p n σ) q
+  all-kept zero p q σ h g H = has-kept 0 q σ (S .counted) g H
+  all-kept (suc n) p q σ h g H = all-kept n (p + 1) q (entering p σ) (omega arith) g (has-kept p q σ (omega arith) g H)
+
+  has-zero : (n p : ℕ) (σ : States) → Has (entriesWait M p n σ) 0
+  has-zero zero p σ = has-one 0 σ
+  has-zero (suc n) p σ = has-zero n (p + 1) (entering p σ)
+
+  -- Those of n procedures from p on.
+  has-all : (n p q : ℕ) (σ : States) → p + n ≤ entryCount (M .code) → p ≤ q → q < p + n → Has (entriesWait M p n σ) q
+  has-all zero p q σ h a b = absurd (omega arith)
+  has-all (suc n) p q σ h a b = by (has-all n (p + 1) q (entering p σ) (omega arith)) (eqb p q) refl
+    where
+      by : (p + 1 ≤ q → q < p + 1 + n → Has (entriesWait M p (suc n) σ) q) → (t : Bool) → eqb p q ≡ t → Has (entriesWait M p (suc n) σ) q
+      by go true e =
+          let same : p ≡ q = eqb-true p q e in
+          all-kept n (p + 1) q (entering p σ) (omega arith) (omega arith) (rw same (has-one q σ))
+      by go false e =
+          let other : (p ≡ q → ⊥) = eqb-false p q e in
+          go (omega arith) (omega arith)
+
+  -- The first state.
+  abbrev pub atFirst : States
+  atFirst = entriesWait M 1 (entryCount (M .code) - 1) (λ at. blank)
+
+  pub first-entered : Entered atFirst
+  first-entered =
+      enter-all (entryCount (M .code) - 1) 1 (λ at. blank) (omega (arith, S .counted))
+      (record {
+        sane = λ at l e. let z : _≡_ {A = ℕ} 0 1 = cc in absurd (omega arith);
+        fresh = λ at l e. let z : _≡_ {A = ℕ} 0 1 = cc in absurd (omega arith);
+      })
+
+  pub first-has : (q : ℕ) → q < entryCount (M .code) → Has atFirst q
+  first-has zero h = has-zero (entryCount (M .code) - 1) 1 (λ at. blank)
+  first-has (suc q) h =
+      has-all (entryCount (M .code) - 1) 1 (suc q) (λ at. blank) (omega (arith, S .counted)) (omega arith) (omega arith)

@@ -1,0 +1,104 @@
+-- Handing out the ways of a reached instruction: each is then given in its region, or the region has no map. What is given stays
+-- given and is reached.
+use mathlib.Core.Bool.{Bool, true, false, cond, _&&_}
+use mathlib.Core.List.{List, [], _∷_}
+use mathlib.Core.Option.{Option, none, some}
+use mathlib.Core.Path.{_≡_, refl, ap, _∙_}
+use Prim.Native.Nat.{ℕ, _≤_}
+use lib.Dec.{leb}
+use lib.ListN.{length}
+use borrow.Author.Tests.{leb-true, le-leb}
+use Rattle.layout.specs.Cut.{updated, startsIn}
+use Rattle.stackmap.specs.Slots.{Slot, sameSlots}
+use Rattle.stackmap.specs.Ways.{Module, Way, _gets_}
+use Rattle.stackmap.specs.StackMap.{Map, Gives, given-all, given-one, IsMap, Among, here, there, Reached}
+use Rattle.stackmap.specs.Walk.{State, blank, waiting, done, States, mapOf, taken, thenHand, handedAll}
+use Rattle.stackmap.specs.Theorems.{mapIn}
+use Rattle.stackmap.proofs.Updates.{updated-here, not-both, both-true, true-both, slots-equal, slots-same}
+use Rattle.stackmap.proofs.Reaching.{reached-in}
+use Rattle.stackmap.proofs.Placing.{AllPlaced, placed, placed-reached, placed-update, Later, later-self, later-later, blank-later, waiting-early, in-given, gives-later}
+
+-- A computation with failure: what it tells when it breaks, and of where it ends.
+pub data Ends (Bad : Type 0) (Good : States → Type 0) : Option States → Type 0 where
+  broken : Bad → Ends Bad Good none
+  went : {σ : States} → Good σ → Ends Bad Good (some σ)
+
+pub ends-then : {Bad : Type 0} {P Q : States → Type 0} (go : States → Option States) {r : Option States} → Ends Bad P r
+    → ((σ : States) → P σ → Ends Bad Q (go σ)) → Ends Bad Q (thenHand go r)
+ends-then go (broken b) k = broken b
+ends-then go (went {σ} g) k = k σ g
+
+pub ends-map : {Bad Bad′ : Type 0} {P Q : States → Type 0} {r : Option States} → (Bad → Bad′) → ((σ : States) → P σ → Q σ)
+    → Ends Bad P r → Ends Bad′ Q r
+ends-map f g (broken b) = broken (f b)
+ends-map f g (went {σ} h) = went (g σ h)
+
+-- No map of a region.
+abbrev pub NoMap : Module → ℕ → Type 0
+NoMap M p = (π : Map) → IsMap M p π → ⊥
+
+pub record Handed (M : Module) (p : ℕ) (ws : List Way) (σ τ : States) : Type 0 where
+  pub sane : AllPlaced M τ
+  pub later : Later σ τ
+  pub early : (at : ℕ) (l : List Slot) → τ at ≡ done l → σ at ≡ done l
+  pub gives : Gives (mapIn M p τ) ws
+
+module _ (M : Module) (p : ℕ) (σ : States) (P : AllPlaced M σ) (t : ℕ) (l : List Slot) (r : Reached M p t l) where
+  module _ (h : startsIn (M .marks) p t ≡ true) where
+    had : mapOf σ t ≡ some l → Handed M p (t gets l ∷ []) σ σ
+    had e = record { sane = P; later = later-self σ; early = λ at k d. d; gives = given-one (in-given M p σ t l h e) given-all }
+
+    took : length l ≤ 255 → σ t ≡ blank → Handed M p (t gets l ∷ []) σ (updated σ t (waiting l))
+    took s e =
+        record {
+          sane = placed-update M σ t l P (placed M p t l h s r);
+          later = blank-later σ t l e;
+          early = waiting-early σ t l;
+          gives = given-one (in-given M p (updated σ t (waiting l)) t l h (rw (updated-here σ t (waiting l)))) given-all;
+        }
+
+    met : (k : List Slot) → mapOf σ t ≡ some k → (b : Bool) → sameSlots k l ≡ b
+        → Ends (NoMap M p) (Handed M p (t gets l ∷ []) σ) (cond b (some σ) none)
+    met k e true q = went (had (e ∙ ap some (slots-equal k l q)))
+    met k e false q = broken λ π m.
+        let one = reached-in M p π m t l r in
+        let two = reached-in M p π m t k (placed-reached M p t k h (P t k e)) in
+        let same : k ≡ l = cc in
+        not-both (slots-same l) (rw same at q)
+
+    offered : length l ≤ 255 → (s : State) → σ t ≡ s → Ends (NoMap M p) (Handed M p (t gets l ∷ []) σ) (taken σ t l s)
+    offered s blank e = went (took s e)
+    offered s (waiting k) e = met k (cc) (sameSlots k l) refl
+    offered s (done k) e = met k (cc) (sameSlots k l) refl
+
+  one : (b : Bool) → startsIn (M .marks) p t && leb (length l) 255 ≡ b
+      → Ends (NoMap M p) (Handed M p (t gets l ∷ []) σ) (cond b (taken σ t l (σ t)) none)
+  one true e =
+      let b = both-true (startsIn (M .marks) p t) (leb (length l) 255) e in
+      offered (b .0) (leb-true (length l) 255 (b .1)) (σ t) refl
+  one false e = broken λ π m.
+      let o = m .obeys t l (reached-in M p π m t l r) in
+      not-both (true-both (o .start) (le-leb (length l) 255 (o .short))) e
+
+gives-first : {π : Map} {w : Way} {ws : List Way} → Gives π (w ∷ []) → Gives π ws → Gives π (w ∷ ws)
+gives-first (given-one e g) h = given-one e h
+
+-- One way, and the others after it.
+joined : (M : Module) (p : ℕ) (w : Way) (ws : List Way) (σ τ υ : States) → Handed M p (w ∷ []) σ τ → Handed M p ws τ υ
+    → Handed M p (w ∷ ws) σ υ
+joined M p w ws σ τ υ H K =
+    record {
+      sane = K .sane;
+      later = later-later (H .later) (K .later);
+      early = λ at l e. H .early at l (K .early at l e);
+      gives = gives-first (gives-later M p τ υ (K .later) (H .gives)) (K .gives);
+    }
+
+pub handing : (M : Module) (p : ℕ) (ws : List Way) (σ : States) → AllPlaced M σ
+    → ((t : ℕ) (l : List Slot) → Among t l ws → Reached M p t l)
+    → Ends (NoMap M p) (Handed M p ws σ) (handedAll M p ws σ)
+handing M p [] σ P R = went (record { sane = P; later = later-self σ; early = λ at l e. e; gives = given-all })
+handing M p (t gets l ∷ ws) σ P R =
+    ends-then (handedAll M p ws) (one M p σ P t l (R t l here) (startsIn (M .marks) p t && leb (length l) 255) refl)
+    (λ τ H. ends-map (λ b. b) (λ υ K. joined M p (t gets l) ws σ τ υ H K)
+    (handing M p ws τ (H .sane) (λ s k a. R s k (there a))))

@@ -1,0 +1,88 @@
+-- The walk that finds the least map of every region, or that some region has none: it takes the waiting instruction of the lowest
+-- offset first. The entries rise in the order 1, 2, .., 0 and successors stay in their region, so that one walk over the code
+-- takes the procedures in that order.
+use mathlib.Core.Bool.{cond, _&&_}
+use mathlib.Core.List.{List, [], _∷_}
+use mathlib.Core.Option.{Option, none, some}
+use Prim.Native.Nat.{ℕ, zero, suc, _+_, _-_}
+use lib.Dec.{leb}
+use lib.ListN.{length}
+use Rattle.record.specs.Entries.{entryAt, entryCount}
+use Rattle.layout.specs.Cut.{updated, startsIn}
+use Rattle.stackmap.specs.Slots.{Slot, sameSlots}
+use Rattle.stackmap.specs.Ways.{Module, Way, _gets_}
+use Rattle.stackmap.specs.StackMap.{Map, waysAt, firstSlots}
+
+-- An offset has no list, has one and waits, or has one and has been passed on.
+pub data State : Type 0 where
+  blank : State
+  waiting done : List Slot → State
+
+abbrev pub States : Type 0
+States = ℕ → State
+
+abbrev pub slotsIn : State → Option (List Slot)
+slotsIn blank = none
+slotsIn (waiting l) = some l
+slotsIn (done l) = some l
+
+abbrev pub mapOf : States → Map
+mapOf σ at = slotsIn (σ at)
+
+-- A list is handed to an offset: to a blank one, or exactly the one that it has.
+abbrev pub taken : States → ℕ → List Slot → State → Option States
+taken σ t l blank = some (updated σ t (waiting l))
+taken σ t l (waiting k) = cond (sameSlots k l) (some σ) none
+taken σ t l (done k) = cond (sameSlots k l) (some σ) none
+
+abbrev pub handed : Module → ℕ → States → Way → Option States
+handed M p σ (t gets l) = cond (startsIn (M .marks) p t && leb (length l) 255) (taken σ t l (σ t)) none
+
+abbrev pub thenHand : (States → Option States) → Option States → Option States
+thenHand go none = none
+thenHand go (some σ) = go σ
+
+abbrev pub handedAll : Module → ℕ → List Way → States → Option States
+handedAll M p [] σ = some σ
+handedAll M p (w ∷ ws) σ = thenHand (handedAll M p ws) (handed M p σ w)
+
+abbrev pub passed : Module → ℕ → States → Option (List Way) → Option States
+passed M p σ none = none
+passed M p σ (some out) = handedAll M p out σ
+
+-- The instruction at an offset with a list passes it on.
+unfoldable pub visited : Module → ℕ → List Slot → States → Option States
+visited M at l σ =
+    let p = M .marks at - 1 in
+    passed M p (updated σ at (done l)) (waysAt M p at l)
+
+-- The first waiting offset of n from an offset on, with its list.
+pub data Found : Type 0 where
+  nowhere : Found
+  found : ℕ → List Slot → Found
+
+abbrev pub orLater : ℕ → Found → State → Found
+orLater at later blank = later
+orLater at later (waiting l) = found at l
+orLater at later (done l) = later
+
+abbrev pub waitingFrom : States → ℕ → ℕ → Found
+waitingFrom σ at zero = nowhere
+waitingFrom σ at (suc n) = orLater at (waitingFrom σ (at + 1) n) (σ at)
+
+-- So many visits, as long as one waits. Each offset is visited once at most, so the size of the code is enough.
+abbrev pub visitNext : Module → (States → Option States) → States → Found → Option States
+visitNext M go σ nowhere = some σ
+visitNext M go σ (found at l) = thenHand go (visited M at l σ)
+
+abbrev pub walk : Module → ℕ → States → Option States
+walk M zero σ = some σ
+walk M (suc n) σ = visitNext M (walk M n) σ (waitingFrom σ 0 (length (M .code)))
+
+-- At first the entries wait: those of n procedures from p on, and procedure 0's.
+abbrev pub entriesWait : Module → ℕ → ℕ → States → States
+entriesWait M p zero σ = updated σ (entryAt (M .code) 0) (waiting (firstSlots M 0))
+entriesWait M p (suc n) σ = entriesWait M (p + 1) n (updated σ (entryAt (M .code) p) (waiting (firstSlots M p)))
+
+unfoldable pub walkOf : Module → Option States
+walkOf M = walk M (length (M .code)) (entriesWait M 1 (entryCount (M .code) - 1) (λ at. blank))

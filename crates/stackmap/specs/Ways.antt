@@ -1,0 +1,104 @@
+-- What an instruction finds on its list of slots and gives to its successors. 01: "Each pictured instruction finds what it pops,
+-- leaves what the manual leaves, and gives every successor exactly that list. Labels are made only by ITER and SWITCH, used only by
+-- NEXT and LEAVE respectively, and may be dropped by POP; nothing else touches one."
+use mathlib.Core.Bool.{Bool, cond, _||_}
+use mathlib.Core.List.{List, [], _∷_}
+use mathlib.Core.Option.{Option, none, some}
+use Prim.Native.Nat.{ℕ, _+_}
+use lib.Dec.{eqb, leb}
+use lib.ListN.{getD}
+use Rattle.words.specs.Bytes.{byteAt}
+use Rattle.record.specs.Entries.{entryAt}
+use Rattle.opcode.specs.Distance.{placeAt}
+use Rattle.shape.specs.declared.Shape.{Shape}
+use Rattle.shape.specs.declared.Shape.the-variants.{Straight, Drop, Goto, Branch, Keep, Loop, Again, Select, Exit, Invoke, Begin, Return}
+use Rattle.layout.specs.Cut.{Marks}
+use Rattle.layout.specs.Successors.{exitLabel, selectTargets}
+use Rattle.stackmap.specs.Slots.{Slot, word, label, pushWords, popWords, dropSlots, isWords}
+
+-- The code under check, its results list, and its starts.
+pub record Module : Type 0 where
+  pub code : List ℕ
+  pub results : List ℕ
+  pub marks : Marks
+
+-- "the parameter words of its ENTER (procedure 0: none)"; the parameter byte follows the code byte.
+abbrev pub parametersIn : List ℕ → ℕ → ℕ
+parametersIn code p = cond (eqb p 0) 0 (byteAt code (entryAt code p + 1))
+
+abbrev pub parametersOf : Module → ℕ → ℕ
+parametersOf M p = parametersIn (M .code) p
+
+-- "The results list, one byte 0 to 2 per procedure from 0 up".
+abbrev pub resultsIn : List ℕ → ℕ → ℕ
+resultsIn results p = getD results p 0
+
+abbrev pub resultsOf : Module → ℕ → ℕ
+resultsOf M p = resultsIn (M .results) p
+
+-- ITER is E0; SWITCH is E2, SWITCH_X is E3: "SWITCH_X counts as SWITCH here".
+abbrev pub isLoop : List ℕ → ℕ → Bool
+isLoop code origin = eqb (byteAt code origin) 0xE0
+
+abbrev pub isSelect : List ℕ → ℕ → Bool
+isSelect code origin = eqb (byteAt code origin) 0xE2 || eqb (byteAt code origin) 0xE3
+
+-- The word that a label's origin pushes: ITER, of three bytes, the next place; a switch its exit label.
+abbrev pub labelWord : List ℕ → ℕ → ℕ
+labelWord code origin = cond (isLoop code origin) (origin + 3) (exitLabel code origin)
+
+-- A successor, and the list that it is given.
+pub data Way : Type 0 where
+  _gets_ : ℕ → List Slot → Way
+
+infix 70 _gets_
+abbrev pub place : Way → ℕ
+place (t gets l) = t
+
+-- What follows where slots could be taken off.
+abbrev pub after : Option (List Slot) → (List Slot → List Way) → Option (List Way)
+after none f = none
+after (some rest) f = some (f rest)
+
+-- Two ways in rising offset, the one that goes on first where they meet.
+abbrev pub both : Way → Way → List Way
+both on away = cond (leb (place on) (place away)) (on ∷ away ∷ []) (away ∷ on ∷ [])
+
+abbrev pub toAll : List ℕ → List Slot → List Way
+toAll [] l = []
+toAll (t ∷ ts) l = t gets l ∷ toAll ts l
+
+-- Pops and pushes words, and goes on.
+abbrev pub straight : ℕ → ℕ → ℕ → List Slot → Option (List Way)
+straight next pops pushes l = after (popWords pops l) (λ rest. next gets pushWords pushes rest ∷ [])
+
+-- NEXT [ adr, first, last, step, label ]: past the loop without the five, or round with all of them.
+abbrev pub again : List ℕ → ℕ → List Slot → Option (List Way)
+again code next [] = none
+again code next (word ∷ l) = none
+again code next (label origin ∷ l) =
+    cond (isLoop code origin)
+    (after (popWords 4 l) (λ rest. both (next gets rest) (labelWord code origin gets (label origin ∷ l)))) none
+
+-- LEAVE [ label ].
+abbrev pub exit : List ℕ → List Slot → Option (List Way)
+exit code [] = none
+exit code (word ∷ l) = none
+exit code (label origin ∷ l) = cond (isSelect code origin) (some (labelWord code origin gets l ∷ [])) none
+
+-- The ways out of the instruction at an offset of procedure p, of a shape, before `next`, from a list; none where the list is not
+-- as it must be. "JUMP_T and JUMP_F keep the boolean when they jump. CALL takes the callee's parameter words and leaves its result
+-- words. RTN finds exactly its own procedure's result words."
+unfoldable pub ways : Module → ℕ → ℕ → ℕ → Shape → List Slot → Option (List Way)
+ways M p at next (Straight pops pushes) l = straight next pops pushes l
+ways M p at next (Drop n) l = after (dropSlots n l) (λ rest. next gets rest ∷ [])
+ways M p at next (Goto d) l = some (placeAt at d gets l ∷ [])
+ways M p at next (Branch d) l = after (popWords 1 l) (λ rest. both (next gets rest) (placeAt at d gets rest))
+ways M p at next (Keep d) l = after (popWords 1 l) (λ rest. both (next gets rest) (placeAt at d gets l))
+ways M p at next (Loop d) l = after (popWords 4 l) (λ rest. both (next gets (label at ∷ l)) (placeAt at d gets rest))
+ways M p at next Again l = again (M .code) next l
+ways M p at next (Select t n) l = after (popWords 1 l) (λ rest. toAll (selectTargets (M .code) at t n) (label at ∷ rest))
+ways M p at next Exit l = exit (M .code) l
+ways M p at next (Invoke c) l = straight next (parametersOf M c) (resultsOf M c) l
+ways M p at next (Begin par) l = straight next par 0 l
+ways M p at next Return l = cond (isWords (resultsOf M p) l) (some []) none

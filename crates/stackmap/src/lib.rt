@@ -1,0 +1,1 @@
+// Stack maps (01: stack pictures): definitions and theorems only.

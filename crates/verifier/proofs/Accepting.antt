@@ -1,0 +1,62 @@
+-- The check accepts exactly what its rules say, and shows what is reached: its verdict is the walk's, which stackmap's theorems tell.
+use mathlib.Core.Bool.{Bool, true, false, cond}
+use mathlib.Core.List.{List, _++_}
+use mathlib.Core.Option.{Option, none, some}
+use mathlib.Core.Path.{_≡_, _∙_, refl, sym, ap}
+use Prim.Native.Nat.{ℕ, zero, suc, _+_, _*_, _<_, _≤_}
+use native.Mathlib.Omega.{arith}
+use lib.Dec.{eqb, eqb·suc-zero}
+use lib.ListN.{length, getD, drop, List·getD-append}
+use borrow.Author.Tests.{eqb-true, eqb-false, eq-eqb}
+use Rattle.record.specs.Header.{codeOf}
+use Rattle.record.specs.Entries.{entryCount}
+use Rattle.record.specs.Number.{recordNumber}
+use Rattle.layout.specs.Cut.{Marks, Cut, bad, cut, cutOf, startsIn}
+use Rattle.layout.specs.Faults.{codeNumber}
+use Rattle.stackmap.specs.Slots.{Slot}
+use Rattle.stackmap.specs.StackMap.{Map, IsMap, Reached}
+use Rattle.stackmap.specs.Theorems.{Sound, mapIn}
+use Rattle.stackmap.specs.Walk.{State, States, mapOf, slotsIn, blank, waiting, done, walkOf}
+use Rattle.stackmap.proofs.Exact.{finds-maps, refutes-maps, finds-reached, has-reached}
+use Rattle.verifier.specs.Check.{resultsSound, listNumber, moduleOf, Verdict, refuted, accepted, walked, examined, verdictOf, checking, concluded, shownState, shownFrom, checkOf}
+use Rattle.verifier.specs.Exact.{Bytes, Ruled, subject, Mapped, Room, AcceptsOnly, AcceptsAll, RefusesOnly, Shows, ShowsReached}
+use Rattle.verifier.proofs.Records.{Listed, listed, numberless, code-bytes}
+use Rattle.verifier.proofs.Concluding.{sound}
+use Rattle.verifier.proofs.Showing.{shown-at, shown-length}
+
+-- What the check answers, by its verdict: a number of 1 to 9, or one from 10 on, or 0 with the lists found.
+pub data Answers (r results w : List ℕ) : Type 0 where
+  early : (n : ℕ) → listNumber r results (length w) ≡ suc n → checkOf r results w ≡ checking (suc n) w → Answers r results w
+  late : Listed r results (length w) → checkOf r results w ≡ concluded (length (codeOf r)) w (verdictOf (codeOf r) results) → Answers r results w
+
+pub answers : (r results w : List ℕ) → Answers r results w
+unfolding checkOf
+answers r results w = by (listNumber r results (length w)) refl
+  where
+    by : (n : ℕ) → listNumber r results (length w) ≡ n → Answers r results w
+    by zero e = late (listed r results (length w) e) (rw e)
+    by (suc n) e = early n e (rw (e, eqb·suc-zero n))
+
+-- The verdict, by the cut, the numbers 12 to 14 and the walk.
+pub data Judged (code results : List ℕ) : Type 0 where
+  miscut : (n : ℕ) → cutOf code ≡ bad n → verdictOf code results ≡ refuted n → Judged code results
+  faulty : (marks : Marks) (n : ℕ) → cutOf code ≡ cut marks → codeNumber code marks ≡ suc n → verdictOf code results ≡ refuted (suc n) → Judged code results
+  unmapped : (marks : Marks) → cutOf code ≡ cut marks → codeNumber code marks ≡ 0 → walkOf (moduleOf code results marks) ≡ none → verdictOf code results ≡ refuted 15 → Judged code results
+  mapped : (marks : Marks) → cutOf code ≡ cut marks → codeNumber code marks ≡ 0 → (σ : States) → walkOf (moduleOf code results marks) ≡ some σ → verdictOf code results ≡ accepted σ → Judged code results
+
+pub judged : (code results : List ℕ) → Judged code results
+unfolding verdictOf
+judged code results = by (cutOf code) refl
+  where
+    walks : (marks : Marks) → cutOf code ≡ cut marks → codeNumber code marks ≡ 0 → (o : Option States)
+        → walkOf (moduleOf code results marks) ≡ o → Judged code results
+    walks marks c f none g = unmapped marks c f g (rw (c, f, g))
+    walks marks c f (some σ) g = mapped marks c f σ g (rw (c, f, g))
+
+    faults : (marks : Marks) → cutOf code ≡ cut marks → (n : ℕ) → codeNumber code marks ≡ n → Judged code results
+    faults marks c zero f = walks marks c f (walkOf (moduleOf code results marks)) refl
+    faults marks c (suc n) f = faulty marks n c f (rw (c, f, eqb·suc-zero n))
+
+    by : (c : Cut) → cutOf code ≡ c → Judged code results
+    by (bad n) c = miscut n c (rw c)
+    by (cut marks) c = faults marks c (codeNumber code marks) refl

@@ -1,0 +1,101 @@
+-- What the code finds for 10 to 15 is the verdict over whole lists: the marks are the cut, the walks go alike, and the workspace shows
+-- what was found.
+use mathlib.Core.Bool.{Bool, true, false, cond}
+use mathlib.Core.List.{List, _++_, append-nil}
+use mathlib.Core.Option.{Option, none, some}
+use mathlib.Core.Path.{_≡_, _∙_, refl, sym, ap}
+use Prim.Native.Nat.{ℕ, zero, suc, _+_, _*_, _<_, _≤_}
+use native.Mathlib.Omega.{arith}
+use lib.Dec.{eqb, eqb·suc-zero}
+use lib.ListN.{length, getD, drop, replicate, length-replicate, getD-replicate, drop-of-length-le}
+use Rattle.words.specs.Bytes.{byteAt}
+use Rattle.record.specs.Entries.{entriesSound}
+use Rattle.layout.specs.Cut.{Marks, cut, cutOf}
+use Rattle.layout.specs.Faults.{codeNumber}
+use Rattle.layout.specs.Workspace.{marksIn, markAll}
+use Rattle.layout.proofs.Cutting.{Cutted, cutting-starts}
+use Rattle.layout.proofs.Marking.{marking-cuts, marking-refuses, marking-keeps-length, marking-keeps-others}
+use Rattle.stackmap.specs.Theorems.{Sound}
+use Rattle.stackmap.specs.Walk.{States, walkOf}
+use Rattle.verifier.specs.Check.{moduleOf, refuted, walked, verdictOf, checking, concluded, shownFrom}
+use Rattle.verifier.specs.Handing.{walkedTop}
+use Rattle.verifier.specs.Examine.{zeroed, unmarked, afterWalk, afterFaults, afterMarks, examinedTop}
+use Rattle.verifier.proofs.Simulation.{Alike, walks-alike}
+use Rattle.verifier.proofs.Showing.{unmarked-shows}
+
+-- What a cut of sound entries gives to the walk.
+pub sound : (code results : List ℕ) (marks : Marks) → entriesSound code ≡ true → ((i : ℕ) → byteAt code i ≤ 255) → cutOf code ≡ cut marks
+    → Sound (moduleOf code results marks)
+sound code results marks e b c =
+    let C : Cutted code marks = cutting-starts code marks e c in
+    record { counted = C .some; entries = C .entered; procedures = C .counted; within = C .inside; bytes = b }
+
+module _ (code results w : List ℕ) (e : entriesSound code ≡ true) (b : (i : ℕ) → byteAt code i ≤ 255) (size : length w ≡ 4 * length code) where
+  abbrev zeros : List ℕ
+  zeros = zeroed w
+
+  abbrev marked : List ℕ
+  marked = markAll code zeros .workspace
+
+  zeros-length : length zeros ≡ 4 * length code
+  zeros-length = length-replicate (length w) 0 ∙ size
+
+  zeros-at : (i : ℕ) → i < 4 * length code → getD zeros i 0 ≡ 0
+  zeros-at i h = getD-replicate (length w) i 0 0 (omega arith)
+
+  marked-length : length marked ≡ 4 * length code
+  marked-length = marking-keeps-length code zeros ∙ zeros-length
+
+  -- All of the workspace zeroed, which is just as long as it must be.
+  cleared : (n : ℕ) (u : List ℕ) → length u ≡ 4 * length code → checking n (zeroed u) ≡ concluded (length code) w (refuted n)
+  cleared n u l =
+      let z : zeroed u ≡ replicate (4 * length code) 0 ++ drop (4 * length code) w =
+      ap (λ (k : ℕ). replicate k 0) l
+      ∙ (sym (append-nil (replicate (4 * length code) 0))
+      ∙ ap (λ (r : List ℕ). replicate (4 * length code) 0 ++ r) (sym (drop-of-length-le w {i = 4 * length code} (omega arith)))) in
+      ap (checking n) z
+
+  module _ (number : markAll code zeros .number ≡ 0) where
+    is-cut : cutOf code ≡ cut (marksIn marked (length code))
+    is-cut = marking-cuts code e zeros (omega (arith, zeros-length)) (λ at h. zeros-at (4 * at + 3) (omega arith)) number
+
+    alike : Alike (moduleOf code results (marksIn marked (length code))) marked (walkedTop code results marked)
+    alike =
+        walks-alike code results (marksIn marked (length code)) marked
+        (sound code results (marksIn marked (length code)) e b is-cut) (omega (arith, marked-length)) (λ at h. blanks at h) (λ at. refl)
+      where
+        same : (at k : ℕ) → at < length code → k < 3 → getD marked (4 * at + k) 0 ≡ 0
+        same at k h l = marking-keeps-others code zeros at k l ∙ zeros-at (4 * at + k) (omega arith)
+
+        blanks : (at : ℕ) → at < length code → (getD marked (4 * at) 0 ≡ 0) × (getD marked (4 * at + 1) 0 ≡ 0) × (getD marked (4 * at + 2) 0 ≡ 0)
+        blanks at h =
+            (ap (λ (j : ℕ). getD marked j 0) (let z : 4 * at ≡ 4 * at + 0 = omega arith in z) ∙ same at 0 h (omega arith), same at 1 h (omega arith), same at 2 h (omega arith))
+
+    walks : (o : Option States) → walkOf (moduleOf code results (marksIn marked (length code))) ≡ o
+        → afterWalk code (walkedTop code results marked) ≡ concluded (length code) w (walked o)
+    walks none f =
+        rw (alike .refused f) (cleared 15 (walkedTop code results marked .workspace) (alike .sized ∙ marked-length))
+    walks (some σ) f =
+        let A = alike .accepted σ f in
+        let z : unmarked 0 (length code) (walkedTop code results marked .workspace) ≡ shownFrom σ 0 (length code) ++ drop (4 * length code) w =
+        unmarked-shows σ (walkedTop code results marked .workspace) (length code) (alike .sized ∙ marked-length) (A .shown) (A .cleared)
+        ∙ (sym (append-nil (shownFrom σ 0 (length code)))
+        ∙ ap (λ (r : List ℕ). shownFrom σ 0 (length code) ++ r) (sym (drop-of-length-le w {i = 4 * length code} (omega arith)))) in
+        rw (A .accepts) (ap (checking 0) z)
+
+    faults : (n : ℕ) → codeNumber code (marksIn marked (length code)) ≡ n
+        → afterFaults code results marked n
+        ≡ concluded (length code) w (cond (eqb n 0) (walked (walkOf (moduleOf code results (marksIn marked (length code))))) (refuted n))
+    faults zero f = walks (walkOf (moduleOf code results (marksIn marked (length code)))) refl
+    faults (suc n) f = rw (eqb·suc-zero n) (cleared (suc n) marked marked-length)
+
+  marks : (n : ℕ) → markAll code zeros .number ≡ n → afterMarks code results marked n ≡ concluded (length code) w (verdictOf code results)
+  unfolding verdictOf
+  marks zero f = rw (is-cut f) (faults f (codeNumber code (marksIn marked (length code))) refl)
+  marks (suc n) f =
+      rw (marking-refuses code e zeros (omega (arith, zeros-length)) (λ at h. zeros-at (4 * at + 3) (omega arith)) n f, eqb·suc-zero n)
+      (cleared (suc n) marked marked-length)
+
+  pub examined-concludes : examinedTop code results w ≡ concluded (length code) w (verdictOf code results)
+  unfolding examinedTop
+  examined-concludes = marks (markAll code zeros .number) refl

@@ -1,0 +1,22 @@
+-- The walk over the workspace and the walk over whole lists.
+pub mod Coherence
+pub mod Pairs
+pub mod Levels
+pub mod Agreement
+pub mod Passing
+pub mod Fields
+pub mod Keeping
+pub mod Parallel
+pub mod Searching
+pub mod Visiting
+pub mod Starting
+pub mod Simulation
+pub mod Showing
+pub mod Concluding
+pub mod Records
+pub mod Accepting
+pub mod Ranges
+pub mod Exactly
+pub mod Steps
+pub mod Turning
+pub mod Lending

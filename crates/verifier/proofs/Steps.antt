@@ -1,0 +1,111 @@
+-- The turns of the loops that hand on, walk and give: what is left decides the whole, as the definitions unroll by one turn. And a
+-- start lies in the code.
+use mathlib.Core.Bool.{Bool, true, false, cond}
+use mathlib.Core.List.{List}
+use mathlib.Core.Path.{_≡_, refl, _∙_}
+use Prim.Native.Nat.{ℕ, _+_, _*_, _-_, _<_, _≤_}
+use native.Mathlib.Nat.{sub-eq-zero-of-le}
+use native.Mathlib.Omega.{arith}
+use borrow.Author.Tests.{lt-ltb, le-ltb, ltb-true, eqb-true}
+use lib.Dec.{eqb, ltb}
+use lib.ListN.{length, getD}
+use Rattle.record.specs.Entries.{entryAt, entryCount}
+use Rattle.record.proofs.Left.{one-left}
+use Rattle.shape.specs.declared.Table.{Table}
+use Rattle.layout.specs.Cut.{startsIn}
+use Rattle.layout.specs.Successors.{tableSize, tableTarget, tableFrom}
+use Rattle.layout.specs.Workspace.{marksIn}
+use Rattle.stackmap.specs.Ways.{parametersIn}
+use Rattle.compact.specs.declared.top.Top.{Top}
+use Rattle.compact.specs.Ways.{way}
+use Rattle.verifier.specs.declared.hand.Handed.{Handed}
+use Rattle.verifier.specs.declared.hand.Handed.the-variants.{Stuck, From}
+use Rattle.verifier.specs.Handing.{handing, thenHanding, handedTop, handedTargets, visitedTop, firstWaiting, walking, thenWalk, walkTop, entryGiven, entriesGiven}
+
+-- A place outside of the code has mark 0, which is no start's.
+start-by : (b : Bool) (place size mark p : ℕ) → ltb place size ≡ b → eqb (cond b mark 0) (p + 1) ≡ true → place < size
+start-by true place size mark p l e = ltb-true place size l
+start-by false place size mark p l e = let z = eqb-true 0 (p + 1) e in omega arith
+
+pub start-near : (w : List ℕ) (size p place : ℕ) → startsIn (marksIn w size) p place ≡ true → place < size
+start-near w size p place e = start-by (ltb place size) place size (getD w (4 * place + 3) 0) p refl e
+
+-- The parameter words of an entry are a byte.
+parameters-by : (b : Bool) (x : ℕ) → x < 256 → cond b 0 x ≤ 255
+parameters-by true x h = omega arith
+parameters-by false x h = omega arith
+
+pub parameters-near : (code : List ℕ) → ((k : ℕ) → getD code k 0 < 256) → (p : ℕ) → parametersIn code p ≤ 255
+parameters-near code bytes p = parameters-by (eqb p 0) _ (bytes (entryAt code p + 1))
+
+-- The branches of a switch's table before k are handed their list; nothing waits below `low`.
+pub record Branched (code before : List ℕ) (p at : ℕ) (table : Table) (n : ℕ) (t : Top) (from : ℕ) (w : List ℕ) (low k : ℕ) : Type 0 where
+  pub rest :
+      handedTargets (length code) p t (tableFrom code at table k (tableSize table n - k)) low w
+      ≡ handedTargets (length code) p t (tableFrom code at table 0 (tableSize table n)) from before
+  pub kept : length w ≡ length before
+
+pub branched-start : {code w : List ℕ} {p at : ℕ} {table : Table} {n : ℕ} {t : Top} {from : ℕ} → Branched code w p at table n t from w from 0
+branched-start {table = table} {n = n} =
+    let z : tableSize table n - 0 ≡ tableSize table n = omega arith in
+    record { rest = rw z; kept = refl }
+
+module _ {code before : List ℕ} {p at : ℕ} {table : Table} {n : ℕ} {t : Top} {from : ℕ} {w : List ℕ} {low k : ℕ}
+    (r : Branched code before p at table n t from w low k) where
+  pub branched-over :
+      tableSize table n ≤ k
+      → handing (From low) w ≡ handedTargets (length code) p t (tableFrom code at table 0 (tableSize table n)) from before
+  branched-over h = rw (sub-eq-zero-of-le h) at (r .rest)
+
+  module _ (h : k < tableSize table n) {place : ℕ} (f : place ≡ tableTarget code at table k) {a : Handed} {w′ : List ℕ}
+      (e : handing a w′ ≡ handedTop (length code) p (way place (t .height) (t .origin)) low w) where
+    pub branched-turn :
+        thenHanding (handedTargets (length code) p t (tableFrom code at table (k + 1) (tableSize table n - (k + 1)))) a w′
+        ≡ handedTargets (length code) p t (tableFrom code at table 0 (tableSize table n)) from before
+    branched-turn = rw (one-left k (tableSize table n) h, ← f, ← e) at (r .rest)
+
+    pub branched-next : {next : ℕ} → a ≡ From next → length w′ ≡ length w → Branched code before p at table n t from w′ next (k + 1)
+    branched-next q l = record { rest = rw q at branched-turn; kept = l ∙ r .kept }
+
+-- After k visits nothing waits below `from`.
+pub record Walked (code results before w : List ℕ) (from k : ℕ) : Type 0 where
+  pub rest : walkTop code results (length code - k) from w ≡ walkTop code results (length code) 0 before
+  pub kept : length w ≡ length before
+
+pub walked-start : {code results w : List ℕ} → Walked code results w w 0 0
+walked-start {code = code} = let z : length code - 0 ≡ length code = omega arith in record { rest = rw z; kept = refl }
+
+module _ {code results before w : List ℕ} {from k : ℕ} (r : Walked code results before w from k) where
+  pub walked-spent : length code ≤ k → walking true w ≡ walkTop code results (length code) 0 before
+  walked-spent h = rw (sub-eq-zero-of-le h) at (r .rest)
+
+  module _ (h : k < length code) {at : ℕ} (f : at ≡ firstWaiting w from (length code - from)) where
+    pub walked-over : length code ≤ at → walking true w ≡ walkTop code results (length code) 0 before
+    walked-over q = rw (one-left k (length code) h, ← f, le-ltb at (length code) q) at (r .rest)
+
+    module _ (q : at < length code) {a : Handed} {w′ : List ℕ} (e : handing a w′ ≡ visitedTop code results at w) where
+      pub walked-turn :
+          thenWalk (walkTop code results (length code - (k + 1))) a w′ ≡ walkTop code results (length code) 0 before
+      walked-turn = rw (one-left k (length code) h, ← f, lt-ltb at (length code) q, ← e) at (r .rest)
+
+      pub walked-next : {next : ℕ} → a ≡ From next → length w′ ≡ length w → Walked code results before w′ next (k + 1)
+      walked-next g l = record { rest = rw g at walked-turn; kept = l ∙ r .kept }
+
+-- The entries of the procedures from 1 and before p wait.
+pub record Entered (code before w : List ℕ) (p : ℕ) : Type 0 where
+  pub rest : entriesGiven code p (entryCount code - p) w ≡ entriesGiven code 1 (entryCount code - 1) before
+  pub kept : length w ≡ length before
+
+pub entered-start : {code w : List ℕ} → Entered code w w 1
+entered-start = record { rest = refl; kept = refl }
+
+module _ {code before w : List ℕ} {p : ℕ} (r : Entered code before w p) where
+  pub entered-last : entryCount code ≤ p → entryGiven code 0 w ≡ entriesGiven code 1 (entryCount code - 1) before
+  entered-last h = rw (sub-eq-zero-of-le h) at (r .rest)
+
+  module _ (h : p < entryCount code) where
+    entered-turn : entriesGiven code (p + 1) (entryCount code - (p + 1)) (entryGiven code p w) ≡ entriesGiven code 1 (entryCount code - 1) before
+    entered-turn = rw (one-left p (entryCount code) h) at (r .rest)
+
+    pub entered-next : {w′ : List ℕ} → w′ ≡ entryGiven code p w → length w′ ≡ length w → Entered code before w′ (p + 1)
+    entered-next e l = record { rest = rw e entered-turn; kept = l ∙ r .kept }

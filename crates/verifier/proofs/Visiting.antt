@@ -1,0 +1,91 @@
+-- A visit of a waiting offset does the same on both sides: it is marked done, and its ways out, which stand for one another, are
+-- handed on.
+use mathlib.Core.List.{List}
+use mathlib.Core.Option.{some}
+use mathlib.Core.Path.{_≡_, refl, sym, ap, _∙_}
+use Prim.Native.Nat.{ℕ, _+_, _-_, _*_, _<_}
+use native.Mathlib.Omega.{arith}
+use lib.ListN.{length, getD, set}
+use lib.Seq.{getD-set-same, getD-set-other}
+use borrow.Author.Tests.{lt-ltb}
+use Rattle.record.specs.Entries.{regionEnd}
+use Rattle.opcode.specs.Decode.{decodeAt}
+use Rattle.opcode.specs.declared.Decoded.{Decoded}
+use Rattle.opcode.specs.declared.Decoded.the-variants.{Unserved, Past, At}
+use Rattle.shape.specs.Shape.{shapeOf}
+use Rattle.layout.specs.Cut.{updated}
+use Rattle.stackmap.specs.Slots.{Slot, topOrigin}
+use Rattle.stackmap.specs.Ways.{Module}
+use Rattle.stackmap.specs.StackMap.{waysOf, waysAt}
+use Rattle.stackmap.specs.Walk.{waiting, done, States, slotsIn, mapOf, passed, visited}
+use Rattle.stackmap.specs.Theorems.{Sound}
+use Rattle.stackmap.proofs.Updates.{Change, changed, spared, change}
+use Rattle.stackmap.proofs.Placing.{owner}
+use Rattle.compact.specs.Tops.{top}
+use Rattle.verifier.specs.Handing.{visitedWith, visitedTop}
+use Rattle.verifier.proofs.Coherence.{shown-done, topOf}
+use Rattle.verifier.proofs.Agreement.{ways-stand}
+use Rattle.verifier.proofs.Passing.{ways-coherent}
+use Rattle.verifier.proofs.Fields.{Within, within-set}
+use Rattle.verifier.proofs.Keeping.{kept-self, within-kept, Grows, Clear, Sim, shows-map, grows-change, sim-change, all-grow}
+use Rattle.verifier.proofs.Parallel.{Parallel, both-stop, parallel-after, ways-alike}
+use Rattle.verifier.proofs.Searching.{done-waits}
+
+module _ (M : Module) (S : Sound M) (w : List ℕ) (σ : States) (from : ℕ) (X : Sim M w σ from) (at : ℕ) (l : List Slot)
+    (h : at < length (M .code)) (waits : σ at ≡ waiting l) (c : Clear σ at) where
+  has : mapOf σ at ≡ some l
+  has = ap slotsIn waits
+
+  high : getD w (4 * at) 0 ≡ length l + 1
+  high = shows-map (X .held) .height at l has
+
+  low : getD w (4 * at + 1) 0 ≡ topOrigin l
+  low = shows-map (X .held) .origin at l has
+
+  found : top (getD w (4 * at) 0 - 1) (getD w (4 * at + 1) 0) ≡ topOf l
+  found = rw (high, low) (ap (λ (n : ℕ). top n (topOrigin l)) (omega arith))
+
+  of-procedure : getD w (4 * at + 3) 0 ≡ M .marks at
+  of-procedure = rw (lt-ltb at (length (M .code)) h) at (X .held .marks at)
+
+  -- It is marked done.
+  abbrev cleared : List ℕ
+  cleared = set w (4 * at + 2) 0
+
+  marked : Within at w cleared
+  marked = within-set at w (4 * at + 2) 0 (omega arith) (omega arith)
+
+  same : (j : List Slot) → mapOf σ at ≡ some j → j ≡ l
+  same j e = cc
+
+  grown : Grows (mapOf σ) (mapOf (updated σ at (done l)))
+  grown = grows-change σ at (done l) l refl same
+
+  finished : Sim M cleared (updated σ at (done l)) (at + 1)
+  finished =
+      sim-change at (done l) l (at + 1) X h marked
+      (shown-done (getD-set-other w (4 * at + 2) (4 * at) 0 0 (λ e. omega arith) ∙ high)
+      (getD-set-other w (4 * at + 2) (4 * at + 1) 0 0 (λ e. omega arith) ∙ low)
+      (getD-set-same w (4 * at + 2) 0 0 (omega (arith, X .held .room))))
+      refl same (X .coherent at l has) λ a j b e. by a j b e (change σ at (done l) a)
+    where
+      by : (a : ℕ) (j : List Slot) → a < at + 1 → updated σ at (done l) a ≡ waiting j → Change σ at (done l) a → ⊥
+      by a j b e (changed g q) = done-waits q e
+      by a j b e (spared g q) = c a j (omega arith) (sym q ∙ e)
+
+  decoded : (d : Decoded) → decodeAt (M .code) (regionEnd (M .code) (owner M at)) at ≡ d
+      → Parallel M w σ (visitedWith (M .code) (M .results) w (owner M at) at d)
+      (passed M (owner M at) (updated σ at (done l)) (waysOf M (owner M at) at l d))
+  decoded Unserved e = both-stop (kept-self (length (M .code)) w)
+  decoded Past e = both-stop (kept-self (length (M .code)) w)
+  decoded (At i next) e =
+      rw found
+      (parallel-after (within-kept h marked) grown
+      (ways-alike M S (owner M at) at cleared (updated σ at (done l)) (at + 1) finished
+      (ways-stand M (owner M at) at next (shapeOf i) w (mapOf σ) l (X .coherent at l has) (shows-map (X .held)))
+      λ out g. all-grow grown
+      (ways-coherent M (owner M at) at next (regionEnd (M .code) (owner M at)) i (mapOf σ) l out e (X .coherent at l has) has g)))
+
+  pub visit-alike : Parallel M w σ (visitedTop (M .code) (M .results) at w) (visited M at l σ)
+  unfolding visitedTop visited waysAt
+  visit-alike = rw of-procedure (decoded (decodeAt (M .code) (regionEnd (M .code) (owner M at)) at) refl)

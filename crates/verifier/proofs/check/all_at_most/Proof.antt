@@ -1,0 +1,50 @@
+-- `check::all_at_most` meets its contract: the list from `i` on decides. The measure is what is left.
+use Prim.Native.Nat.{_-_}
+use mathlib.Core.Path.{_≡_, refl, _∙_, sym}
+use lib.ListN.{drop}
+use borrow.Author.Needs.{needs}
+use Rattle.verifier.proofs.check.all_at_most.Statement.{statement}
+use Rattle.verifier.specs.Check.{allAtMost}
+use Rattle.verifier.proofs.Turning.{small-turn, small-breaks, small-over}
+use Rattle.verifier.proofs.check.all_at_most.Tie as tie
+
+abbrev Inv-loop : tie.InvT-loop
+Inv-loop most s i₀ i-end i = allAtMost most s ≡ allAtMost most (drop i s)
+
+abbrev μ-loop : tie.MeasureT-loop
+μ-loop most s i₀ i-end i = i-end - i
+
+loop-holds : tie.Need-loop-holds Inv-loop μ-loop
+loop-holds c = refl
+
+shared-slice-read-if1 : tie.Need-shared-slice-read-if1 Inv-loop μ-loop
+shared-slice-read-if1 c = search needs
+
+returns : tie.Need-returns Inv-loop μ-loop
+returns c = sym (c .before .before .before .loop .inv ∙ small-breaks (c .before .before .before .before .args .most) (c .before .before .before .before .args .s .now) (c .before .before .before .loop .i) (c .before .before .loop-test .taken) (c .if1 .taken))
+
+add-i : tie.Need-add-i Inv-loop μ-loop
+add-i c = search needs
+
+loop-less : tie.Need-loop-less Inv-loop μ-loop
+loop-less c = search needs
+
+loop-again : tie.Need-loop-again Inv-loop μ-loop
+loop-again c = c .before .before .before .loop .inv ∙ small-turn (c .before .before .before .before .args .most) (c .before .before .before .before .args .s .now) (c .before .before .before .loop .i) (c .before .before .loop-test .taken) (c .if1 .left)
+
+returns-2 : tie.Need-returns-2 Inv-loop μ-loop
+returns-2 c = sym (c .before .loop .inv ∙ small-over (c .before .before .args .most) (c .before .before .args .s .now) (c .before .loop .i) (c .loop-test .left))
+
+pub all-at-most-spec : {M : Type 1} → statement M
+all-at-most-spec =
+    tie.close
+    (tie.spec
+    Inv-loop
+    μ-loop
+    loop-holds
+    shared-slice-read-if1
+    returns
+    add-i
+    loop-less
+    loop-again
+    returns-2)

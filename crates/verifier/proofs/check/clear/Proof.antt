@@ -1,0 +1,53 @@
+-- `check::clear` meets its contract: the halfwords before `i` are 0. The measure is what is left.
+use Prim.Native.Nat.{_-_, _≤_}
+use native.Mathlib.Omega.{arith}
+use lib.ListN.{length}
+use borrow.Author.Needs.{needs}
+use Rattle.verifier.proofs.check.clear.Statement.{statement}
+use Rattle.verifier.proofs.Turning.{Zeroing, zeroing-start, zeroing-next, zeroing-over}
+use Rattle.verifier.proofs.check.clear.Tie as tie
+
+abbrev Inv-loop : tie.InvT-loop
+Inv-loop w₀ i₀ i-end w i = Zeroing w₀ w i × (i ≤ length w₀)
+
+abbrev μ-loop : tie.MeasureT-loop
+μ-loop w₀ i₀ i-end w i = i-end - i
+
+loop-holds : tie.Need-loop-holds Inv-loop μ-loop
+loop-holds c = (zeroing-start, omega arith)
+
+mul-w : tie.Need-mul-w Inv-loop μ-loop
+mul-w c = search needs
+
+slice-write-w : tie.Need-slice-write-w Inv-loop μ-loop
+slice-write-w c = omega (arith, c .before .loop .inv .0 .kept, c .loop-test .taken)
+
+add-i : tie.Need-add-i Inv-loop μ-loop
+add-i c = search needs
+
+loop-less : tie.Need-loop-less Inv-loop μ-loop
+loop-less c = search needs
+
+loop-again : tie.Need-loop-again Inv-loop μ-loop
+loop-again c = (zeroing-next (c .before .loop .inv .0) (omega (arith, c .before .loop .inv .0 .kept, c .loop-test .taken)), omega (arith, c .loop-test .taken))
+
+same-length : tie.Need-same-length Inv-loop μ-loop
+same-length c = search needs
+
+returns : tie.Need-returns Inv-loop μ-loop
+returns c = zeroing-over (c .before .loop .inv .0) (omega (arith, c .before .loop .inv .0 .kept, c .before .loop .inv .1, c .loop-test .left))
+
+pub clear-spec : {M : Type 1} → statement M
+clear-spec =
+    tie.close
+    (tie.spec
+    Inv-loop
+    μ-loop
+    loop-holds
+    mul-w
+    slice-write-w
+    add-i
+    loop-less
+    loop-again
+    same-length
+    returns)

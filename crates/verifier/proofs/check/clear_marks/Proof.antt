@@ -1,0 +1,55 @@
+-- `check::clear_marks` meets its contract: what is left decides. The measure is what is left.
+use Prim.Native.Nat.{_-_}
+use borrow.Author.Needs.{needs}
+use Rattle.verifier.proofs.check.clear_marks.Statement.{statement}
+use Rattle.verifier.proofs.Turning.{Unmarking, unmarking-start, unmarking-next, unmarking-over}
+use Rattle.verifier.proofs.check.clear_marks.Tie as tie
+
+abbrev Inv-loop : tie.InvT-loop
+Inv-loop w₀ size at₀ w at = Unmarking w₀ w size at
+
+abbrev μ-loop : tie.MeasureT-loop
+μ-loop w₀ size at₀ w at = size - at
+
+loop-holds : tie.Need-loop-holds Inv-loop μ-loop
+loop-holds c = unmarking-start
+
+mul-set-half : tie.Need-mul-set-half Inv-loop μ-loop
+mul-set-half c = search needs
+
+add-set-half : tie.Need-add-set-half Inv-loop μ-loop
+add-set-half c = search needs
+
+set-half-requires : tie.Need-set-half-requires Inv-loop μ-loop
+set-half-requires c κs = search needs
+
+add-at : tie.Need-add-at Inv-loop μ-loop
+add-at c = search needs
+
+loop-less : tie.Need-loop-less Inv-loop μ-loop
+loop-less c = search needs
+
+loop-again : tie.Need-loop-again Inv-loop μ-loop
+loop-again c = unmarking-next (c .before .before .before .before .before .loop .inv) (c .before .before .before .before .loop-test .taken) (c .before .before .set-half .ensures)
+
+same-length : tie.Need-same-length Inv-loop μ-loop
+same-length c = search needs
+
+returns : tie.Need-returns Inv-loop μ-loop
+returns c = unmarking-over (c .before .loop .inv) (c .loop-test .left)
+
+pub clear-marks-spec : {M : Type 1} → statement M
+clear-marks-spec =
+    tie.close
+    (tie.spec
+    Inv-loop
+    μ-loop
+    loop-holds
+    mul-set-half
+    add-set-half
+    set-half-requires
+    add-at
+    loop-less
+    loop-again
+    same-length
+    returns)

@@ -1,0 +1,60 @@
+-- `walk::next_waiting` meets its contract. The loop's invariant: the first that waits from `from` on is the first from `at` on. The
+-- measure is the offsets left.
+use Prim.Native.Nat.{_-_}
+use mathlib.Core.Path.{_≡_, _∙_, refl}
+use native.Mathlib.Nat.{sub-eq-zero-of-le}
+use borrow.Author.Needs.{needs}
+use borrow.Author.Tests.{eq-eqb, ne-eqb}
+use Rattle.verifier.proofs.walk.next_waiting.Statement.{statement}
+use Rattle.record.proofs.Left.{one-left}
+use Rattle.verifier.specs.Handing.{firstWaiting}
+use Rattle.verifier.proofs.walk.next_waiting.Tie as tie
+
+abbrev Inv-loop : tie.InvT-loop
+Inv-loop w size from at₀ at = firstWaiting w from (size - from) ≡ firstWaiting w at (size - at)
+
+abbrev μ-loop : tie.MeasureT-loop
+μ-loop w size from at₀ at = size - at
+
+loop-holds : tie.Need-loop-holds Inv-loop μ-loop
+loop-holds c = refl
+
+mul-half-at : tie.Need-mul-half-at Inv-loop μ-loop
+mul-half-at c = search needs
+
+add-half-at : tie.Need-add-half-at Inv-loop μ-loop
+add-half-at c = search needs
+
+half-at-requires : tie.Need-half-at-requires Inv-loop μ-loop
+half-at-requires c κs = search needs
+
+returns : tie.Need-returns Inv-loop μ-loop
+returns c = rw (c .before .before .before .loop .inv, one-left (c .before .before .before .loop .at) (c .before .before .before .before .before .args .size) (c .before .before .loop-test .taken), ← c .before .half-at .ensures, ne-eqb (c .before .half-at .result) 0 (c .if1 .taken))
+
+add-at : tie.Need-add-at Inv-loop μ-loop
+add-at c = search needs
+
+loop-less : tie.Need-loop-less Inv-loop μ-loop
+loop-less c = search needs
+
+loop-again : tie.Need-loop-again Inv-loop μ-loop
+loop-again c = c .before .before .before .loop .inv ∙ rw (one-left (c .before .before .before .loop .at) (c .before .before .before .before .before .args .size) (c .before .before .loop-test .taken), ← c .before .half-at .ensures, eq-eqb (c .before .half-at .result) 0 (c .if1 .left))
+
+returns-2 : tie.Need-returns-2 Inv-loop μ-loop
+returns-2 c = rw (c .before .loop .inv, sub-eq-zero-of-le (c .loop-test .left))
+
+pub next-waiting-spec : {M : Type 1} → statement M
+next-waiting-spec =
+    tie.close
+    (tie.spec
+    Inv-loop
+    μ-loop
+    loop-holds
+    mul-half-at
+    add-half-at
+    half-at-requires
+    returns
+    add-at
+    loop-less
+    loop-again
+    returns-2)

@@ -1,0 +1,85 @@
+-- The check. 01: "check [makes tests] 1 to 15"; "Refusals 1 to 9 leave the workspace untouched, 10 to 15 zero four halfwords per code
+-- byte. Acceptance writes per code byte: height plus 1 (0 if unpictured), 1 plus the offset of the topmost label's maker (0 if none),
+-- 0, 0. Workspace past that is untouched."
+use mathlib.Core.Bool.{Bool, true, cond, not, _&&_}
+use mathlib.Core.List.{List, [], _∷_, _++_}
+use mathlib.Core.Option.{Option, none, some}
+use Prim.Native.Nat.{ℕ, zero, suc, _+_, _*_}
+use lib.Dec.{eqb, leb, ltb}
+use lib.ListN.{length, getD, drop, replicate}
+use Rattle.words.specs.Refusal.{refusal, _when_}
+use Rattle.record.specs.Header.{codeOf}
+use Rattle.record.specs.Entries.{entryCount}
+use Rattle.record.specs.Number.{recordNumber}
+use Rattle.layout.specs.Cut.{Marks, Cut, bad, cut, cutOf}
+use Rattle.layout.specs.Faults.{codeNumber}
+use Rattle.stackmap.specs.Slots.{Slot, topOrigin}
+use Rattle.stackmap.specs.Ways.{Module}
+use Rattle.stackmap.specs.Walk.{State, States, blank, waiting, done, walkOf}
+
+abbrev pub allAtMost : ℕ → List ℕ → Bool
+allAtMost most [] = true
+allAtMost most (x ∷ xs) = leb x most && allAtMost most xs
+
+-- 9: "results list of wrong length or content". "one byte 0 to 2 per procedure from 0 up, ..; procedure 0 has 0".
+unfoldable pub resultsSound : List ℕ → List ℕ → Bool
+resultsSound code results =
+    eqb (length results) (entryCount code) && (eqb (getD results 0 0) 0 && allAtMost 2 results)
+
+-- Numbers 1 to 9 for a workspace of so many halfwords; 8: "workspace under four halfwords per code byte".
+unfoldable pub listNumber : List ℕ → List ℕ → ℕ → ℕ
+listNumber r results room =
+    cond (eqb (recordNumber r) 0)
+    (refusal (8 when ltb room (4 * length (codeOf r)) ∷ 9 when not (resultsSound (codeOf r) results) ∷ []))
+    (recordNumber r)
+
+abbrev pub moduleOf : List ℕ → List ℕ → Marks → Module
+moduleOf code results marks = record { code = code; results = results; marks = marks }
+
+-- A number from 10 on, or the lists that the walk found.
+pub data Verdict : Type 0 where
+  refuted : ℕ → Verdict
+  accepted : States → Verdict
+
+-- 15: "some region has no picture".
+abbrev pub walked : Option States → Verdict
+walked none = refuted 15
+walked (some σ) = accepted σ
+
+abbrev pub examined : List ℕ → List ℕ → Cut → Verdict
+examined code results (bad n) = refuted n
+examined code results (cut marks) =
+    cond (eqb (codeNumber code marks) 0) (walked (walkOf (moduleOf code results marks))) (refuted (codeNumber code marks))
+
+unfoldable pub verdictOf : List ℕ → List ℕ → Verdict
+verdictOf code results = examined code results (cutOf code)
+
+-- Four halfwords for a code byte.
+abbrev pub shownSlots : List Slot → List ℕ
+shownSlots l = (length l + 1) ∷ topOrigin l ∷ 0 ∷ 0 ∷ []
+
+abbrev pub shownState : State → List ℕ
+shownState blank = 0 ∷ 0 ∷ 0 ∷ 0 ∷ []
+shownState (waiting l) = shownSlots l
+shownState (done l) = shownSlots l
+
+abbrev pub shownFrom : States → ℕ → ℕ → List ℕ
+shownFrom σ at zero = []
+shownFrom σ at (suc n) = shownState (σ at) ++ shownFrom σ (at + 1) n
+
+-- What the check answers, and the workspace that it leaves.
+pub record Checking : Type 0 where
+  pub number : ℕ
+  pub workspace : List ℕ
+
+abbrev pub checking : ℕ → List ℕ → Checking
+checking n w = record { number = n; workspace = w }
+
+abbrev pub concluded : ℕ → List ℕ → Verdict → Checking
+concluded size w (refuted n) = checking n (replicate (4 * size) 0 ++ drop (4 * size) w)
+concluded size w (accepted σ) = checking 0 (shownFrom σ 0 size ++ drop (4 * size) w)
+
+unfoldable pub checkOf : List ℕ → List ℕ → List ℕ → Checking
+checkOf r results w =
+    cond (eqb (listNumber r results (length w)) 0) (concluded (length (codeOf r)) w (verdictOf (codeOf r) results))
+    (checking (listNumber r results (length w)) w)

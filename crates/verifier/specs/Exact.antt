@@ -1,0 +1,64 @@
+-- What the check accepts, as 01 words it. The letter: "The check accepts exactly the records that meet the written rules".
+use mathlib.Core.Bool.{true}
+use mathlib.Core.List.{List}
+use mathlib.Core.Option.{some}
+use mathlib.Core.Path.{_≡_}
+use Prim.Native.Nat.{ℕ, _≤_, _<_, _+_, _*_}
+use lib.ListN.{length, getD}
+use Rattle.record.specs.Header.{codeOf}
+use Rattle.record.specs.Entries.{entryCount}
+use Rattle.record.specs.Number.{recordNumber}
+use Rattle.layout.specs.Cut.{Marks, cut, cutOf}
+use Rattle.layout.specs.Faults.{codeNumber}
+use Rattle.stackmap.specs.Slots.{Slot, topOrigin}
+use Rattle.stackmap.specs.Ways.{Module}
+use Rattle.stackmap.specs.StackMap.{Map, IsMap, Reached}
+use Rattle.verifier.specs.Check.{resultsSound, moduleOf, listNumber, checkOf}
+
+-- A list of bytes.
+abbrev pub Bytes : List ℕ → Type 0
+Bytes r = (i : ℕ) → getD r i 0 ≤ 255
+
+-- The rules up to 14: the record is sound, the results list fits, and the code is cut into instructions that are in order.
+pub record Ruled (r results : List ℕ) : Type 0 where
+  pub record-sound : recordNumber r ≡ 0
+  pub list-sound : resultsSound (codeOf r) results ≡ true
+  pub marks : Marks
+  pub is-cut : cutOf (codeOf r) ≡ cut marks
+  pub in-order : codeNumber (codeOf r) marks ≡ 0
+
+abbrev pub subject : (r results : List ℕ) → Ruled r results → Module
+subject r results R = moduleOf (codeOf r) results (R .marks)
+
+-- Every region has a map.
+abbrev pub Mapped : (r results : List ℕ) → Ruled r results → Type 0
+Mapped r results R = (p : ℕ) → p < entryCount (codeOf r) → (π : Map) × IsMap (subject r results R) p π
+
+abbrev pub Room : List ℕ → List ℕ → Type 0
+Room r w = 4 * length (codeOf r) ≤ length w
+
+-- Accepted: then the rules are met and every region has a map; and the other way round.
+abbrev pub AcceptsOnly : Type 0
+AcceptsOnly =
+    (r results w : List ℕ) → Bytes r → checkOf r results w .number ≡ 0 → (R : Ruled r results) × Mapped r results R
+
+abbrev pub AcceptsAll : Type 0
+AcceptsAll =
+    (r results w : List ℕ) → Bytes r → Room r w → (R : Ruled r results) → Mapped r results R → checkOf r results w .number ≡ 0
+
+-- 15 is given exactly when the rules up to 14 are met and some region has none.
+abbrev pub RefusesOnly : Type 0
+RefusesOnly =
+    (r results w : List ℕ) → Bytes r → checkOf r results w .number ≡ 15
+    → (R : Ruled r results) × (p : ℕ) × (p < entryCount (codeOf r)) × ((π : Map) → IsMap (subject r results R) p π → ⊥)
+
+-- After acceptance the workspace shows, at each offset of a region, the map of just what is reached: height plus 1 and the topmost
+-- label where there is a list, 0 and 0 where there is none.
+pub record Shows (w : List ℕ) (at : ℕ) (l : List Slot) : Type 0 where
+  pub height : getD w (4 * at) 0 ≡ length l + 1
+  pub origin : getD w (4 * at + 1) 0 ≡ topOrigin l
+
+abbrev pub ShowsReached : Type 0
+ShowsReached =
+    (r results w : List ℕ) → Bytes r → checkOf r results w .number ≡ 0 → (R : Ruled r results) (p : ℕ) → p < entryCount (codeOf r)
+    → (at : ℕ) (l : List Slot) → Reached (subject r results R) p at l → Shows (checkOf r results w .workspace) at l
