@@ -1,0 +1,50 @@
+-- Protected words are as they were after a step: the header, the constants, and the link words of active calls.
+use mathlib.Core.Bool.{Bool, true, false, _&&_, _||_}
+use mathlib.Core.List.{List}
+use mathlib.Core.Path.{_≡_, refl}
+use Prim.Native.Nat.{ℕ, _≤_, _<_}
+use lib.Dec.{leb, ltb}
+use borrow.Author.Tests.{lt-ltb}
+use Rattle.effect.specs.declared.registers.Areas.{Areas}
+use Rattle.effect.specs.declared.registers.Registers.{Registers}
+use Rattle.effect.specs.Memory.{read, isLink, protects}
+use Rattle.effect.specs.Program.{constantsStart, framesStart}
+use Rattle.effect.proofs.Protected.{constant}
+use Rattle.stackmap.specs.Ways.{Module}
+use Rattle.machine.specs.Fits.{fits}
+use Rattle.machine.proofs.Fitting.{fitting}
+use Rattle.machine.proofs.Preserved.{step-holds}
+use Rattle.safety.specs.Active.{Configuration, stepOn}
+use Rattle.safety.proofs.Parts.{registersOf}
+
+pub or-true : (a b : Bool) → b ≡ true → (a || b) ≡ true
+or-true true b e = refl
+or-true false b e = e
+
+header-protected : (A : Areas) (q : Registers) (m : List ℕ) (a : ℕ) → a < 3 → protects A q m a ≡ true
+unfolding protects
+header-protected A q m a l = rw (lt-ltb a 3 l)
+
+link-protected : (A : Areas) (q : Registers) (m : List ℕ) (a : ℕ) → isLink m (q .fp) (q .calls) a ≡ true → protects A q m a ≡ true
+unfolding protects
+link-protected A q m a h =
+    or-true (ltb a 3) _ (or-true (leb (constantsStart A) a && ltb a (framesStart A)) (isLink m (q .fp) (q .calls) a) h)
+
+module _ (M : Module) (A : Areas) (c : Configuration) (e : c .machine .areas ≡ A)
+    (f : fits A (registersOf c) (c .memory) (c .stack) ≡ true) where
+  protected-kept : (a : ℕ) → protects A (registersOf c) (c .memory) a ≡ true → read (stepOn M c .memory) a ≡ read (c .memory) a
+  protected-kept a p =
+      step-holds (M .code) (c .machine) (c .memory) (c .stack) (rw e (fitting A (registersOf c) (c .memory) (c .stack) f)) .spared a
+      (rw e p)
+
+  pub header-kept : (a : ℕ) → a < 3 → read (stepOn M c .memory) a ≡ read (c .memory) a
+  header-kept a l = protected-kept a (header-protected A (registersOf c) (c .memory) a l)
+
+  pub constants-kept : (a : ℕ) → constantsStart A ≤ a → a < framesStart A → read (stepOn M c .memory) a ≡ read (c .memory) a
+  constants-kept a l r =
+      protected-kept a
+      (constant A (registersOf c) (c .memory) a (fitting A (registersOf c) (c .memory) (c .stack) f .links) l r)
+
+  pub links-kept : (a : ℕ) → isLink (c .memory) (registersOf c .fp) (registersOf c .calls) a ≡ true
+      → read (stepOn M c .memory) a ≡ read (c .memory) a
+  links-kept a h = protected-kept a (link-protected A (registersOf c) (c .memory) a h)

@@ -1,0 +1,105 @@
+-- Nothing below the share is read or changed: a step reads of the stack the words that its instruction finds, and stores where those that
+-- go began, both in the share.
+use mathlib.Core.Bool.{Bool, true, false, cond}
+use mathlib.Core.List.{List, [], _∷_}
+use mathlib.Core.Path.{_≡_, _∙_, refl, sym}
+use Prim.Native.Nat.{ℕ, suc, _≤_, _<_, _+_, _-_}
+use native.Mathlib.Omega.{arith}
+use lib.Dec.{eqb, ltb}
+use lib.ListN.{length, getD, drop, set, length-drop, length-set}
+use lib.Seq.{sets, ext-getD, getD-drop, getD-set-same, getD-set-other, set-out}
+use borrow.Author.Tests.{eqb-true, eqb-false, ltb-true, ltb-false}
+use Rattle.opcode.specs.declared.Decoded.the-variants.{At}
+use Rattle.opcode.specs.declared.instruction.Instruction.{Instruction}
+use Rattle.shape.specs.Counts.{needed}
+use Rattle.effect.specs.declared.effect.Effect.{Effect}
+use Rattle.effect.specs.declared.effect.Effect.the-variants.{Trap, Finish, Go}
+use Rattle.effect.specs.declared.effect.Write.{Write}
+use Rattle.effect.specs.declared.registers.Registers.{Registers}
+use Rattle.effect.specs.Program.{program}
+use Rattle.effect.specs.Words.{pushes}
+use Rattle.execute.specs.Depth.{top}
+use Rattle.machine.specs.declared.step.Machine.{Machine}
+use Rattle.machine.specs.declared.step.Stepped.{Stepped}
+use Rattle.machine.specs.Step.{After, after, pushed, settled, performed, stepOf}
+use Rattle.machine.proofs.Stored.{sets-under}
+use Rattle.safety.specs.Active.{shareOf}
+use Rattle.safety.specs.Demand3.{SameFrom}
+use Rattle.safety.proofs.Effects.{Does, traps, finishes, goes, execute-does}
+use Rattle.safety.proofs.Parts.{StepUnread}
+
+set-same : (share : ℕ) (s s' : List ℕ) (j v : ℕ) → SameFrom share s s' → SameFrom share (set s j v) (set s' j v)
+set-same share s s' j v same =
+    record { room = length-set s' j v ∙ same .room ∙ sym (length-set s j v); above = λ i h. by i h (eqb i j) refl (ltb j (length s)) refl }
+  where
+    by : (i : ℕ) → share ≤ i → (t : Bool) → eqb i j ≡ t → (u : Bool) → ltb j (length s) ≡ u
+        → getD (set s' j v) i 0 ≡ getD (set s j v) i 0
+    by i h true e true l =
+        rw (eqb-true i j e) (getD-set-same s' j v 0 (omega (arith, ltb-true j (length s) l, same .room))
+        ∙ sym (getD-set-same s j v 0 (ltb-true j (length s) l)))
+    by i h true e false l =
+        rw (set-out s' j v (omega (arith, ltb-false j (length s) l, same .room)), set-out s j v (ltb-false j (length s) l)) (same .above i h)
+    by i h false e u l =
+        getD-set-other s' j i v 0 (eqb-false i j e) ∙ same .above i h ∙ sym (getD-set-other s j i v 0 (eqb-false i j e))
+
+sets-same : (share : ℕ) (s s' : List ℕ) (j : ℕ) (vs : List ℕ) → SameFrom share s s' → SameFrom share (sets s j vs) (sets s' j vs)
+sets-same share s s' j [] same = same
+sets-same share s s' j (v ∷ vs) same = sets-same share (set s j v) (set s' j v) (suc j) vs (set-same share s s' j v same)
+
+drop-same : (share : ℕ) (s s' : List ℕ) (j : ℕ) → SameFrom share s s' → share ≤ j → drop j s' ≡ drop j s
+drop-same share s s' j same h =
+    ext-getD 0 (drop j s') (drop j s) (rw (length-drop j s', length-drop j s, same .room))
+    (λ i l. getD-drop j s' i 0 ∙ same .above (j + i) (omega arith) ∙ sym (getD-drop j s i 0))
+
+-- Words that begin in the share.
+top-same : (share : ℕ) (s s' : List ℕ) (n height : ℕ) → SameFrom share s s' → share + n ≤ height → top n height s' ≡ top n height s
+top-same share s s' n height same h = rw (drop-same share s s' (height - n) same (omega arith))
+
+-- What a step leaves of each of two stacks.
+record Alike (share : ℕ) (s' : List ℕ) (a b : After) : Type 0 where
+  step : b .stepped ≡ a .stepped
+  memory : b .memory ≡ a .memory
+  above : SameFrom share (a .stack) (b .stack)
+  own : (i : ℕ) → i < share → getD (b .stack) i 0 ≡ getD s' i 0
+
+alike-cond : (share : ℕ) (s' : List ℕ) (t : Bool) (a b c d : After) → Alike share s' a c → Alike share s' b d
+    → Alike share s' (cond t a b) (cond t c d)
+alike-cond share s' true a b c d h k = h
+alike-cond share s' false a b c d h k = k
+
+module _ (share : ℕ) (M : Machine) (m s s' : List ℕ) (same : SameFrom share s s') where
+  as-before : (r : Stepped) → Alike share s' (after r m s) (after r m s')
+  as-before r = record { step = refl; memory = refl; above = same; own = λ i h. refl }
+
+  settled-alike : (size k : ℕ) (P : Write → Registers → Type 0) (e : Effect) → share + k ≤ M .registers .height → Does k P e
+      → Alike share s' (settled size M m s e) (settled size M m s' e)
+  unfolding settled
+  settled-alike size k P (Trap n) h traps = as-before _
+  settled-alike size k P Finish h finishes = as-before _
+  settled-alike size k P (Go gone push write next) h (goes l p) =
+      rw (same .room) (alike-cond share s' (ltb (length s) (M .registers .height - gone + pushes push)) _ _ _ _ (as-before _)
+      (alike-cond share s' (ltb (next .pc) size) _ _ _ _
+      (record {
+        step = refl;
+        memory = rw (top-same share s s' gone (M .registers .height) same (omega arith));
+        above = sets-same share s s' (M .registers .height - gone) (pushed push) same;
+        own = λ i b. sets-under s' (M .registers .height - gone) (pushed push) i (omega arith);
+      })
+      (as-before _)))
+
+  performed-alike : (code : List ℕ) (i : Instruction) (next : ℕ) → share + needed i ≤ M .registers .height
+      → Alike share s' (performed code M m s (At i next)) (performed code M m s' (At i next))
+  unfolding performed
+  performed-alike code i next h =
+      rw (top-same share s s' (needed i) (M .registers .height) same h)
+      (alike-cond share s' (ltb (M .registers .height) (needed i)) _ _ _ _ (as-before _)
+      (settled-alike (length code) (needed i) _ _ h
+      (execute-does (M .registers) m next (program code (M .areas)) (top (needed i) (M .registers .height) s) i)))
+
+pub step-unread : StepUnread
+unfolding stepOf
+step-unread M c i next D h s' same =
+    let share : ℕ = shareOf (c .calls) in
+    let a : Alike share s' (stepOf (M .code) (c .machine) (c .memory) (c .stack)) (stepOf (M .code) (c .machine) (c .memory) s') =
+    rw (D .decoded) (performed-alike share (c .machine) (c .memory) (c .stack) s' same (M .code) i next h) in
+    record { same-step = a .step; same-memory = a .memory; same-share = a .above; keeps-own = a .own }

@@ -1,0 +1,105 @@
+-- How a run of accepted code ends: in a configuration that it visits, finished, spent or in a data trap. A step that does not go on leaves
+-- everything as it was, and where it traps it is on data.
+use mathlib.Core.Bool.{Bool, true, false, cond}
+use mathlib.Core.List.{List}
+use mathlib.Core.Path.{_≡_, refl, subst}
+use Prim.Native.Nat.{ℕ, zero, suc, _+_, _-_}
+use native.Mathlib.Omega.{arith}
+use lib.Dec.{ltb}
+use lib.ListN.{length}
+use Rattle.opcode.specs.Decode.{decodeAt}
+use Rattle.opcode.specs.declared.Decoded.{Decoded}
+use Rattle.opcode.specs.declared.Decoded.the-variants.{Unserved, Past, At}
+use Rattle.shape.specs.Counts.{needed}
+use Rattle.shape.specs.Shape.{shapeOf}
+use Rattle.effect.specs.declared.effect.Effect.{Effect}
+use Rattle.effect.specs.declared.effect.Effect.the-variants.{Trap, Finish, Go}
+use Rattle.effect.specs.declared.registers.Areas.{Areas}
+use Rattle.effect.specs.Program.{areasOf}
+use Rattle.effect.specs.Words.{pushes}
+use Rattle.stackmap.specs.Ways.{Module}
+use Rattle.verifier.specs.Exact.{subject}
+use Rattle.machine.specs.declared.run.End.the-variants.{Finished as finish, Spent, Trapped as stop}
+use Rattle.machine.specs.declared.step.Machine.{Machine}
+use Rattle.machine.specs.declared.step.Outcome.{Outcome}
+use Rattle.machine.specs.declared.step.Outcome.the-variants.{Went, Finished, Trapped}
+use Rattle.machine.specs.Load.{loadOf}
+use Rattle.machine.specs.Run.{proceed, runFrom, runNumber, runOf}
+use Rattle.machine.specs.Step.{After, after, settled, performed, stepOf}
+use Rattle.safety.specs.Active.{Configuration, stepOn, advance, Visits, at-first, one-more}
+use Rattle.safety.specs.Demand3.{Proper, finished, spent, data-trap, loadedConfiguration, Ends, Claim}
+use Rattle.safety.proofs.Parts.{Inv, DataTrap, data-trapped, Steps}
+use Rattle.safety.proofs.Pictures.{Checked, checked}
+use Rattle.safety.proofs.Advancing.{at-place, steps}
+use Rattle.safety.proofs.Throughout.{keeps, at-load, run-safe}
+
+-- What a step that does not go on leaves.
+record Undone (M : Machine) (m s : List ℕ) (a : After) : Type 0 where
+  machine : a .stepped .machine ≡ M
+  memory : a .memory ≡ m
+  stack : a .stack ≡ s
+
+module _ (M : Machine) (m s : List ℕ) where
+  -- A step that stops.
+  abbrev Stops : After → Type 0
+  Stops a = (a .stepped .outcome ≡ Went → ⊥) → Undone M m s a
+
+  nothing-done : (o : Outcome) → Stops (after (record { outcome = o; machine = M }) m s)
+  nothing-done o h = record { machine = refl; memory = refl; stack = refl }
+
+  stops-cond : (t : Bool) (a b : After) → Stops a → Stops b → Stops (cond t a b)
+  stops-cond true a b h k = h
+  stops-cond false a b h k = k
+
+  settled-stops : (size : ℕ) (e : Effect) → Stops (settled size M m s e)
+  unfolding settled
+  settled-stops size (Trap n) = nothing-done _
+  settled-stops size Finish = nothing-done _
+  settled-stops size (Go gone push write next) =
+      stops-cond (ltb (length s) (M .registers .height - gone + pushes push)) _ _ (nothing-done _)
+      (stops-cond (ltb (next .pc) size) _ _ (λ h. absurd (h refl)) (nothing-done _))
+
+  step-stops : (code : List ℕ) → Stops (stepOf code M m s)
+  unfolding stepOf performed
+  step-stops code = by (decodeAt code (length code) (M .registers .pc))
+    where
+      by : (d : Decoded) → Stops (performed code M m s d)
+      by Unserved = nothing-done _
+      by Past = nothing-done _
+      by (At i next) =
+          stops-cond (ltb (M .registers .height) (needed i)) _ _ (nothing-done _) (settled-stops (length code) _)
+
+trap-proper : {n : ℕ} → DataTrap n → Proper (stop n)
+trap-proper (data-trapped l h) = data-trap l h
+
+module _ (M : Module) (C : Checked M) (A : Areas) (first : Configuration) (I : Inv M A first) where
+  ended-at : {n : ℕ} {c : Configuration} → Visits M first n c → (left : ℕ) → Inv M A c → (o : Outcome) → stepOn M c .stepped .outcome ≡ o
+      → (stepOn M c .stepped .outcome ≡ Went
+      → Ends M first (runFrom (M .code) left (suc n) (advance M c .machine) (advance M c .memory) (advance M c .stack)))
+      → Ends M first (proceed (runFrom (M .code) left (n + 1)) n o (stepOn M c .stepped .machine) (stepOn M c .memory) (stepOn M c .stack))
+  ended-at {n = n} v left J Went e later = let z : n + 1 ≡ suc n = omega arith in rw z (later e)
+  ended-at {n = n} {c = c} v left J Finished e later =
+      let U = step-stops (c .machine) (c .memory) (c .stack) (M .code) (λ w. let z : _≡_ {A = ℕ} 0 1 = cc in omega arith) in
+      record { steps = n; last = c; visited = v; ending = finish; proper = finished; ends = rw (U .machine, U .memory, U .stack) }
+  ended-at {n = n} {c = c} v left J (Trapped k) e later =
+      let U = step-stops (c .machine) (c .memory) (c .stack) (M .code) (λ w. let z : _≡_ {A = ℕ} 0 1 = cc in omega arith) in
+      let d : DataTrap k =
+      subst (λ (x : Outcome). Steps M c (at-place M C A c J .out) (shapeOf (at-place M C A c J .instruction)) x) e (steps M C A c J) in
+      record { steps = n; last = c; visited = v; ending = stop k; proper = trap-proper d; ends = rw (U .machine, U .memory, U .stack) }
+
+  ended : (left : ℕ) {n : ℕ} {c : Configuration} → Visits M first n c
+      → Ends M first (runFrom (M .code) left n (c .machine) (c .memory) (c .stack))
+  ended zero {n = n} {c = c} v = record { steps = n; last = c; visited = v; ending = Spent; proper = spent; ends = refl }
+  ended (suc left) {c = c} v =
+      ended-at v left (keeps M C A first I v .inv) (stepOn M c .stepped .outcome) refl (λ w. ended left (one-more v w))
+
+pub claim : Claim
+unfolding runOf runNumber
+claim r results w parameters m s q b accepted ready R =
+    let first = loadedConfiguration r q (loadOf r parameters m s .memory) s in
+    let C = checked r results w b accepted R in
+    let I = at-load r results w parameters m s q b accepted ready R in
+    record {
+      runs = λ budget. rw (R .record-sound, I .fitted) (ended (subject r results R) C (areasOf r) first I budget at-first);
+      safe = run-safe r results w parameters m s q b accepted ready R;
+    }

@@ -1,0 +1,164 @@
+-- A completed step keeps the frames in step with the active calls: CALL writes a new frame's link words above the others, RTN goes back to
+-- the one below, and every step keeps the link words there are, which are protected.
+use mathlib.Core.Bool.{Bool, true, false, cond, _||_}
+use mathlib.Core.List.{List, [], _∷_}
+use mathlib.Core.Path.{_≡_, _∙_, refl, sym}
+use Prim.Native.Nat.{ℕ, suc, _+_, _-_}
+use native.Mathlib.Omega.{arith}
+use lib.Dec.{eqb, ltb}
+use lib.ListN.{length, set, length-set}
+use lib.Seq.{sets, getD-set-same, getD-set-other}
+use Rattle.opcode.specs.declared.Decoded.the-variants.{At}
+use Rattle.opcode.specs.declared.instruction.Instruction.{Instruction}
+use Rattle.shape.specs.Counts.{needed}
+use Rattle.shape.specs.Shape.{shapeOf}
+use Rattle.shape.specs.declared.Shape.{Shape}
+use Rattle.shape.specs.declared.Shape.the-variants.{Straight, Drop, Goto, Branch, Keep, Loop, Again, Select, Exit, Invoke, Begin, Return}
+use Rattle.effect.specs.declared.effect.Effect.{Effect}
+use Rattle.effect.specs.declared.effect.Effect.the-variants.{Trap, Finish, Go}
+use Rattle.effect.specs.declared.effect.Write.{Write}
+use Rattle.effect.specs.declared.registers.Registers.{Registers}
+use Rattle.effect.specs.Memory.{read, savedFp, isLink}
+use Rattle.effect.specs.Program.{program, framesStart}
+use Rattle.effect.specs.Words.{pushes}
+use Rattle.effect.proofs.Links.{link-near}
+use Rattle.execute.specs.Depth.{top}
+use Rattle.stackmap.specs.Ways.{Module}
+use Rattle.machine.specs.declared.step.Machine.{Machine}
+use Rattle.machine.specs.declared.step.Outcome.the-variants.{Went, Trapped}
+use Rattle.machine.specs.Step.{After, written, settled, performed, stepOf}
+use Rattle.safety.specs.Active.{Call, without, callsAfter, stepOn}
+use Rattle.safety.proofs.AsLoaded.{or-true, links-kept}
+use Rattle.safety.proofs.Effects.{Does, traps, finishes, goes, Stays, Begins, Leaves, Framing, execute-does}
+use Rattle.safety.proofs.Parts.{Framed, no-frame, a-frame, registersOf, FramesKept}
+
+-- What a completed step did: a write and registers of which P holds.
+pub record Did (P : Write → Registers → Type 0) (m : List ℕ) (a : After) : Type 0 where
+  pub write : Write
+  pub registers : Registers
+  pub gone : List ℕ
+  pub done : P write registers
+  pub memory : a .memory ≡ written m gone write
+  pub fp : a .stepped .machine .registers .fp ≡ registers .fp
+  pub calls : a .stepped .machine .registers .calls ≡ registers .calls
+
+did-cond : (P : Write → Registers → Type 0) (m : List ℕ) (t : Bool) (a b : After) → (a .stepped .outcome ≡ Went → Did P m a)
+    → (b .stepped .outcome ≡ Went → Did P m b) → cond t a b .stepped .outcome ≡ Went → Did P m (cond t a b)
+did-cond P m true a b h k = h
+did-cond P m false a b h k = k
+
+trapped-not : {A : Type 0} (n : ℕ) → Trapped n ≡ Went → A
+trapped-not n w = let z : _≡_ {A = ℕ} 0 1 = cc in absurd (omega arith)
+
+module _ (M : Machine) (m s : List ℕ) where
+  settled-did : (size k : ℕ) (P : Write → Registers → Type 0) (e : Effect) → Does k P e → settled size M m s e .stepped .outcome ≡ Went
+      → Did P m (settled size M m s e)
+  unfolding settled
+  settled-did size k P (Trap n) traps = trapped-not n
+  settled-did size k P Finish finishes = λ w. let z : _≡_ {A = ℕ} 0 1 = cc in absurd (omega arith)
+  settled-did size k P (Go gone push write next) (goes l p) =
+      did-cond P m (ltb (length s) (M .registers .height - gone + pushes push)) _ _ (trapped-not 36)
+      (did-cond P m (ltb (next .pc) size) _ _
+      (λ w. record {
+        write = write;
+        registers = next;
+        gone = top gone (M .registers .height) s;
+        done = p;
+        memory = refl;
+        fp = refl;
+        calls = refl;
+      })
+      (trapped-not 21))
+
+  pub performed-did : (code : List ℕ) (i : Instruction) (next : ℕ) → performed code M m s (At i next) .stepped .outcome ≡ Went
+      → Did (Framing (M .registers) m next (shapeOf i)) m (performed code M m s (At i next))
+  unfolding performed
+  performed-did code i next =
+      did-cond _ m (ltb (M .registers .height) (needed i)) _ _ (trapped-not 22)
+      (settled-did (length code) (needed i) _ _
+      (execute-does (M .registers) m next (program code (M .areas)) (top (needed i) (M .registers .height) s) i))
+
+saved-fp : (m : List ℕ) (fp link saved : ℕ) → fp ≡ link + 2 → read m link ≡ saved → savedFp m fp ≡ saved
+saved-fp m fp link saved e r =
+    let place : fp - 2 ≡ link = omega arith in
+    rw place r
+
+-- Frames stay where their link words do.
+framed-kept : (m n : List ℕ) (start fp : ℕ) (calls : List Call) → Framed m start fp calls
+    → ((b : ℕ) → isLink m fp (length calls) b ≡ true → read n b ≡ read m b) → Framed n start fp calls
+framed-kept m n start fp [] (no-frame e) k = no-frame e
+framed-kept m n start fp (c ∷ calls) (a-frame e r t rest) k =
+    a-frame e (k (c .link) (link-near m fp (length calls) (c .link) (omega arith) (omega arith)) ∙ r)
+    (k (c .link + 1) (link-near m fp (length calls) (c .link + 1) (omega arith) (omega arith)) ∙ t)
+    (framed-kept m n start (c .savedFp) calls rest
+    (λ b h. k b (or-true (eqb (b + 2) fp || eqb (b + 1) fp) (isLink m (savedFp m fp) (length calls) b)
+    (rw (saved-fp m fp (c .link) (c .savedFp) e r) h))))
+
+frame-below : (m : List ℕ) (start fp n : ℕ) (calls : List Call) → Framed m start fp calls → (n ≡ 0 → ⊥) → length calls ≡ n
+    → Framed m start (savedFp m fp) (without calls) × (length (without calls) ≡ n - 1)
+frame-below m start fp n [] (no-frame e) h count = absurd (h (sym count))
+frame-below m start fp n (c ∷ calls) (a-frame e r t rest) h count =
+    (rw (saved-fp m fp (c .link) (c .savedFp) e r) rest, omega arith)
+
+-- The frames, and how many they are.
+abbrev InStep : List ℕ → ℕ → Registers → List Call → Type 0
+InStep m start q calls = Framed m start (q .fp) calls × (length calls ≡ q .calls)
+
+module _ (M : Module) (start next : ℕ) (m n gone : List ℕ) (q : Registers) (calls : List Call) (F : Framed m start (q .fp) calls)
+    (count : length calls ≡ q .calls) (kept : (b : ℕ) → isLink m (q .fp) (q .calls) b ≡ true → read n b ≡ read m b) where
+  same-frames : Framed n start (q .fp) calls
+  same-frames = framed-kept m n start (q .fp) calls F (λ b h. kept b (rw (← count) h))
+
+  stays-framed : (q' : Registers) → Stays q q' → InStep n start q' calls
+  stays-framed q' y = (rw (y .fp) same-frames, count ∙ sym (y .calls))
+
+  begins-framed : (p : ℕ) (write : Write) (q' : Registers) → Begins q m next write q' → n ≡ written m gone write
+      → InStep n start q' (callsAfter M q next (Invoke p) calls)
+  begins-framed p write q' y e =
+      let made : n ≡ sets m (q .mp) (q .fp ∷ next ∷ []) = e ∙ rw (y .wrote) in
+      let second : q .mp + 1 ≡ suc (q .mp) = omega arith in
+      let first : read n (q .mp) ≡ q .fp =
+      rw made (getD-set-other (set m (q .mp) (q .fp)) (suc (q .mp)) (q .mp) next 0 (λ z. omega arith)
+      ∙ getD-set-same m (q .mp) (q .fp) 0 (omega (arith, y .room))) in
+      let back : read n (q .mp + 1) ≡ next =
+      rw (made, second) (getD-set-same (set m (q .mp) (q .fp)) (suc (q .mp)) next 0
+      (omega (arith, y .room, length-set m (q .mp) (q .fp)))) in
+      (a-frame (y .fp) first back same-frames, omega (arith, count, y .calls))
+
+  leaves-framed : (write : Write) (q' : Registers) → Leaves q m write q' → n ≡ written m gone write
+      → InStep n start q' (callsAfter M q next Return calls)
+  leaves-framed write q' y e =
+      let made : n ≡ m = e ∙ rw (y .wrote) in
+      let f = frame-below m start (q .fp) (q .calls) calls F (y .active) count in
+      (rw (y .fp, made) (f .0), f .1 ∙ sym (y .calls))
+
+  -- By the shape of the instruction, as the active calls are.
+  framed-after : (shape : Shape) (write : Write) (q' : Registers) → Framing q m next shape write q' → n ≡ written m gone write
+      → InStep n start q' (callsAfter M q next shape calls)
+  framed-after (Straight pops pushes) write q' y e = stays-framed q' y
+  framed-after (Drop k) write q' y e = stays-framed q' y
+  framed-after (Goto d) write q' y e = stays-framed q' y
+  framed-after (Branch d) write q' y e = stays-framed q' y
+  framed-after (Keep d) write q' y e = stays-framed q' y
+  framed-after (Loop d) write q' y e = stays-framed q' y
+  framed-after Again write q' y e = stays-framed q' y
+  framed-after (Select t k) write q' y e = stays-framed q' y
+  framed-after Exit write q' y e = stays-framed q' y
+  framed-after (Invoke p) write q' y e = begins-framed p write q' y e
+  framed-after (Begin par) write q' y e = stays-framed q' y
+  framed-after Return write q' y e = leaves-framed write q' y e
+
+pub frames-kept : FramesKept
+unfolding stepOf
+frames-kept M A c i next D e f F count w =
+    let q : Registers = registersOf c in
+    let a : After = performed (M .code) (c .machine) (c .memory) (c .stack) (At i next) in
+    let is : stepOn M c ≡ a = rw (D .decoded) in
+    let did : Did (Framing q (c .memory) next (shapeOf i)) (c .memory) a =
+    performed-did (c .machine) (c .memory) (c .stack) (M .code) i next (rw (← is) w) in
+    let kept : (b : ℕ) → isLink (c .memory) (q .fp) (q .calls) b ≡ true → read (a .memory) b ≡ read (c .memory) b =
+    λ b h. rw (← is) (links-kept M A c e f b h) in
+    let t =
+    framed-after M (framesStart A) next (c .memory) (a .memory) (did .gone) q (c .calls) F count kept (shapeOf i) (did .write)
+    (did .registers) (did .done) (did .memory) in
+    rw (D .decoded, did .fp, did .calls) t

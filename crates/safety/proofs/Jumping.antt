@@ -1,0 +1,71 @@
+-- POP and the jumps: each goes to one of its ways out, JUMP_T and JUMP_F with the boolean kept where they jump.
+use mathlib.Core.Bool.{Bool, true, false, cond}
+use mathlib.Core.List.{List, [], _∷_}
+use mathlib.Core.Option.{some}
+use mathlib.Core.Path.{_≡_, refl}
+use Prim.Native.Nat.{ℕ}
+use lib.Dec.{eqb, leb}
+use Rattle.opcode.specs.Distance.{placeAt}
+use Rattle.effect.specs.declared.effect.Effect.the-variants.{Go}
+use Rattle.effect.specs.declared.effect.Push.the-variants.{NoPush}
+use Rattle.effect.specs.declared.effect.Write.the-variants.{NoWrite}
+use Rattle.effect.specs.Words.{moved}
+use Rattle.control.specs.Control.{jumped, jumps, jumpsIfFalse, jumpsKeeping}
+use Rattle.stackmap.specs.Slots.{Slot, popWords, dropSlots}
+use Rattle.stackmap.specs.Ways.{Way, _gets_, after, both}
+use Rattle.stackmap.specs.StackMap.{Among, here, there}
+use Rattle.safety.specs.Active.{Configuration}
+use Rattle.safety.proofs.Parts.{registersOf}
+use Rattle.safety.proofs.Settling.{good-cond, good-boolean}
+use Rattle.safety.proofs.Moving.{Start, Taken, taken, among-taken, Stays, words-go, popped-go}
+
+pub among-on : (t u : ℕ) (k j : List Slot) → Among t k (both (t gets k) (u gets j))
+among-on t u k j = by (leb t u)
+  where
+    by : (b : Bool) → Among t k (cond b (t gets k ∷ u gets j ∷ []) (u gets j ∷ t gets k ∷ []))
+    by true = here
+    by false = there here
+
+pub among-away : (t u : ℕ) (k j : List Slot) → Among u j (both (t gets k) (u gets j))
+among-away t u k j = by (leb t u)
+  where
+    by : (b : Bool) → Among u j (cond b (t gets k ∷ u gets j ∷ []) (u gets j ∷ t gets k ∷ []))
+    by true = there here
+    by false = here
+
+among-either : (b : Bool) (t u : ℕ) (k : List Slot) → Among (cond b u t) k (both (t gets k) (u gets k))
+among-either true t u k = among-away t u k k
+among-either false t u k = among-on t u k k
+
+module _ {code : List ℕ} {c : Configuration} {l : List Slot} {out : List Way} {Done : Type 0} (S : Start code c l out) (next : ℕ) where
+  pub drop-goes : (n : ℕ) → after (dropSlots n l) (λ rest. next gets rest ∷ []) ≡ some out
+      → Stays code c out Done (Go n NoPush NoWrite (moved (registersOf c) next))
+  drop-goes n w =
+      let T : Taken (dropSlots n l) (λ rest. next gets rest ∷ []) out = taken (dropSlots n l) (λ rest. next gets rest ∷ []) out w in
+      words-go S n NoPush NoWrite (moved (registersOf c) next) (T .rest) (T .found) (among-taken T next (T .rest) here)
+
+  pub jump-goes : (d : ℕ) → some (placeAt (registersOf c .pc) d gets l ∷ []) ≡ some out → Stays code c out Done (jumps (registersOf c) d)
+  unfolding jumps
+  jump-goes d w =
+      let T : Taken (some l) (λ rest. placeAt (registersOf c .pc) d gets l ∷ []) out = taken (some l) _ out w in
+      words-go S 0 NoPush NoWrite (moved (registersOf c) (jumped (registersOf c) d)) l refl (among-taken T (jumped (registersOf c) d) l here)
+
+  pub branch-goes : (d b : ℕ) → after (popWords 1 l) (λ rest. both (next gets rest) (placeAt (registersOf c .pc) d gets rest)) ≡ some out
+      → Stays code c out Done (jumpsIfFalse (registersOf c) next d b)
+  unfolding jumpsIfFalse
+  branch-goes d b w =
+      let away : ℕ = jumped (registersOf c) d in
+      let T : Taken (popWords 1 l) (λ rest. both (next gets rest) (away gets rest)) out = taken (popWords 1 l) _ out w in
+      good-boolean b _
+      (popped-go S 1 _ T NoPush NoWrite (moved (registersOf c) (cond (eqb b 0) away next)) (among-either (eqb b 0) next away (T .rest)))
+
+  pub keep-goes : (when d b : ℕ) → after (popWords 1 l) (λ rest. both (next gets rest) (placeAt (registersOf c .pc) d gets l)) ≡ some out
+      → Stays code c out Done (jumpsKeeping (registersOf c) next when d b)
+  unfolding jumpsKeeping
+  keep-goes when d b w =
+      let away : ℕ = jumped (registersOf c) d in
+      let T : Taken (popWords 1 l) (λ rest. both (next gets rest) (away gets l)) out = taken (popWords 1 l) _ out w in
+      good-boolean b _
+      (good-cond (eqb b when) _ _
+      (λ t. words-go S 0 NoPush NoWrite (moved (registersOf c) away) l refl (among-taken T away l (among-away next away (T .rest) l)))
+      (λ t. popped-go S 1 _ T NoPush NoWrite (moved (registersOf c) next) (among-on next away (T .rest) l)))

@@ -1,0 +1,23 @@
+-- Demand 3 from its parts: memory and frames, the stack below the share, slots and labels.
+pub mod Parts
+pub mod Words
+pub mod Effects
+pub mod Below
+pub mod AsLoaded
+pub mod Frames
+pub mod Traps
+pub mod Sharing
+pub mod Settling
+pub mod Plain
+pub mod Moving
+pub mod Jumping
+pub mod Tables
+pub mod Labels
+pub mod Slots
+pub mod Pictures
+pub mod Loaded
+pub mod Suspending
+pub mod Advancing
+pub mod Throughout
+pub mod Ending
+pub mod Joining

@@ -1,0 +1,104 @@
+-- The invariant holds of a record that is freshly loaded: no call is active, the stack is empty, and procedure 0's entry is where its
+-- stack picture begins.
+use mathlib.Core.Bool.{Bool, true, false, cond, not, _&&_}
+use mathlib.Core.List.{List, [], _∷_}
+use mathlib.Core.Path.{_≡_, _∙_, refl, sym}
+use Prim.Native.Nat.{ℕ, _≤_, _<_}
+use native.Mathlib.Omega.{arith}
+use lib.Dec.{eqb, leb}
+use lib.ListN.{length}
+use borrow.Author.Tests.{eqb-true, leb-true, eq-eqb}
+use Rattle.words.specs.Refusal.{refusal, _when_}
+use Rattle.record.specs.Header.{headerOf, codeOf}
+use Rattle.record.specs.Entries.{entryCount}
+use Rattle.record.specs.Number.{recordNumber}
+use Rattle.effect.specs.declared.registers.Registers.{Registers}
+use Rattle.effect.specs.Program.{areasOf, programOf, framesStart}
+use Rattle.machine.specs.declared.load.Loaded.the-variants.{Refused, Ready}
+use Rattle.machine.specs.Fits.{sizesTaken}
+use Rattle.machine.specs.Load.{loading, loadedMemory, startOf, loadNumber, loadOf}
+use Rattle.machine.proofs.Fitting.{Fitting, fitted}
+use Rattle.machine.proofs.Loading.{taken-sizes, loaded-word, loaded-length, word-low, word-third}
+use Rattle.stackmap.specs.Ways.{Module}
+use Rattle.stackmap.specs.StackMap.{entered}
+use Rattle.safety.specs.Demand3.{loadedConfiguration, holds-none}
+use Rattle.safety.proofs.Parts.{no-frame, no-caller, Inv}
+
+-- What load took, and what it left.
+pub record Taken (r parameters m s : List ℕ) (q : Registers) : Type 0 where
+  pub few : length parameters ≤ areasOf r .globals
+  pub sizes : sizesTaken (areasOf r) m s ≡ true
+  pub start : q ≡ startOf (programOf r)
+  pub memory : loadOf r parameters m s .memory ≡ loadedMemory r parameters (length m)
+
+refused-not : {A : Type 0} (n : ℕ) (q : Registers) → Refused n ≡ Ready q → A
+refused-not n q e = let z : _≡_ {A = ℕ} 0 1 = cc in absurd (omega arith)
+
+-- Number 8 is not given.
+not-eighth : (a b : Bool) → refusal (8 when not (a && b) ∷ []) ≡ 0 → (a ≡ true) × (b ≡ true)
+not-eighth true true e = (refl, refl)
+not-eighth true false e = let z : _≡_ {A = ℕ} 8 0 = e in absurd (omega arith)
+not-eighth false b e = let z : _≡_ {A = ℕ} 8 0 = e in absurd (omega arith)
+
+module _ (r parameters m s : List ℕ) (q : Registers) (sound : recordNumber r ≡ 0) where
+  no-number : loadNumber r parameters m s ≡ 0 → (leb (length parameters) (areasOf r .globals) ≡ true) × (sizesTaken (areasOf r) m s ≡ true)
+  unfolding loadNumber
+  no-number e =
+      not-eighth (leb (length parameters) (areasOf r .globals)) (sizesTaken (areasOf r) m s)
+      (rw (eq-eqb (recordNumber r) 0 sound) at e)
+
+  pub load-taken : loadOf r parameters m s .answer ≡ Ready q → Taken r parameters m s q
+  unfolding loadOf
+  load-taken = by (eqb (loadNumber r parameters m s) 0) refl
+    where
+      by : (t : Bool) → eqb (loadNumber r parameters m s) 0 ≡ t
+          → cond t (loading (Ready (startOf (programOf r))) (loadedMemory r parameters (length m)))
+          (loading (Refused (loadNumber r parameters m s)) m) .answer
+          ≡ Ready q
+          → Taken r parameters m s q
+      by true e ready =
+          let (few, sizes) = no-number (eqb-true (loadNumber r parameters m s) 0 e) in
+          record { few = leb-true (length parameters) (areasOf r .globals) few; sizes = sizes; start = cc; memory = rw e }
+      by false e ready = refused-not (loadNumber r parameters m s) q ready
+
+  module _ (ready : loadOf r parameters m s .answer ≡ Ready q) where
+    loaded-fits : Fitting (areasOf r) q (loadOf r parameters m s .memory) s
+    unfolding startOf
+    loaded-fits =
+        let T = load-taken ready in
+        let A = areasOf r in
+        let (areas, room, deep) = taken-sizes A m s true (sym (T .sizes)) refl in
+        let size : length (loadedMemory r parameters (length m)) ≡ length m = loaded-length r parameters (length m) (T .few) areas in
+        rw (T .start, T .memory) (record {
+          areas = rw size areas;
+          room = rw size room;
+          deep = deep;
+          word0 = loaded-word r parameters (length m) 0 ∙ word-low r parameters (headerOf r) refl 0 (omega arith);
+          word1 = loaded-word r parameters (length m) 1 ∙ word-low r parameters (headerOf r) refl 1 (omega arith);
+          word2 = loaded-word r parameters (length m) 2 ∙ word-third r parameters (headerOf r) refl 2 refl;
+          global = refl;
+          frame = omega arith;
+          within = rw size areas;
+          height = omega arith;
+          depth = omega arith;
+          links = eq-eqb (framesStart A) (framesStart A) refl;
+        })
+
+    pub loaded-holds : (M : Module) → M .code ≡ codeOf r → 0 < entryCount (M .code)
+        → Inv M (areasOf r) (loadedConfiguration r q (loadOf r parameters m s .memory) s)
+    unfolding startOf
+    loaded-holds M same some =
+        let T = load-taken ready in
+        let F = fitted (areasOf r) q (loadOf r parameters m s .memory) s loaded-fits in
+        record {
+          areas = refl;
+          fitted = F;
+          framed = no-frame {fp = q .fp} (rw (T .start));
+          counted = rw (T .start);
+          procedure = some;
+          slots = [];
+          reached = rw (T .start, ← same) entered;
+          height = rw (T .start);
+          holds = holds-none;
+          suspended = no-caller;
+        }

@@ -1,0 +1,125 @@
+-- The invariant of a run of accepted code, and the statements that its proof is made of.
+use mathlib.Core.Bool.{true}
+use mathlib.Core.List.{List, [], _∷_}
+use mathlib.Core.Option.{Option, some}
+use mathlib.Core.Path.{_≡_}
+use Prim.Native.Nat.{ℕ, _≤_, _<_, _+_, _-_}
+use lib.ListN.{length}
+use Rattle.record.specs.Entries.{entryAt, entryCount}
+use Rattle.opcode.specs.Decode.{decodeAt}
+use Rattle.opcode.specs.declared.Decoded.the-variants.{At}
+use Rattle.opcode.specs.declared.instruction.Instruction.{Instruction}
+use Rattle.shape.specs.Counts.{needed}
+use Rattle.shape.specs.Shape.{shapeOf}
+use Rattle.shape.specs.declared.Shape.{Shape}
+use Rattle.shape.specs.declared.Shape.the-variants.{Straight, Drop, Goto, Branch, Keep, Loop, Again, Select, Exit, Invoke, Begin, Return}
+use Rattle.effect.specs.Memory.{read}
+use Rattle.effect.specs.Program.{framesStart}
+use Rattle.effect.specs.declared.registers.Areas.{Areas}
+use Rattle.effect.specs.declared.registers.Registers.{Registers}
+use Rattle.stackmap.specs.Slots.{Slot, word, pushWords, popWords}
+use Rattle.stackmap.specs.Ways.{Module, Way, parametersOf, resultsOf, isLoop, ways}
+use Rattle.stackmap.specs.StackMap.{Reached, Among}
+use Rattle.machine.specs.declared.step.Outcome.{Outcome}
+use Rattle.machine.specs.declared.step.Outcome.the-variants.{Went, Finished, Trapped}
+use Rattle.machine.specs.Fits.{fits}
+use Rattle.safety.specs.Active.{Call, running, shareOf, Configuration, callsAfter, stepOn, advance}
+use Rattle.safety.specs.Demand3.{Holds, SameFrom, Unread}
+
+abbrev pub registersOf : Configuration → Registers
+registersOf c = c .machine .registers
+
+-- The frames of the active calls, from FP down to where frames begin: each call's link words as it wrote them.
+pub data Framed (m : List ℕ) (start : ℕ) : ℕ → List Call → Type 0 where
+  no-frame : {fp : ℕ} → fp ≡ start → Framed m start fp []
+  a-frame : {fp : ℕ} {c : Call} {calls : List Call} → fp ≡ c .link + 2 → read m (c .link) ≡ c .savedFp → read m (c .link + 1) ≡ c .back → Framed m start (c .savedFp) calls → Framed m start fp (c ∷ calls)
+
+-- What each active call's caller has on its share of the stack, under the callee's, and finds when it goes on.
+pub data Suspended (M : Module) (s : List ℕ) : List Call → Type 0 where
+  no-caller : Suspended M s []
+  a-caller : {c : Call} {calls : List Call} (l : List Slot) → Reached M (running calls) (c .back) (pushWords (resultsOf M (c .procedure)) l) → c .share ≡ shareOf calls + length l → Holds (M .code) s (shareOf calls) l → c .procedure < entryCount (M .code) → Suspended M s calls → Suspended M s (c ∷ calls)
+
+-- The invariant.
+pub record Inv (M : Module) (A : Areas) (c : Configuration) : Type 0 where
+  pub areas : c .machine .areas ≡ A
+  pub fitted : fits A (registersOf c) (c .memory) (c .stack) ≡ true
+  pub framed : Framed (c .memory) (framesStart A) (registersOf c .fp) (c .calls)
+  pub counted : length (c .calls) ≡ registersOf c .calls
+  pub procedure : running (c .calls) < entryCount (M .code)
+  pub slots : List Slot
+  pub reached : Reached M (running (c .calls)) (registersOf c .pc) slots
+  pub height : registersOf c .height ≡ shareOf (c .calls) + length slots
+  pub holds : Holds (M .code) (c .stack) (shareOf (c .calls)) slots
+  pub suspended : Suspended M (c .stack) (c .calls)
+
+-- The instruction that a configuration is about to do.
+pub record Doing (M : Module) (c : Configuration) (i : Instruction) (next : ℕ) : Type 0 where
+  pub decoded : decodeAt (M .code) (length (M .code)) (registersOf c .pc) ≡ At i next
+
+-- Part 1: a completed step keeps the frames in step with the active calls.
+abbrev pub FramesKept : Type 0
+FramesKept =
+    (M : Module) (A : Areas) (c : Configuration) (i : Instruction) (next : ℕ) → Doing M c i next → c .machine .areas ≡ A
+    → fits A (registersOf c) (c .memory) (c .stack) ≡ true → Framed (c .memory) (framesStart A) (registersOf c .fp) (c .calls)
+    → length (c .calls) ≡ registersOf c .calls → stepOn M c .stepped .outcome ≡ Went
+    → Framed (advance M c .memory) (framesStart A) (registersOf (advance M c) .fp) (advance M c .calls)
+    × (length (advance M c .calls) ≡ registersOf (advance M c) .calls)
+
+-- Part 2: a step whose words lie in the share reads and changes nothing below it.
+abbrev pub StepUnread : Type 0
+StepUnread =
+    (M : Module) (c : Configuration) (i : Instruction) (next : ℕ) → Doing M c i next
+    → shareOf (c .calls) + needed i ≤ registersOf c .height → (s' : List ℕ) → SameFrom (shareOf (c .calls)) (c .stack) s' → Unread M c s'
+
+-- Part 3: what a step does to the share, by the shape of its instruction.
+pub data DataTrap (n : ℕ) : Type 0 where
+  data-trapped : 30 ≤ n → n ≤ 38 → DataTrap n
+
+-- Where control goes within the procedure: to one of the ways out, with its list on the share.
+pub record Within (code : List ℕ) (share : ℕ) (out : List Way) (q : Registers) (s : List ℕ) : Type 0 where
+  pub slots : List Slot
+  pub among : Among (q .pc) slots out
+  pub height : q .height ≡ share + length slots
+  pub holds : Holds code s share slots
+
+-- The stack and its height are left as they are.
+pub record Untouched (c : Configuration) (q : Registers) (s : List ℕ) : Type 0 where
+  pub same-height : q .height ≡ registersOf c .height
+  pub same-stack : s ≡ c .stack
+
+abbrev pub Moves : Module → Configuration → List Way → Registers → List ℕ → Shape → Type 0
+Moves M c out q s (Straight pops pushes) = Within (M .code) (shareOf (c .calls)) out q s
+Moves M c out q s (Drop n) = Within (M .code) (shareOf (c .calls)) out q s
+Moves M c out q s (Goto d) = Within (M .code) (shareOf (c .calls)) out q s
+Moves M c out q s (Branch d) = Within (M .code) (shareOf (c .calls)) out q s
+Moves M c out q s (Keep d) = Within (M .code) (shareOf (c .calls)) out q s
+Moves M c out q s (Loop d) = Within (M .code) (shareOf (c .calls)) out q s
+Moves M c out q s Again = Within (M .code) (shareOf (c .calls)) out q s
+Moves M c out q s (Select t n) = Within (M .code) (shareOf (c .calls)) out q s
+Moves M c out q s Exit = Within (M .code) (shareOf (c .calls)) out q s
+Moves M c out q s (Invoke p) = Untouched c q s × (q .pc ≡ entryAt (M .code) p)
+Moves M c out q s (Begin par) = Within (M .code) (shareOf (c .calls)) out q s
+Moves M c out q s Return = Untouched c q s × (q .pc ≡ read (c .memory) (registersOf c .fp - 1))
+
+-- A step traps on data, finishes, or moves.
+abbrev pub Steps : Module → Configuration → List Way → Shape → Outcome → Type 0
+Steps M c out shape Went = Moves M c out (stepOn M c .stepped .machine .registers) (stepOn M c .stack) shape
+Steps M c out shape Finished = shape ≡ Return
+Steps M c out shape (Trapped n) = DataTrap n
+
+abbrev pub SlotsKept : Type 0
+SlotsKept =
+    (M : Module) (A : Areas) (c : Configuration) (i : Instruction) (next p : ℕ) (l : List Slot) (out : List Way) → Doing M c i next
+    → c .machine .areas ≡ A → fits A (registersOf c) (c .memory) (c .stack) ≡ true
+    → registersOf c .height ≡ shareOf (c .calls) + length l → Holds (M .code) (c .stack) (shareOf (c .calls)) l
+    → ways M p (registersOf c .pc) next (shapeOf i) l ≡ some out
+    → ((t : ℕ) (k : List Slot) → Among t k out → t < length (M .code))
+    → ((d : ℕ) → shapeOf i ≡ Invoke d → (0 < d) × (d < entryCount (M .code)) × (entryAt (M .code) d < length (M .code)))
+    → (shapeOf i ≡ Return → 0 < registersOf c .calls → read (c .memory) (registersOf c .fp - 1) < length (M .code))
+    → Steps M c out (shapeOf i) (stepOn M c .stepped .outcome)
+
+-- An instruction finds its words in the share.
+abbrev pub FindsWords : Type 0
+FindsWords =
+    (M : Module) (p at next : ℕ) (i : Instruction) (l : List Slot) (out : List Way) → ways M p at next (shapeOf i) l ≡ some out
+    → needed i ≤ length l

@@ -1,0 +1,103 @@
+-- From an effect to its step: an effect that traps on data, finishes rightly, or goes to a place in the code and leaves the registers
+-- and the stack as they must be, is carried out so. Carrying it out adds the trap 36, and 21 for a place outside the code.
+use mathlib.Core.Bool.{Bool, true, false, cond}
+use mathlib.Core.List.{List}
+use mathlib.Core.Path.{_≡_, refl, sym, subst}
+use Prim.Native.Nat.{ℕ, _+_, _-_, _≤_, _<_}
+use native.Mathlib.Omega.{arith}
+use lib.Dec.{ltb}
+use lib.ListN.{length}
+use lib.Seq.{sets}
+use borrow.Author.Tests.{ltb-true, ltb-false, lt-ltb}
+use Rattle.opcode.specs.declared.Decoded.{Decoded}
+use Rattle.opcode.specs.declared.instruction.Instruction.{Instruction}
+use Rattle.opcode.specs.declared.instruction.Mode.{Mode}
+use Rattle.shape.specs.Counts.{needed, wordsIn}
+use Rattle.shape.specs.declared.Shape.{Shape}
+use Rattle.shape.specs.declared.Shape.the-variants.{Return}
+use Rattle.effect.specs.declared.effect.Effect.{Effect}
+use Rattle.effect.specs.declared.effect.Effect.the-variants.{Trap, Finish, Go}
+use Rattle.effect.specs.declared.effect.Push.{Push}
+use Rattle.effect.specs.declared.effect.Write.{Write}
+use Rattle.effect.specs.declared.registers.Areas.{Areas}
+use Rattle.effect.specs.declared.registers.Registers.{Registers}
+use Rattle.effect.specs.Memory.{live, protectsAny}
+use Rattle.effect.specs.Program.{program}
+use Rattle.effect.specs.Words.{pushes, raised}
+use Rattle.effect.specs.Data.{storable, boolean}
+use Rattle.execute.specs.Depth.{top}
+use Rattle.execute.specs.Execute.{execute}
+use Rattle.stackmap.specs.Ways.{Module, Way}
+use Rattle.machine.specs.declared.step.Outcome.{Outcome}
+use Rattle.machine.specs.declared.step.Outcome.the-variants.{Went, Finished, Trapped}
+use Rattle.machine.specs.Step.{After, pushed, settled, performed, stepOf}
+use Rattle.safety.specs.Active.{Configuration, stepOn}
+use Rattle.safety.proofs.Parts.{registersOf, Doing, DataTrap, Moves, Steps}
+use Rattle.safety.proofs.Traps.{data-number}
+
+-- An effect from a configuration: Done where it finishes, Then of the registers and the stack where it goes on.
+pub data Good (code : List ℕ) (c : Configuration) (Done : Type 0) (Then : Registers → List ℕ → Type 0) : Effect → Type 0 where
+  good-trap : {n : ℕ} → DataTrap n → Good code c Done Then (Trap n)
+  good-finish : Done → Good code c Done Then Finish
+  good-go : {gone : ℕ} {push : Push} {write : Write} {q : Registers} → q .pc < length code
+      → (registersOf c .height - gone + pushes push ≤ length (c .stack)
+      → Then (raised q (registersOf c .height - gone + pushes push)) (sets (c .stack) (registersOf c .height - gone) (pushed push)))
+      → Good code c Done Then (Go gone push write q)
+
+module _ {code : List ℕ} {c : Configuration} {Done : Type 0} {Then : Registers → List ℕ → Type 0} where
+  pub good-cond : (t : Bool) (e f : Effect) → (t ≡ true → Good code c Done Then e) → (t ≡ false → Good code c Done Then f)
+      → Good code c Done Then (cond t e f)
+  good-cond true e f h k = h refl
+  good-cond false e f h k = k refl
+
+  pub good-boolean : (b : ℕ) (e : Effect) → Good code c Done Then e → Good code c Done Then (boolean b e)
+  good-boolean b e h = good-cond (ltb b 2) e (Trap 34) (λ t. h) (λ t. good-trap (data-number 34 refl refl))
+
+  pub good-storable : (A : Areas) (q : Registers) (m : List ℕ) (a : ℕ) (mode : Mode) (e : Effect) → Good code c Done Then e
+      → Good code c Done Then (storable A q m a mode e)
+  good-storable A q m a mode e h =
+      good-cond (live q a (wordsIn mode)) (cond (protectsAny A q m a mode) (Trap 33) e) (Trap 32)
+      (λ t. good-cond (protectsAny A q m a mode) (Trap 33) e (λ u. good-trap (data-number 33 refl refl)) (λ u. h))
+      (λ t. good-trap (data-number 32 refl refl))
+
+-- What a step leaves, by its outcome.
+abbrev Left : Module → Configuration → List Way → Shape → After → Outcome → Type 0
+Left M c out shape a Went = Moves M c out (a .stepped .machine .registers) (a .stack) shape
+Left M c out shape a Finished = shape ≡ Return
+Left M c out shape a (Trapped n) = DataTrap n
+
+module _ (M : Module) (c : Configuration) (out : List Way) (shape : Shape) where
+  abbrev Leaves : After → Type 0
+  Leaves a = Left M c out shape a (a .stepped .outcome)
+
+  abbrev pub Goes : Effect → Type 0
+  Goes e = Good (M .code) c (shape ≡ Return) (λ q s. Moves M c out q s shape) e
+
+  leaves-cond : (t : Bool) (a b : After) → (t ≡ true → Leaves a) → (t ≡ false → Leaves b) → Leaves (cond t a b)
+  leaves-cond true a b h k = h refl
+  leaves-cond false a b h k = k refl
+
+  settled-leaves : (e : Effect) → Goes e → Leaves (settled (length (M .code)) (c .machine) (c .memory) (c .stack) e)
+  unfolding settled
+  settled-leaves (Trap n) (good-trap d) = d
+  settled-leaves Finish (good-finish d) = d
+  settled-leaves (Go gone push write q) (good-go l h) =
+      let height : ℕ = registersOf c .height - gone + pushes push in
+      leaves-cond (ltb (length (c .stack)) height) _ _ (λ t. data-number 36 refl refl)
+      (λ t. rw (lt-ltb (q .pc) (length (M .code)) l) (h (ltb-false (length (c .stack)) height t)))
+
+  as-steps : (o : Outcome) → Left M c out shape (stepOn M c) o → Steps M c out shape o
+  as-steps Went h = h
+  as-steps Finished h = h
+  as-steps (Trapped n) h = h
+
+  -- The words that the instruction needs are there, so that the step is its effect carried out.
+  pub good-steps : (i : Instruction) (next : ℕ) → Doing M c i next → needed i ≤ registersOf c .height
+      → Goes (execute (program (M .code) (c .machine .areas)) (registersOf c) (c .memory) next
+      (top (needed i) (registersOf c .height) (c .stack)) i) → Steps M c out shape (stepOn M c .stepped .outcome)
+  unfolding stepOf performed
+  good-steps i next d enough h =
+      as-steps (stepOn M c .stepped .outcome)
+      (subst (λ (x : Decoded). Leaves (performed (M .code) (c .machine) (c .memory) (c .stack) x)) (sym (d .decoded))
+      (leaves-cond (ltb (registersOf c .height) (needed i)) _ _
+      (λ t. absurd (omega (arith, ltb-true (registersOf c .height) (needed i) t))) (λ t. settled-leaves _ h)))

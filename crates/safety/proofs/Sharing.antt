@@ -1,0 +1,73 @@
+-- The words of a share while words go and come on top of it: labels lie below where words are put, so they stay.
+use mathlib.Core.List.{List, [], _∷_}
+use mathlib.Core.Option.{none, some}
+use mathlib.Core.Path.{_≡_, refl, _∙_}
+use Prim.Native.Nat.{ℕ, zero, suc, _+_, _≤_, _<_}
+use native.Mathlib.Omega.{arith}
+use lib.ListN.{length, getD, set}
+use lib.Seq.{sets, getD-set-other, getD-set-same}
+use Rattle.stackmap.specs.Slots.{Slot, word, label, pushWords, popWords, dropSlots}
+use Rattle.stackmap.specs.Ways.{labelWord}
+use Rattle.safety.specs.Demand3.{Holds, holds-none, holds-word, holds-label}
+
+-- None is not some.
+pub nothing : {A B : Type 0} (x : A) → none ≡ some x → B
+nothing x e = let z : _≡_ {A = ℕ} 0 1 = cc in absurd (omega arith)
+
+pub sets-below : (s : List ℕ) (i : ℕ) (vs : List ℕ) (j : ℕ) → j < i → getD (sets s i vs) j 0 ≡ getD s j 0
+sets-below s i [] j h = refl
+sets-below s i (v ∷ vs) j h = sets-below (set s i v) (suc i) vs j (omega arith) ∙ getD-set-other s i j v 0 (λ e. omega arith)
+
+-- Words that are put above a share leave it as it is.
+pub holds-below : {code s : List ℕ} {share : ℕ} {l : List Slot} (i : ℕ) (vs : List ℕ) → share + length l ≤ i → Holds code s share l
+    → Holds code (sets s i vs) share l
+holds-below i vs h holds-none = holds-none
+holds-below i vs h (holds-word k) = holds-word (holds-below i vs (omega arith) k)
+holds-below {s = s} i vs h (holds-label {bottom = share} {l = l} e k) =
+    holds-label (sets-below s i vs (share + length l) (omega arith) ∙ e) (holds-below i vs (omega arith) k)
+
+-- What lies under n slots.
+pub record Under (code s : List ℕ) (share n : ℕ) (l rest : List Slot) : Type 0 where
+  pub size : length l ≡ n + length rest
+  pub holds : Holds code s share rest
+
+holds-tail : {code s : List ℕ} {share : ℕ} {x : Slot} {l : List Slot} → Holds code s share (x ∷ l) → Holds code s share l
+holds-tail (holds-word h) = h
+holds-tail (holds-label e h) = h
+
+pub under : (code s : List ℕ) (share n : ℕ) (l rest : List Slot) → dropSlots n l ≡ some rest → Holds code s share l
+    → Under code s share n l rest
+under code s share zero l rest e h =
+    let same : l ≡ rest = cc in
+    record { size = rw same (omega arith); holds = rw same at h }
+under code s share (suc n) [] rest e h = nothing rest e
+under code s share (suc n) (x ∷ l) rest e h =
+    let r = under code s share n l rest e (holds-tail h) in
+    record { size = omega (arith, r .size); holds = r .holds }
+
+-- Words that can be popped are slots that can be dropped.
+pub popped-drops : (n : ℕ) (l rest : List Slot) → popWords n l ≡ some rest → dropSlots n l ≡ some rest
+popped-drops zero l rest e = e
+popped-drops (suc n) [] rest e = nothing rest e
+popped-drops (suc n) (word ∷ l) rest e = popped-drops n l rest e
+popped-drops (suc n) (label origin ∷ l) rest e = nothing rest e
+
+-- Words may be anything.
+pub holds-words : {code s : List ℕ} {share : ℕ} {l : List Slot} (n : ℕ) → Holds code s share l → Holds code s share (pushWords n l)
+holds-words zero h = h
+holds-words (suc n) h = holds-word (holds-words n h)
+
+pub length-words : (n : ℕ) (l : List Slot) → length (pushWords n l) ≡ n + length l
+length-words zero l = omega arith
+length-words (suc n) l = omega (arith, length-words n l)
+
+-- The word of a label that is put on top.
+pub holds-made : {code s : List ℕ} {share : ℕ} {l : List Slot} (x origin : ℕ) → x ≡ labelWord code origin → share + length l < length s
+    → Holds code s share l → Holds code (sets s (share + length l) (x ∷ [])) share (label origin ∷ l)
+holds-made {s = s} {share} {l} x origin e room h =
+    holds-label (getD-set-same s (share + length l) x 0 room ∙ e) (holds-below (share + length l) (x ∷ []) (omega arith) h)
+
+-- The word of the label on top.
+pub holds-top : {code s : List ℕ} {share origin : ℕ} {l : List Slot} → Holds code s share (label origin ∷ l)
+    → getD s (share + length l) 0 ≡ labelWord code origin
+holds-top (holds-label e h) = e

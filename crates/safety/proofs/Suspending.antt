@@ -1,0 +1,112 @@
+-- The shares of suspended callers: they lie below the running call's, so that words above leave them as they are; CALL suspends the
+-- caller without the words that it gives, and RTN goes back to it with the words that it gets.
+use mathlib.Core.Bool.{Bool, true, false, cond, false≢true}
+use mathlib.Core.List.{List, [], _∷_}
+use mathlib.Core.Option.{none, some}
+use mathlib.Core.Path.{_≡_, _∙_, refl}
+use Prim.Native.Nat.{ℕ, zero, suc, _+_, _-_, _<_}
+use native.Mathlib.Omega.{arith}
+use lib.ListN.{length, getD}
+use Rattle.record.specs.Entries.{entryAt, entryCount}
+use Rattle.effect.specs.declared.registers.Registers.{Registers}
+use Rattle.effect.specs.Memory.{read}
+use Rattle.stackmap.specs.Slots.{Slot, word, label, pushWords, popWords, isWords}
+use Rattle.stackmap.specs.Ways.{Module, Way, _gets_, parametersOf, resultsOf, straight}
+use Rattle.stackmap.specs.StackMap.{Among, here, Reached, entered}
+use Rattle.safety.specs.Active.{Call, running, shareOf, begun, without}
+use Rattle.safety.specs.Demand3.{Holds, holds-none, holds-word, holds-label}
+use Rattle.safety.proofs.Parts.{Framed, no-frame, a-frame, Suspended, no-caller, a-caller}
+use Rattle.safety.proofs.Sharing.{nothing, under, popped-drops, holds-words, length-words}
+use Rattle.safety.proofs.Moving.{Taken, taken, among-taken}
+use Rattle.safety.proofs.Pictures.{Checked, reached-inside}
+
+-- Slots look at the words of their share alone.
+holds-kept : {code s : List ℕ} {bottom : ℕ} {l : List Slot} (s' : List ℕ) → ((i : ℕ) → i < bottom + length l → getD s' i 0 ≡ getD s i 0)
+    → Holds code s bottom l → Holds code s' bottom l
+holds-kept s' k holds-none = holds-none
+holds-kept s' k (holds-word h) = holds-word (holds-kept s' (λ i b. k i (omega arith)) h)
+holds-kept s' k (holds-label {bottom = bottom} {l = l} e h) =
+    holds-label (k (bottom + length l) (omega arith) ∙ e) (holds-kept s' (λ i b. k i (omega arith)) h)
+
+pub suspended-kept : (M : Module) (s s' : List ℕ) (calls : List Call) → ((i : ℕ) → i < shareOf calls → getD s' i 0 ≡ getD s i 0)
+    → Suspended M s calls → Suspended M s' calls
+suspended-kept M s s' [] k no-caller = no-caller
+suspended-kept M s s' (c ∷ calls) k (a-caller l reached share holds p rest) =
+    a-caller l reached share (holds-kept s' (λ i b. k i (omega (arith, share))) holds) p
+    (suspended-kept M s s' calls (λ i b. k i (omega (arith, share))) rest)
+
+-- What the invariant says of the place, the share and the callers.
+pub record Placed (M : Module) (calls : List Call) (q : Registers) (s : List ℕ) : Type 0 where
+  pub procedure : running calls < entryCount (M .code)
+  pub slots : List Slot
+  pub reached : Reached M (running calls) (q .pc) slots
+  pub height : q .height ≡ shareOf calls + length slots
+  pub holds : Holds (M .code) s (shareOf calls) slots
+  pub suspended : Suspended M s calls
+
+words-length : (n : ℕ) (l : List Slot) → isWords n l ≡ true → length l ≡ n
+words-length zero [] e = refl
+words-length zero (x ∷ l) e = absurd (false≢true e)
+words-length (suc n) [] e = absurd (false≢true e)
+words-length (suc n) (word ∷ l) e = omega (arith, words-length n l e)
+words-length (suc n) (label origin ∷ l) e = absurd (false≢true e)
+
+-- RTN finds exactly its results.
+results-found : (n : ℕ) (l : List Slot) (out : List Way) → cond (isWords n l) (some []) none ≡ some out → length l ≡ n
+results-found n l out = by (isWords n l) refl
+  where
+    by : (t : Bool) → isWords n l ≡ t → cond t (some []) none ≡ some out → length l ≡ n
+    by true e w = words-length n l e
+    by false e w = nothing out w
+
+module _ (M : Module) (C : Checked M) where
+  running-procedure : (s : List ℕ) (calls : List Call) → Suspended M s calls → running calls < entryCount (M .code)
+  running-procedure s [] no-caller = C .cutted .some
+  running-procedure s (c ∷ calls) (a-caller l reached share holds p rest) = p
+
+  -- The return place is in the code.
+  pub returns-inside : (m s : List ℕ) (start fp : ℕ) (calls : List Call) → Framed m start fp calls → Suspended M s calls
+      → 0 < length calls → read m (fp - 1) < length (M .code)
+  returns-inside m s start fp [] (no-frame e) S active = absurd (omega arith)
+  returns-inside m s start fp (c ∷ calls) (a-frame e saved back frames) (a-caller l reached share holds p rest) active =
+      let place : fp - 1 ≡ c .link + 1 = omega arith in
+      rw (place, back) (reached-inside M C (running calls) (running-procedure s calls rest) (c .back) _ reached)
+
+  -- RTN of an active call.
+  pub returned-placed : (m s : List ℕ) (start fp height : ℕ) (calls : List Call) (l : List Slot) (out : List Way) (q : Registers)
+      → Framed m start fp calls → Suspended M s calls → (length calls ≡ 0 → ⊥)
+      → cond (isWords (resultsOf M (running calls)) l) (some []) none ≡ some out → height ≡ shareOf calls + length l
+      → q .height ≡ height → q .pc ≡ read m (fp - 1) → Placed M (without calls) q s
+  returned-placed m s start fp height [] l out q (no-frame e) S active w h same to = absurd (active refl)
+  returned-placed m s start fp height (c ∷ calls) l out q (a-frame e saved back frames) (a-caller k reached share u p rest) active w h same to =
+      let n : ℕ = resultsOf M (c .procedure) in
+      let place : fp - 1 ≡ c .link + 1 = omega arith in
+      let at : q .pc ≡ c .back = to ∙ rw place back in
+      record {
+        procedure = running-procedure s calls rest;
+        slots = pushWords n k;
+        reached = rw at reached;
+        height = omega (arith, same, h, share, results-found n l out w, length-words n k);
+        holds = holds-words n u;
+        suspended = rest;
+      }
+
+  -- CALL of procedure d, which goes on at `next`.
+  pub called-placed : (s : List ℕ) (calls : List Call) (l : List Slot) (out : List Way) (q q' : Registers) (next d : ℕ)
+      → d < entryCount (M .code) → straight next (parametersOf M d) (resultsOf M d) l ≡ some out
+      → ((k : List Slot) → Among next k out → Reached M (running calls) next k) → q .height ≡ shareOf calls + length l
+      → Holds (M .code) s (shareOf calls) l → Suspended M s calls → q' .height ≡ q .height → q' .pc ≡ entryAt (M .code) d
+      → Placed M (begun M q d next calls) q' s
+  called-placed s calls l out q q' next d p w goes h holds S same to =
+      let n : ℕ = parametersOf M d in
+      let T : Taken (popWords n l) (λ rest. next gets pushWords (resultsOf M d) rest ∷ []) out = taken (popWords n l) _ out w in
+      let u = under (M .code) s (shareOf calls) n l (T .rest) (popped-drops n l (T .rest) (T .found)) holds in
+      let share : q .height - n ≡ shareOf calls + length (T .rest) = omega (arith, h, u .size) in
+      record {
+        procedure = p;
+        slots = pushWords n [];
+        reached = rw to entered;
+        height = omega (arith, same, h, u .size, length-words n []);
+        holds = holds-words n holds-none;
+        suspended = a-caller (T .rest) (goes (pushWords (resultsOf M d) (T .rest)) (among-taken T next _ here)) share (u .holds) p S;
+      }

@@ -1,0 +1,63 @@
+-- Where a switch goes: to the ELSE part or to a branch of its table, all of which are among its targets.
+use mathlib.Core.Bool.{Bool, true, false, cond}
+use mathlib.Core.List.{List, _∷_}
+use mathlib.Core.Path.{_≡_, refl}
+use Prim.Native.Nat.{ℕ, zero, suc, _+_, _<_}
+use native.Mathlib.Omega.{arith}
+use lib.Dec.{leb}
+use borrow.Author.Tests.{leb-true}
+use Rattle.opcode.specs.Switch.{elseDistance, branchDistance, rangeDistance, rangeHolds, searchFrom, searchDistance, orElse}
+use Rattle.shape.specs.declared.Table.{Table}
+use Rattle.shape.specs.declared.Table.the-variants.{Branches, Ranges}
+use Rattle.layout.specs.Successors.{tableTarget, tableFrom, selectTargets}
+use Rattle.stackmap.specs.Slots.{Slot}
+use Rattle.stackmap.specs.Ways.{toAll}
+use Rattle.stackmap.specs.StackMap.{Among, here, there}
+
+pub data In (t : ℕ) : List ℕ → Type 0 where
+  in-first : {ts : List ℕ} → In t (t ∷ ts)
+  in-later : {u : ℕ} {ts : List ℕ} → In t ts → In t (u ∷ ts)
+
+-- Every target is given the list.
+pub among-all : {t : ℕ} {ts : List ℕ} (l : List Slot) → In t ts → Among t l (toAll ts l)
+among-all l in-first = here
+among-all l (in-later h) = there (among-all l h)
+
+module _ (code : List ℕ) (at : ℕ) where
+  in-table : (t : Table) (k n x : ℕ) → x < n → In (tableTarget code at t (k + x)) (tableFrom code at t k n)
+  in-table t k zero x h = absurd (omega arith)
+  in-table t k (suc n) zero h = let e : k + 0 ≡ k = omega arith in rw e in-first
+  in-table t k (suc n) (suc x) h = let e : k + suc x ≡ k + 1 + x = omega arith in rw e (in-later (in-table t (k + 1) n x (omega arith)))
+
+  -- SWITCH.
+  pub in-branches : (n x : ℕ) → In (at + cond (leb x n) (branchDistance code at x) (elseDistance code at)) (selectTargets code at Branches n)
+  unfolding selectTargets
+  in-branches n x = by (leb x n) refl
+    where
+      by : (b : Bool) → leb x n ≡ b
+          → In (at + cond b (branchDistance code at x) (elseDistance code at)) ((at + elseDistance code at) ∷ tableFrom code at Branches 0 (n + 1))
+      by true e =
+          let z : 0 + x ≡ x = omega arith in
+          in-later (rw z at (in-table Branches 0 (n + 1) x (omega (arith, leb-true x n e))))
+      by false e = in-first
+
+  -- SWITCH_X: the first range that holds the selector, or ELSE.
+  in-found : (x k n : ℕ)
+      → In (at + orElse (searchFrom code at x k n) (elseDistance code at)) ((at + elseDistance code at) ∷ tableFrom code at Ranges k n)
+  in-found x k zero = in-first
+  in-found x k (suc n) = by (rangeHolds code at k x) (in-found x (k + 1) n)
+    where
+      skip : {t u v : ℕ} {ts : List ℕ} → In t (u ∷ ts) → In t (u ∷ v ∷ ts)
+      skip in-first = in-first
+      skip (in-later h) = in-later (in-later h)
+
+      by : (b : Bool)
+          → In (at + orElse (searchFrom code at x (k + 1) n) (elseDistance code at)) ((at + elseDistance code at) ∷ tableFrom code at Ranges (k + 1) n)
+          → In (at + orElse (cond b (rangeDistance code at k) (searchFrom code at x (k + 1) n)) (elseDistance code at))
+          ((at + elseDistance code at) ∷ tableTarget code at Ranges k ∷ tableFrom code at Ranges (k + 1) n)
+      by true h = in-later in-first
+      by false h = skip h
+
+  pub in-ranges : (n x : ℕ) → In (at + orElse (searchDistance code at n x) (elseDistance code at)) (selectTargets code at Ranges n)
+  unfolding selectTargets searchDistance
+  in-ranges n x = in-found x 0 n

@@ -1,0 +1,74 @@
+-- Every configuration of a run of accepted code is safe: the invariant holds of the first and every step keeps it, and with it the header
+-- and the constants.
+use mathlib.Core.List.{List, [], _∷_}
+use mathlib.Core.Path.{_≡_, _∙_, refl}
+use Prim.Native.Nat.{ℕ, _≤_, _<_}
+use Rattle.effect.specs.declared.registers.Areas.{Areas}
+use Rattle.effect.specs.declared.registers.Registers.{Registers}
+use Rattle.effect.specs.Memory.{read}
+use Rattle.effect.specs.Program.{areasOf, constantsStart, framesStart}
+use Rattle.stackmap.specs.Ways.{Module}
+use Rattle.verifier.specs.Check.{checkOf}
+use Rattle.verifier.specs.Exact.{Bytes, Ruled, subject}
+use Rattle.verifier.proofs.Exactly.{shows-reached}
+use Rattle.machine.specs.declared.load.Loaded.the-variants.{Ready}
+use Rattle.machine.specs.Load.{loadOf}
+use Rattle.safety.specs.Active.{Call, running, Configuration, Visits, at-first, one-more}
+use Rattle.safety.specs.Demand3.{Linked, no-link, a-link, Safe, loadedConfiguration}
+use Rattle.safety.proofs.Parts.{registersOf, Framed, no-frame, a-frame, Inv}
+use Rattle.safety.proofs.AsLoaded.{header-kept, constants-kept}
+use Rattle.safety.proofs.Pictures.{Checked, checked}
+use Rattle.safety.proofs.Loaded.{loaded-holds}
+use Rattle.safety.proofs.Advancing.{unread, advances}
+
+-- The frames have the link words.
+linked : (m : List ℕ) (start fp : ℕ) (calls : List Call) → Framed m start fp calls → Linked m calls
+linked m start fp [] (no-frame e) = no-link
+linked m start fp (c ∷ calls) (a-frame e saved back rest) = a-link saved back (linked m start (c .savedFp) calls rest)
+
+-- The invariant, with the protected data as they were.
+pub record Keeps (M : Module) (A : Areas) (m0 : List ℕ) (c : Configuration) : Type 0 where
+  pub inv : Inv M A c
+  pub header : (a : ℕ) → a < 3 → read (c .memory) a ≡ read m0 a
+  pub constants : (a : ℕ) → constantsStart A ≤ a → a < framesStart A → read (c .memory) a ≡ read m0 a
+
+module _ (M : Module) (C : Checked M) (A : Areas) (first : Configuration) (I : Inv M A first) where
+  pub keeps : {n : ℕ} {c : Configuration} → Visits M first n c → Keeps M A (first .memory) c
+  keeps at-first = record { inv = I; header = λ a l. refl; constants = λ a l h. refl }
+  keeps (one-more {c = c} v w) =
+      let k = keeps v in
+      record {
+        inv = advances M C A c (k .inv) w;
+        header = λ a l. header-kept M A c (k .inv .areas) (k .inv .fitted) a l ∙ k .header a l;
+        constants = λ a l h. constants-kept M A c (k .inv .areas) (k .inv .fitted) a l h ∙ k .constants a l h;
+      }
+
+module _ (r results w parameters m s : List ℕ) (q : Registers) (b : Bytes r) (accepted : checkOf r results w .number ≡ 0)
+    (ready : loadOf r parameters m s .answer ≡ Ready q) (R : Ruled r results) where
+  abbrev m0 : List ℕ
+  m0 = loadOf r parameters m s .memory
+
+  pub at-load : Inv (subject r results R) (areasOf r) (loadedConfiguration r q m0 s)
+  at-load =
+      loaded-holds r parameters m s q (R .record-sound) ready (subject r results R) refl (checked r results w b accepted R .cutted .some)
+
+  pub run-keeps : {n : ℕ} {c : Configuration} → Visits (subject r results R) (loadedConfiguration r q m0 s) n c
+      → Keeps (subject r results R) (areasOf r) m0 c
+  run-keeps = keeps (subject r results R) (checked r results w b accepted R) (areasOf r) (loadedConfiguration r q m0 s) at-load
+
+  pub run-safe : (n : ℕ) (c : Configuration) → Visits (subject r results R) (loadedConfiguration r q m0 s) n c
+      → Safe r (subject r results R) (checkOf r results w .workspace) m0 c
+  run-safe n c v =
+      let k = run-keeps v in
+      let i = k .inv in
+      record {
+        slots = i .slots;
+        pictured = i .reached;
+        height = i .height;
+        labels = i .holds;
+        shown = shows-reached r results w b accepted R (running (c .calls)) (i .procedure) (registersOf c .pc) (i .slots) (i .reached);
+        header = k .header;
+        constants = k .constants;
+        links = linked (c .memory) (framesStart (areasOf r)) (registersOf c .fp) (c .calls) (i .framed);
+        unread = unread (subject r results R) (checked r results w b accepted R) (areasOf r) c i;
+      }

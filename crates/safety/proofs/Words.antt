@@ -1,0 +1,78 @@
+-- An instruction finds its words in the share: where the check has a way out, so many slots could be taken off the list.
+use mathlib.Core.Bool.{Bool, true, false, cond}
+use mathlib.Core.List.{List, [], _∷_}
+use mathlib.Core.Option.{none, some}
+use mathlib.Core.Path.{_≡_}
+use Prim.Native.Nat.{ℕ, zero, suc, _≤_}
+use native.Mathlib.Omega.{arith}
+use lib.ListN.{length}
+use Rattle.opcode.specs.declared.instruction.Instruction.the-variants.{LoadConstant, Load, LoadAddress, Store, Pop, Swap, Nop, Signed, Unsigned, Negate, Equal, NotEqual, CompareSigned, CompareUnsigned, Set, Not, Alloc, Free, Jump, JumpC, JumpT, JumpF, Iter, Next, Switch, SwitchX, Leave, Call, Enter, Rtn}
+use Rattle.shape.specs.Counts.{popped}
+use Rattle.shape.specs.Shape.{shapeOf}
+use Rattle.stackmap.specs.Slots.{Slot, word, label, popWords, dropSlots}
+use Rattle.stackmap.specs.Ways.{Way, after, isLoop, again, exit, ways}
+use Rattle.safety.proofs.Parts.{FindsWords}
+
+-- No way out is given where none is.
+nowhere : {A : Type 0} (out : List Way) → none ≡ some out → A
+nowhere out e = let z : _≡_ {A = ℕ} 0 1 = cc in absurd (omega arith)
+
+pub popped-fits : (n : ℕ) (l : List Slot) (f : List Slot → List Way) (out : List Way) → after (popWords n l) f ≡ some out → n ≤ length l
+popped-fits zero l f out e = omega arith
+popped-fits (suc n) [] f out e = nowhere out e
+popped-fits (suc n) (word ∷ l) f out e = omega (arith, popped-fits n l f out e)
+popped-fits (suc n) (label origin ∷ l) f out e = nowhere out e
+
+pub dropped-fits : (n : ℕ) (l : List Slot) (f : List Slot → List Way) (out : List Way) → after (dropSlots n l) f ≡ some out → n ≤ length l
+dropped-fits zero l f out e = omega arith
+dropped-fits (suc n) [] f out e = nowhere out e
+dropped-fits (suc n) (x ∷ l) f out e = omega (arith, dropped-fits n l f out e)
+
+-- NEXT: the label and four words.
+again-fits : (code : List ℕ) (next : ℕ) (l : List Slot) (out : List Way) → again code next l ≡ some out → 5 ≤ length l
+again-fits code next [] out e = nowhere out e
+again-fits code next (word ∷ l) out e = nowhere out e
+again-fits code next (label origin ∷ l) out e = by (isLoop code origin) _ e
+  where
+    by : (t : Bool) (f : List Slot → List Way) → cond t (after (popWords 4 l) f) none ≡ some out → 5 ≤ suc (length l)
+    by true f d = omega (arith, popped-fits 4 l f out d)
+    by false f d = nowhere out d
+
+-- LEAVE: the label.
+exit-fits : (code : List ℕ) (l : List Slot) (out : List Way) → exit code l ≡ some out → 1 ≤ length l
+exit-fits code [] out e = nowhere out e
+exit-fits code (word ∷ l) out e = nowhere out e
+exit-fits code (label origin ∷ l) out e = omega arith
+
+pub finds-words : FindsWords
+unfolding shapeOf ways
+finds-words M p at next (LoadConstant n) l out e = omega arith
+finds-words M p at next (Load base mode n) l out e = popped-fits (popped base) l _ out e
+finds-words M p at next (LoadAddress base n) l out e = popped-fits (popped base) l _ out e
+finds-words M p at next (Store base mode n) l out e = popped-fits _ l _ out e
+finds-words M p at next (Pop n) l out e = dropped-fits n l _ out e
+finds-words M p at next Swap l out e = popped-fits 2 l _ out e
+finds-words M p at next Nop l out e = omega arith
+finds-words M p at next (Signed op) l out e = popped-fits 2 l _ out e
+finds-words M p at next (Unsigned op) l out e = popped-fits 2 l _ out e
+finds-words M p at next Negate l out e = popped-fits 1 l _ out e
+finds-words M p at next Equal l out e = popped-fits 2 l _ out e
+finds-words M p at next NotEqual l out e = popped-fits 2 l _ out e
+finds-words M p at next (CompareSigned order) l out e = popped-fits 2 l _ out e
+finds-words M p at next (CompareUnsigned order) l out e = popped-fits 2 l _ out e
+finds-words M p at next (Set op) l out e = popped-fits 2 l _ out e
+finds-words M p at next Not l out e = popped-fits 1 l _ out e
+finds-words M p at next Alloc l out e = popped-fits 1 l _ out e
+finds-words M p at next Free l out e = popped-fits 1 l _ out e
+finds-words M p at next (Jump d) l out e = omega arith
+finds-words M p at next (JumpC d) l out e = popped-fits 1 l _ out e
+finds-words M p at next (JumpT d) l out e = popped-fits 1 l _ out e
+finds-words M p at next (JumpF d) l out e = popped-fits 1 l _ out e
+finds-words M p at next (Iter d) l out e = popped-fits 4 l _ out e
+finds-words M p at next Next l out e = again-fits (M .code) next l out e
+finds-words M p at next (Switch n) l out e = popped-fits 1 l _ out e
+finds-words M p at next (SwitchX n) l out e = popped-fits 1 l _ out e
+finds-words M p at next Leave l out e = exit-fits (M .code) l out e
+finds-words M p at next (Call d) l out e = omega arith
+finds-words M p at next (Enter par dat) l out e = popped-fits par l _ out e
+finds-words M p at next Rtn l out e = omega arith

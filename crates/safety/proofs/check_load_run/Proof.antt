@@ -1,0 +1,76 @@
+-- `check_load_run` meets its contract: each call is its definition, in turn; and the answer is proper by demand 3.
+use native.Mathlib.Omega.{arith}
+use borrow.Author.Needs.{needs}
+use borrow.Author.Tests.{eq-eqb, ne-eqb}
+use Rattle.safety.proofs.check_load_run.Statement.{statement}
+use Rattle.safety.specs.Joined.{joinedOf, not-run}
+use Rattle.safety.proofs.Joining.{answered-well}
+use Rattle.safety.proofs.check_load_run.Tie as tie
+
+check-requires : tie.Need-check-requires
+check-requires c κs = search needs
+
+same-length : tie.Need-same-length
+same-length c = search needs
+
+returns : tie.Need-returns
+unfolding joinedOf
+returns c = (rw (← c .before .before .before .check .ensures, ne-eqb (c .before .before .before .check .result) 0 (c .if1 .taken)), not-run)
+
+load-requires : tie.Need-load-requires
+load-requires c κs = search needs
+
+enum-known-loaded : tie.Need-enum-known-loaded
+enum-known-loaded c = search needs
+
+enum-known-loaded-2 : tie.Need-enum-known-loaded-2
+enum-known-loaded-2 c = search needs
+
+run-requires : tie.Need-run-requires
+run-requires c κs = search needs
+
+same-length-2 : tie.Need-same-length-2
+same-length-2 c = search needs
+
+same-length-3 : tie.Need-same-length-3
+same-length-3 c = search needs
+
+same-length-4 : tie.Need-same-length-4
+same-length-4 c = search needs
+
+returns-2 : tie.Need-returns-2
+unfolding joinedOf
+returns-2 c = (rw (← c .before .before .before .before .before .before .before .before .before .before .before .check .ensures, eq-eqb (c .before .before .before .before .before .before .before .before .before .before .before .check .result) 0 (c .before .before .before .before .before .before .before .before .if1 .left), ← c .before .before .before .before .before .load .ensures, c .before .loaded .given .1), not-run)
+
+same-length-5 : tie.Need-same-length-5
+same-length-5 c = search needs
+
+same-length-6 : tie.Need-same-length-6
+same-length-6 c = search needs
+
+same-length-7 : tie.Need-same-length-7
+same-length-7 c = search needs
+
+returns-3 : tie.Need-returns-3
+unfolding joinedOf
+returns-3 c = (rw (← c .before .before .before .before .before .before .before .before .before .before .before .before .before .before .before .before .before .before .check .ensures, eq-eqb (c .before .before .before .before .before .before .before .before .before .before .before .before .before .before .before .before .before .before .check .result) 0 (c .before .before .before .before .before .before .before .before .before .before .before .before .before .before .before .if1 .left), ← c .before .before .before .before .before .before .before .before .before .before .before .before .load .ensures, c .before .before .before .before .before .before .before .before .loaded2 .given .1, ← c .before .before .before .before .run .ensures), answered-well (c .before .before .before .before .before .before .before .before .before .before .before .before .before .before .before .before .before .before .before .before .before .before .before .before .before .before .args .r .now) (c .before .before .before .before .before .before .before .before .before .before .before .before .before .before .before .before .before .before .before .before .before .before .before .before .before .before .args .results .now) (c .before .before .before .before .before .before .before .before .before .before .before .before .before .before .before .before .before .before .before .before .before .before .before .before .before .before .args .workspace .now) (c .before .before .before .before .before .before .before .before .before .before .before .before .before .before .before .before .before .before .before .before .before .before .before .before .before .before .args .parameters .now) (c .before .before .before .before .before .before .before .before .before .before .before .before .before .before .before .before .before .before .before .before .before .before .before .before .before .before .args .budget) (c .before .before .before .before .before .before .before .before .before .before .before .before .before .before .before .before .before .before .before .before .before .before .before .before .before .before .args .memory .now) (c .before .before .before .before .before .before .before .before .before .before .before .before .before .before .before .before .before .before .before .before .before .before .before .before .before .before .args .stack .now) (λ k. let h = c .before .before .before .before .before .before .before .before .before .before .before .before .before .before .before .before .before .before .before .before .before .before .before .before .before .shared-slice-known .given k .fits in omega arith) (c .before .before .before .before .before .before .before .before .before .before .before .before .before .before .before .before .before .before .check .ensures) (c .before .before .before .before .before .before .before .before .before .before .before .before .before .before .before .if1 .left) (c .before .before .before .before .before .before .before .before .before .before .before .before .load .ensures) (c .before .before .before .before .before .before .before .before .loaded2 .given .1) (c .before .before .before .before .run .ensures))
+
+pub check-load-run-spec : {M : Type 1} → statement M
+check-load-run-spec =
+    tie.close
+    (tie.spec
+    check-requires
+    same-length
+    returns
+    load-requires
+    enum-known-loaded
+    enum-known-loaded-2
+    run-requires
+    same-length-2
+    same-length-3
+    same-length-4
+    returns-2
+    same-length-5
+    same-length-6
+    same-length-7
+    returns-3)

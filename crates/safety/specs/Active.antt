@@ -1,0 +1,95 @@
+-- The states of a run, each with its active calls. 01: "A call is active until its RTN. The last active call's procedure is the running
+-- one; with none, procedure 0."
+use mathlib.Core.List.{List, [], _∷_}
+use mathlib.Core.Path.{_≡_}
+use Prim.Native.Nat.{ℕ, zero, suc, _-_}
+use lib.ListN.{length}
+use Rattle.opcode.specs.Decode.{decodeAt}
+use Rattle.opcode.specs.declared.Decoded.{Decoded}
+use Rattle.opcode.specs.declared.Decoded.the-variants.{Unserved, Past, At}
+use Rattle.shape.specs.Shape.{shapeOf}
+use Rattle.shape.specs.declared.Shape.{Shape}
+use Rattle.shape.specs.declared.Shape.the-variants.{Straight, Drop, Goto, Branch, Keep, Loop, Again, Select, Exit, Invoke, Begin, Return}
+use Rattle.effect.specs.declared.registers.Registers.{Registers}
+use Rattle.stackmap.specs.Ways.{Module, parametersOf}
+use Rattle.machine.specs.declared.step.Machine.{Machine}
+use Rattle.machine.specs.declared.step.Outcome.the-variants.{Went}
+use Rattle.machine.specs.Step.{After, stepOf}
+
+-- An active call: its procedure; where its share of the stack begins, "at its call, just under its parameter words"; where its two
+-- link words lie, and what the call wrote there: the caller's FP and the return place.
+pub record Call : Type 0 where
+  pub procedure : ℕ
+  pub share : ℕ
+  pub link : ℕ
+  pub savedFp : ℕ
+  pub back : ℕ
+
+abbrev pub running : List Call → ℕ
+running [] = 0
+running (c ∷ calls) = c .procedure
+
+-- "procedure 0's is the whole stack".
+abbrev pub shareOf : List Call → ℕ
+shareOf [] = 0
+shareOf (c ∷ calls) = c .share
+
+-- The machine with its memory and stack, and the active calls, the last one first.
+pub record Configuration : Type 0 where
+  pub machine : Machine
+  pub memory : List ℕ
+  pub stack : List ℕ
+  pub calls : List Call
+
+abbrev pub begun : Module → Registers → ℕ → ℕ → List Call → List Call
+begun M q p next calls =
+    record {
+      procedure = p;
+      share = q .height - parametersOf M p;
+      link = q .mp;
+      savedFp = q .fp;
+      back = next;
+    }
+    ∷ calls
+
+abbrev pub without : List Call → List Call
+without [] = []
+without (c ∷ calls) = calls
+
+-- The active calls after a completed step: CALL begins one, RTN ends the last.
+abbrev pub callsAfter : Module → Registers → ℕ → Shape → List Call → List Call
+callsAfter M q next (Straight pops pushes) calls = calls
+callsAfter M q next (Drop n) calls = calls
+callsAfter M q next (Goto d) calls = calls
+callsAfter M q next (Branch d) calls = calls
+callsAfter M q next (Keep d) calls = calls
+callsAfter M q next (Loop d) calls = calls
+callsAfter M q next Again calls = calls
+callsAfter M q next (Select t n) calls = calls
+callsAfter M q next Exit calls = calls
+callsAfter M q next (Invoke p) calls = begun M q p next calls
+callsAfter M q next (Begin par) calls = calls
+callsAfter M q next Return calls = without calls
+
+abbrev pub callsDecoded : Module → Registers → List Call → Decoded → List Call
+callsDecoded M q calls Unserved = calls
+callsDecoded M q calls Past = calls
+callsDecoded M q calls (At i next) = callsAfter M q next (shapeOf i) calls
+
+abbrev pub stepOn : Module → Configuration → After
+stepOn M c = stepOf (M .code) (c .machine) (c .memory) (c .stack)
+
+abbrev pub advance : Module → Configuration → Configuration
+advance M c =
+    let q = c .machine .registers in
+    record {
+      machine = stepOn M c .stepped .machine;
+      memory = stepOn M c .memory;
+      stack = stepOn M c .stack;
+      calls = callsDecoded M q (c .calls) (decodeAt (M .code) (length (M .code)) (q .pc));
+    }
+
+-- The configurations of a run: the first, and each after one more completed step that does not finish.
+pub data Visits (M : Module) (first : Configuration) : ℕ → Configuration → Type 0 where
+  at-first : Visits M first 0 first
+  one-more : {n : ℕ} {c : Configuration} → Visits M first n c → stepOn M c .stepped .outcome ≡ Went → Visits M first (suc n) (advance M c)

@@ -1,0 +1,105 @@
+-- Demand 3, as the letter words it. Each field of `Demand3` is one of its sentences, about every configuration of every run of an
+-- accepted record, loaded fresh.
+use mathlib.Core.Bool.{true}
+use mathlib.Core.List.{List, [], _∷_}
+use mathlib.Core.Path.{_≡_}
+use Prim.Native.Nat.{ℕ, _≤_, _<_, _+_, _-_, _*_}
+use lib.ListN.{length, getD, take, drop}
+use Rattle.record.specs.Header.{codeOf}
+use Rattle.effect.specs.Memory.{read}
+use Rattle.effect.specs.Program.{areasOf, constantsStart, framesStart}
+use Rattle.effect.specs.declared.registers.Registers.{Registers}
+use Rattle.stackmap.specs.Slots.{Slot, word, label}
+use Rattle.stackmap.specs.Ways.{Module, labelWord}
+use Rattle.stackmap.specs.StackMap.{Reached}
+use Rattle.verifier.specs.Check.{checkOf}
+use Rattle.verifier.specs.Exact.{Bytes, Ruled, subject, Shows}
+use Rattle.machine.specs.declared.load.Loaded.the-variants.{Ready}
+use Rattle.machine.specs.declared.run.End.{End}
+use Rattle.machine.specs.declared.run.End.the-variants.{Finished, Spent, Trapped}
+use Rattle.machine.specs.Load.{loadOf}
+use Rattle.machine.specs.Run.{Result, machine, result, runOf}
+use Rattle.safety.specs.Active.{Call, running, shareOf, Configuration, stepOn, Visits}
+
+-- "the run finishes, spends its budget, or ends in one of the nine data traps, never in one of the four code traps".
+pub data Proper : End → Type 0 where
+  finished : Proper Finished
+  spent : Proper Spent
+  data-trap : {n : ℕ} → 30 ≤ n → n ≤ 38 → Proper (Trapped n)
+
+-- The words of a share, the top first, are as the slots say: "A label slot holds the word that its maker pushes."
+pub data Holds (code : List ℕ) (s : List ℕ) : ℕ → List Slot → Type 0 where
+  holds-none : {bottom : ℕ} → Holds code s bottom []
+  holds-word : {bottom : ℕ} {l : List Slot} → Holds code s bottom l → Holds code s bottom (word ∷ l)
+  holds-label : {bottom origin : ℕ} {l : List Slot} → getD s (bottom + length l) 0 ≡ labelWord code origin → Holds code s bottom l → Holds code s bottom (label origin ∷ l)
+
+-- Each call's link words are as that call wrote them.
+pub data Linked (m : List ℕ) : List Call → Type 0 where
+  no-link : Linked m []
+  a-link : {c : Call} {calls : List Call} → read m (c .link) ≡ c .savedFp → read m (c .link + 1) ≡ c .back → Linked m calls → Linked m (c ∷ calls)
+
+-- Two stacks that differ only in words below a share.
+pub record SameFrom (share : ℕ) (s s' : List ℕ) : Type 0 where
+  pub room : length s' ≡ length s
+  pub above : (i : ℕ) → share ≤ i → getD s' i 0 ≡ getD s i 0
+
+-- "a state that differs from the run's only in stack words below the share takes the same step or trap, with the same outcome but for
+-- those words, which each state keeps".
+abbrev pub other : Configuration → List ℕ → Configuration
+other c s' = record { machine = c .machine; memory = c .memory; stack = s'; calls = c .calls }
+
+pub record Unread (M : Module) (c : Configuration) (s' : List ℕ) : Type 0 where
+  pub same-step : stepOn M (other c s') .stepped ≡ stepOn M c .stepped
+  pub same-memory : stepOn M (other c s') .memory ≡ stepOn M c .memory
+  pub same-share : SameFrom (shareOf (c .calls)) (stepOn M c .stack) (stepOn M (other c s') .stack)
+  pub keeps-own : (i : ℕ) → i < shareOf (c .calls) → getD (stepOn M (other c s') .stack) i 0 ≡ getD s' i 0
+
+-- What holds of each configuration: w is the workspace as the check left it, m0 the memory as loaded.
+pub record Safe (r : List ℕ) (M : Module) (w m0 : List ℕ) (c : Configuration) : Type 0 where
+  -- "the place is one that the running procedure's stack picture has"
+  pub slots : List Slot
+  pub pictured : Reached M (running (c .calls)) (c .machine .registers .pc) slots
+  -- "That procedure's share of the stack has exactly the height and labels of the picture there"
+  pub height : c .machine .registers .height ≡ shareOf (c .calls) + length slots
+  pub labels : Holds (M .code) (c .stack) (shareOf (c .calls)) slots
+  -- "the check's workspace, as the check left it, shows that height and the topmost label"
+  pub shown : Shows w (c .machine .registers .pc) slots
+  -- "Header words and constants are as loaded"
+  pub header : (a : ℕ) → a < 3 → read (c .memory) a ≡ read m0 a
+  pub constants : (a : ℕ) → constantsStart (areasOf r) ≤ a → a < framesStart (areasOf r) → read (c .memory) a ≡ read m0 a
+  -- "each active call's link words are as that call wrote them"
+  pub links : Linked (c .memory) (c .calls)
+  -- "No step, a trapped one included, reads or changes a stack word below the share that it starts with."
+  pub unread : (s' : List ℕ) → SameFrom (shareOf (c .calls)) (c .stack) s' → Unread M c s'
+
+abbrev pub loadedConfiguration : List ℕ → Registers → List ℕ → List ℕ → Configuration
+loadedConfiguration r q m s = record { machine = machine (areasOf r) q; memory = m; stack = s; calls = [] }
+
+-- How a run of so many steps at most ends: in a configuration that it visits, properly, with "demand 2's steps and step count".
+abbrev pub counted : End → ℕ → ℕ
+counted Finished n = n + 1
+counted Spent n = n
+counted (Trapped k) n = n
+
+abbrev pub endedIn : End → ℕ → Configuration → Result
+endedIn ending n c = result ending (counted ending n) (c .machine) (c .memory) (c .stack)
+
+pub record Ends (M : Module) (first : Configuration) (run : Result) : Type 0 where
+  pub steps : ℕ
+  pub last : Configuration
+  pub visited : Visits M first steps last
+  pub ending : End
+  pub proper : Proper ending
+  pub ends : run ≡ endedIn ending steps last
+
+-- "Take any record that the check accepts and load it fresh, with any parameters, memory and stack that the loader takes; run it from
+-- there, with demand 2's steps and step count and any step budget. .. After every number of its steps, from none to the last, .."
+pub record Demand3 (r w m0 s : List ℕ) (q : Registers) (M : Module) : Type 0 where
+  pub runs : (budget : ℕ) → Ends M (loadedConfiguration r q m0 s) (runOf r budget q m0 s)
+  pub safe : (n : ℕ) (c : Configuration) → Visits M (loadedConfiguration r q m0 s) n c → Safe r M w m0 c
+
+abbrev pub Claim : Type 0
+Claim =
+    (r results w parameters m s : List ℕ) (q : Registers) → Bytes r → checkOf r results w .number ≡ 0
+    → loadOf r parameters m s .answer ≡ Ready q → (R : Ruled r results)
+    → Demand3 r (checkOf r results w .workspace) (loadOf r parameters m s .memory) s q (subject r results R)

@@ -1,0 +1,41 @@
+-- Check, load and run in one call: what the three in turn answer and leave.
+use mathlib.Core.Bool.{cond}
+use mathlib.Core.List.{List}
+use Prim.Native.Nat.{ℕ}
+use lib.Dec.{eqb}
+use Rattle.verifier.specs.Check.{checkOf}
+use Rattle.machine.specs.declared.load.Loaded.{Loaded}
+use Rattle.machine.specs.declared.load.Loaded.the-variants.{Refused as NotLoaded, Ready}
+use Rattle.machine.specs.declared.run.Answer.{Answer}
+use Rattle.machine.specs.declared.run.Answer.the-variants.{Refused, Ended}
+use Rattle.machine.specs.declared.run.Ended.{Ended as Ending}
+use Rattle.machine.specs.Load.{loadOf}
+use Rattle.machine.specs.Run.{Result, runOf}
+use Rattle.safety.specs.Demand3.{Proper}
+
+pub record Joined : Type 0 where
+  pub answer : Answer
+  pub workspace : List ℕ
+  pub memory : List ℕ
+  pub stack : List ℕ
+
+abbrev pub joined : Answer → List ℕ → List ℕ → List ℕ → Joined
+joined a w m s = record { answer = a; workspace = w; memory = m; stack = s }
+
+abbrev pub thenRun : List ℕ → Result → Joined
+thenRun w a = joined (a .answer) w (a .memory) (a .stack)
+
+abbrev pub thenLoad : List ℕ → ℕ → List ℕ → List ℕ → Loaded → List ℕ → Joined
+thenLoad r budget w s (NotLoaded n) m = joined (Refused n) w m s
+thenLoad r budget w s (Ready q) m = thenRun w (runOf r budget q m s)
+
+unfoldable pub joinedOf : List ℕ → List ℕ → List ℕ → List ℕ → ℕ → List ℕ → List ℕ → Joined
+joinedOf r results w parameters budget m s =
+    let c = checkOf r results w in
+    let l = loadOf r parameters m s in
+    cond (eqb (c .number) 0) (thenLoad r budget (c .workspace) s (l .answer) (l .memory)) (joined (Refused (c .number)) (c .workspace) m s)
+
+-- A run of accepted code ends properly: "never in one of the four code traps".
+pub data ProperAnswer : Answer → Type 0 where
+  not-run : {n : ℕ} → ProperAnswer (Refused n)
+  well-ended : {e : Ending} → Proper (e .ending) → ProperAnswer (Ended e)
