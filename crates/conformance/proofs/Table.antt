@@ -11,6 +11,14 @@ use Rattle.opcode.specs.Length.{lengthIn, lengthAt}
 use Rattle.opcode.specs.Operand.{extended}
 use Rattle.opcode.specs.Switch.{exitDistance, elseDistance, branchDistance, rangeDistance, rangeHolds, searchDistance}
 use Rattle.opcode.specs.Table.{rowOf}
+use Rattle.shape.specs.Shape.{shapeOf}
+use Rattle.layout.specs.Cut.{cutOf}
+use Rattle.layout.specs.Successors.{selectTargets}
+use Rattle.layout.specs.Faults.{strays, misplaced, uncallable, anywhere, codeNumber}
+use Rattle.stackmap.specs.Ways.{ways}
+use Rattle.stackmap.specs.StackMap.{waysAt}
+use Rattle.stackmap.specs.Walk.{visited, walkOf}
+use Rattle.verifier.specs.Check.{resultsSound, listNumber, verdictOf, checkOf}
 use Rattle.operate.specs.Arithmetic.{modZ, signedValue, unsignedValue, negatedValue}
 use Rattle.operate.specs.Sets.{setWord}
 use Rattle.operate.specs.Value.{signedWord, unsignedWord}
@@ -22,8 +30,8 @@ use Rattle.machine.specs.Fits.{sizesTaken, headerKept, registersFit, fits}
 use Rattle.machine.specs.Load.{constantWords, initialData, loadedMemory, startOf, loadNumber, loadOf}
 use Rattle.machine.specs.Run.{runNumber, runOf}
 use Rattle.machine.specs.Step.{settled, performed, stepOf}
-use Rattle.conformance.specs.Cases.{recordOf, played, table, Stands}
+use Rattle.conformance.specs.Cases.{recordOf, checked, played, table, Stands}
 
 pub stands : Stands table
-unfolding halfwordAt wordAt entryAt entryCount countSound entriesInOrder entriesSound regionEnd headerOf sizesFit codeAt constantsAt relocationAt versionsAt sourcesAt recordLength codeOf recordNumber readingOf lineOf sourceOffsets sourceSound lineAt issueAt versionSound instructionAt decodeIn decodeAt lengthIn lengthAt extended exitDistance elseDistance branchDistance rangeDistance rangeHolds searchDistance rowOf modZ signedValue unsignedValue negatedValue setWord signedWord unsignedWord loadFrom addressOf storeTo inverted allocated freed live protects jumps jumpsIfFalse jumpsKeeping iterates nextSum repeats switches searches calls enters returns execute sizesTaken headerKept registersFit fits constantWords initialData loadedMemory startOf loadNumber loadOf runNumber runOf settled performed stepOf recordOf played table
-stands = refl
+unfolding halfwordAt wordAt entryAt entryCount countSound entriesInOrder entriesSound regionEnd headerOf sizesFit codeAt constantsAt relocationAt versionsAt sourcesAt recordLength codeOf recordNumber readingOf lineOf sourceOffsets sourceSound lineAt issueAt versionSound instructionAt decodeIn decodeAt lengthIn lengthAt extended exitDistance elseDistance branchDistance rangeDistance rangeHolds searchDistance rowOf modZ signedValue unsignedValue negatedValue setWord signedWord unsignedWord loadFrom addressOf storeTo inverted allocated freed live protects jumps jumpsIfFalse jumpsKeeping iterates nextSum repeats switches searches calls enters returns execute sizesTaken headerKept registersFit fits constantWords initialData loadedMemory startOf loadNumber loadOf runNumber runOf settled performed stepOf recordOf played table shapeOf cutOf selectTargets strays misplaced uncallable anywhere codeNumber ways waysAt visited walkOf resultsSound listNumber verdictOf checkOf checked
+stands = (refl, refl)

@@ -1,9 +1,10 @@
--- 01's plates marked P, as a table: code, parameters and globals, and what loading and running them gives. "Globals as given,
--- constants none; memory 64, stack 16, budget 1,000 unless named." What the check gives for them joins when check is defined.
+-- 01's plates marked P, as a table: code, parameters and globals, what the check answers, and what loading and running gives.
+-- "Globals as given, constants none; memory 64, stack 16, budget 1,000 unless named."
 use mathlib.Core.List.{List, [], _∷_, _++_, map}
 use mathlib.Core.Path.{_≡_}
-use Prim.Native.Nat.{ℕ, _+_, _/_, _%_}
+use Prim.Native.Nat.{ℕ, _+_, _*_, _/_, _%_}
 use lib.ListN.{length, take, drop, replicate}
+use Rattle.verifier.specs.Check.{checkOf}
 use Rattle.effect.specs.declared.registers.Registers.{Registers}
 use Rattle.machine.specs.declared.load.Loaded.{Loaded}
 use Rattle.machine.specs.declared.load.Loaded.the-variants.{Refused, Ready}
@@ -24,6 +25,7 @@ pub data Outcome : Type 0 where
 
 pub record Row : Type 0 where
   pub given : Case
+  pub number : ℕ
   pub outcome : Outcome
 
 word : ℕ → List ℕ
@@ -52,29 +54,40 @@ played c =
     let l = loadOf (recordOf c) (c .parameters) (replicate 64 0) (replicate 16 0) in
     ran c (l .answer) (l .memory) (replicate 16 0)
 
-row : List ℕ → List ℕ → ℕ → Outcome → Row
-row code parameters globals outcome =
-    record { given = record { code = code; parameters = parameters; globals = globals }; outcome = outcome }
+-- Checked with one procedure, without results, and just enough workspace.
+unfoldable pub checked : Case → ℕ
+checked c = checkOf (recordOf c) (0 ∷ []) (replicate (4 * length (c .code)) 0) .number
 
--- Plates 1 to 7, 9 and 10. -6 is the word 4,294,967,290.
+row : List ℕ → List ℕ → ℕ → ℕ → Outcome → Row
+row code parameters globals number outcome =
+    record {
+      given = record { code = code; parameters = parameters; globals = globals };
+      number = number;
+      outcome = outcome;
+    }
+
+-- -6 is the word 4,294,967,290. Of plate 8 the paper gives the check's answer alone: its jump lands inside itself, and it runs to a
+-- finish.
 unfoldable pub table : List Row
 unfolding row
 table =
-    row (0x00 ∷ 0x02 ∷ 0xE9 ∷ []) [] 0 (ended 0 2 1 [] [])
-    ∷ row (0x00 ∷ 0x02 ∷ 0x20 ∷ 0x21 ∷ 0xA1 ∷ 0x52 ∷ 0xE9 ∷ []) (9 ∷ 9 ∷ []) 3 (ended 0 6 5 (9 ∷ 9 ∷ 0 ∷ []) [])
-    ∷ row (0x00 ∷ 0x02 ∷ 0x20 ∷ 0x21 ∷ 0xA5 ∷ 0x52 ∷ 0xE9 ∷ []) (7 ∷ 0 ∷ []) 3 (ended 30 4 2 (7 ∷ 0 ∷ 0 ∷ []) (7 ∷ 0 ∷ []))
-    ∷ row (0x00 ∷ 0x02 ∷ 0x20 ∷ 0x21 ∷ 0xA5 ∷ 0x52 ∷ 0xE9 ∷ []) (7 ∷ 3 ∷ []) 3 (ended 0 6 5 (7 ∷ 3 ∷ 1 ∷ []) [])
+    row (0x00 ∷ 0x02 ∷ 0xE9 ∷ []) [] 0 0 (ended 0 2 1 [] [])  -- 1
+    ∷ row (0x00 ∷ 0x02 ∷ 0x20 ∷ 0x21 ∷ 0xA1 ∷ 0x52 ∷ 0xE9 ∷ []) (9 ∷ 9 ∷ []) 3 0 (ended 0 6 5 (9 ∷ 9 ∷ 0 ∷ []) [])  -- 2
+    ∷ row (0x00 ∷ 0x02 ∷ 0x20 ∷ 0x21 ∷ 0xA5 ∷ 0x52 ∷ 0xE9 ∷ []) (7 ∷ 0 ∷ []) 3 0 (ended 30 4 2 (7 ∷ 0 ∷ 0 ∷ []) (7 ∷ 0 ∷ []))  -- 3
+    ∷ row (0x00 ∷ 0x02 ∷ 0x20 ∷ 0x21 ∷ 0xA5 ∷ 0x52 ∷ 0xE9 ∷ []) (7 ∷ 3 ∷ []) 3 0 (ended 0 6 5 (7 ∷ 3 ∷ 1 ∷ []) [])  -- 4
     ∷ row
     (0x00 ∷ 0x02 ∷ 0x8E ∷ 0x00 ∷ 0x01 ∷ 0x03 ∷ 0x01 ∷ 0xE0 ∷ 0x00 ∷ 0x08 ∷ 0x21 ∷ 0x20 ∷ 0xA1 ∷ 0x51 ∷ 0xE1 ∷ 0xE9 ∷ [])
-    [] 2 (ended 0 15 21 (4 ∷ 4294967290 ∷ []) [])
+    [] 2 0 (ended 0 15 21 (4 ∷ 4294967290 ∷ []) [])  -- 5
     ∷ row
     (0x00 ∷ 0x02 ∷ 0x8E ∷ 0x00 ∷ 0x03 ∷ 0x01 ∷ 0x01 ∷ 0xE0 ∷ 0x00 ∷ 0x08 ∷ 0x21 ∷ 0x20 ∷ 0xA1 ∷ 0x51 ∷ 0xE1 ∷ 0xE9 ∷ [])
-    [] 2 (ended 0 15 6 (0 ∷ 0 ∷ []) [])
-    ∷ row (0x00 ∷ 0x02 ∷ 0xA1 ∷ 0xE9 ∷ []) [] 0 (ended 22 2 0 [] [])
-    ∷ row (0x00 ∷ 0x02 ∷ 0x01 ∷ 0xE9 ∷ []) [] 0 (ended 0 3 2 [] (1 ∷ []))
-    ∷ row (0x00 ∷ 0x02 ∷ []) [] 0 (refused 7)
+    [] 2 0 (ended 0 15 6 (0 ∷ 0 ∷ []) [])  -- 6
+    ∷ row (0x00 ∷ 0x02 ∷ 0xA1 ∷ 0xE9 ∷ []) [] 0 15 (ended 22 2 0 [] [])  -- 7
+    ∷ row (0x00 ∷ 0x02 ∷ 0xDA ∷ 0x01 ∷ 0xE9 ∷ []) [] 0 12 (ended 0 4 3 [] (1 ∷ []))  -- 8
+    ∷ row (0x00 ∷ 0x02 ∷ 0x01 ∷ 0xE9 ∷ []) [] 0 15 (ended 0 3 2 [] (1 ∷ []))  -- 9
+    ∷ row (0x00 ∷ 0x02 ∷ []) [] 0 7 (refused 7)  -- 10
     ∷ []
 
--- Each case of the table has the outcome that stands beside it.
+-- Each case of the table has the number and the outcome that stand beside it.
 abbrev pub Stands : List Row → Type 0
-Stands rows = map (λ r. played (r .given)) rows ≡ map (λ r. r .outcome) rows
+Stands rows =
+    (map (λ r. checked (r .given)) rows ≡ map (λ r. r .number) rows) × (map (λ r. played (r .given)) rows ≡ map (λ r. r .outcome) rows)
