@@ -1,7 +1,7 @@
 -- Cutting. 01: "Regions are cut end to end into instructions from each entry; The first bad instruction by offset decides between
 -- 10 and 11."
 use mathlib.Core.Bool.{Bool, cond}
-use mathlib.Core.List.{List, [], _∷_, _++_}
+use mathlib.Core.List.{List}
 use Prim.Native.Nat.{ℕ, zero, suc, _+_, _-_}
 use lib.Dec.{eqb, ltb}
 use lib.ListN.{length}

@@ -1,7 +1,7 @@
 -- The numbers 12 to 14. 01: "12 to 14 look at every instruction cut, reached or not".
 use mathlib.Core.Bool.{Bool, true, false, not, _&&_, _||_}
 use mathlib.Core.List.{List, [], _∷_}
-use Prim.Native.Nat.{ℕ, zero, suc, _+_, _-_}
+use Prim.Native.Nat.{ℕ, zero, suc, _+_}
 use lib.Dec.{eqb, leb}
 use lib.ListN.{length}
 use Rattle.words.specs.Refusal.{refusal, _when_}
@@ -56,7 +56,7 @@ uncallable code p at next (Invoke c) = eqb c 0 || leb (entryCount code) c
 uncallable code p at next (Begin par) = false
 uncallable code p at next Return = false
 
--- A test of an instruction, given its procedure, its offset, the next one and its shape, at an offset: only starts are looked at.
+-- A test of an instruction by its procedure, its offset, the next one and its shape. Only starts are looked at.
 abbrev pub Test : Type 0
 Test = ℕ → ℕ → ℕ → Shape → Bool
 

@@ -19,6 +19,7 @@ use Rattle.effect.specs.Program.{areasOf}
 use Rattle.effect.specs.Words.{pushes}
 use Rattle.stackmap.specs.Ways.{Module}
 use Rattle.verifier.specs.Exact.{subject}
+use Rattle.verifier.proofs.Exactly.{accepts-only}
 use Rattle.machine.specs.declared.run.End.the-variants.{Finished as finish, Spent, Trapped as stop}
 use Rattle.machine.specs.declared.step.Machine.{Machine}
 use Rattle.machine.specs.declared.step.Outcome.{Outcome}
@@ -95,11 +96,14 @@ module _ (M : Module) (C : Checked M) (A : Areas) (first : Configuration) (I : I
 
 pub claim : Claim
 unfolding runOf runNumber
-claim r results w parameters m s q b accepted ready R =
+claim r results w parameters m s q b accepted ready =
+    let R = accepts-only r results w b accepted .1 in
     let first = loadedConfiguration r q (loadOf r parameters m s .memory) s in
     let C = checked r results w b accepted R in
-    let I = at-load r results w parameters m s q b accepted ready R in
-    record {
-      runs = λ budget. rw (R .record-sound, I .fitted) (ended (subject r results R) C (areasOf r) first I budget at-first);
-      safe = run-safe r results w parameters m s q b accepted ready R;
-    }
+    let I = at-load r results w parameters m s q b accepted ready R in (
+      R,
+      record {
+        runs = λ budget. rw (R .record-sound, I .fitted) (ended (subject r results R) C (areasOf r) first I budget at-first);
+        safe = run-safe r results w parameters m s q b accepted ready R;
+      },
+    )

@@ -1,25 +1,68 @@
 -- The joined call ends properly: demand 3 for the record that the check accepted.
+use mathlib.Core.Bool.{Bool, true, false, cond, not, _&&_}
 use mathlib.Core.List.{List}
-use mathlib.Core.Path.{_≡_, sym, ap, subst, _∙_}
-use Prim.Native.Nat.{ℕ}
+use mathlib.Core.Path.{_≡_, refl, sym, ap, subst, _∙_}
+use Prim.Native.Nat.{ℕ, zero, suc, _≤_}
+use native.Mathlib.Omega.{arith}
+use lib.Dec.{eqb, eqb·suc-zero, leb}
+use lib.ListN.{length}
+use Rattle.record.specs.Number.{recordNumber}
+use Rattle.effect.specs.Program.{areasOf, programOf}
+use Rattle.verifier.proofs.Ranges.{record-range}
+use Rattle.verifier.proofs.Accepting.{check-range}
 use Rattle.verifier.specs.Check.{Checking, checking, checkOf}
 use Rattle.verifier.specs.Exact.{Bytes}
-use Rattle.verifier.proofs.Exactly.{accepts-only}
 use Rattle.effect.specs.declared.registers.Registers.{Registers}
 use Rattle.machine.specs.declared.load.Loaded.{Loaded}
-use Rattle.machine.specs.declared.load.Loaded.the-variants.{Ready}
+use Rattle.machine.specs.declared.load.Loaded.the-variants.{Refused as NotLoaded, Ready}
 use Rattle.machine.specs.declared.run.Answer.{Answer}
-use Rattle.machine.specs.Load.{Loading, loading, loadOf}
+use Rattle.machine.specs.declared.run.Answer.the-variants.{Refused}
+use Rattle.machine.specs.Fits.{sizesTaken}
+use Rattle.machine.specs.Load.{Loading, loading, startOf, loadNumber, loadOf}
 use Rattle.machine.specs.Run.{Result, ran, runOf}
-use Rattle.safety.specs.Joined.{ProperAnswer, well-ended}
+use Rattle.safety.specs.Joined.{ProperAnswer, not-run, well-ended}
 use Rattle.safety.proofs.Ending.{claim}
+
+-- The load's numbers are 1 to 8.
+load-number-range : (r parameters m s : List ℕ) → loadNumber r parameters m s ≤ 8
+unfolding loadNumber
+load-number-range r parameters m s =
+    by (eqb (recordNumber r) 0) (not (leb (length parameters) (areasOf r .globals) && sizesTaken (areasOf r) m s))
+  where
+    by : (t u : Bool) → cond t (cond u 8 0) (recordNumber r) ≤ 8
+    by true true = omega arith
+    by true false = omega arith
+    by false u = omega (arith, record-range r)
+
+ready-not : {q : Registers} {n : ℕ} → Ready q ≡ NotLoaded n → ⊥
+ready-not e = let z : _≡_ {A = ℕ} 0 1 = cc in omega arith
+
+pub not-loaded : (r parameters m s : List ℕ) {l : Loaded} {m' : List ℕ} → loading l m' ≡ loadOf r parameters m s → {n : ℕ} → l ≡ NotLoaded n
+    → ProperAnswer (Refused n)
+unfolding loadOf
+not-loaded r parameters m s {l} e {n} f = by (loadNumber r parameters m s) refl
+  where
+    by : (k : ℕ) → loadNumber r parameters m s ≡ k → ProperAnswer (Refused n)
+    by zero g =
+        let h : loadOf r parameters m s .answer ≡ Ready (startOf (programOf r)) = rw g in
+        let z : l ≡ Ready (startOf (programOf r)) = ap (λ (x : Loading). x .answer) e ∙ h in
+        absurd (ready-not (sym z ∙ f))
+    by (suc k) g =
+        let h : loadOf r parameters m s .answer ≡ NotLoaded (suc k) = rw (g, eqb·suc-zero k) in
+        let z : l ≡ NotLoaded (suc k) = ap (λ (x : Loading). x .answer) e ∙ h in
+        let y : n ≡ suc k = cc in
+        not-run {n = n} (omega arith) (omega (arith, g, load-number-range r parameters m s))
+
+pub not-accepted : (r results w : List ℕ) {n : ℕ} {w' : List ℕ} → checking n w' ≡ checkOf r results w → (n ≡ 0 → ⊥) → ProperAnswer (Refused n)
+not-accepted r results w {n} e f =
+    let z : n ≡ checkOf r results w .number = ap (λ (k : Checking). k .number) e in
+    not-run {n = n} (omega arith) (omega (arith, check-range r results w))
 
 module _ (r results w parameters : List ℕ) (budget : ℕ) (m s : List ℕ) (b : Bytes r) where
   ran-well : (q : Registers) → checkOf r results w .number ≡ 0 → loadOf r parameters m s .answer ≡ Ready q
       → ProperAnswer (runOf r budget q (loadOf r parameters m s .memory) s .answer)
   ran-well q c l =
-      let R = accepts-only r results w b c .0 in
-      let E = claim r results w parameters m s q b c l R .runs budget in
+      let E = claim r results w parameters m s q b c l .1 .runs budget in
       subst (λ (a : Result). ProperAnswer (a .answer)) (sym (E .ends)) (well-ended (E .proper))
 
   -- From what the three calls promise.

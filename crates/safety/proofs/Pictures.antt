@@ -42,7 +42,7 @@ cut-same a b e = cc
 
 pub checked : (r results w : List ℕ) → Bytes r → checkOf r results w .number ≡ 0 → (R : Ruled r results) → Checked (subject r results R)
 checked r results w b e R =
-    let (S, maps) = accepts-only r results w b e in
+    let (enough, S, maps) = accepts-only r results w b e in
     let same : S .marks ≡ R .marks = cut-same (S .marks) (R .marks) (sym (S .is-cut) ∙ R .is-cut) in
     record {
       cutted = cutting-starts (codeOf r) (R .marks) (numberless r (R .record-sound) .entries) (R .is-cut);

@@ -62,6 +62,8 @@ module _ (r results w parameters m s : List ℕ) (q : Registers) (b : Bytes r) (
       let k = run-keeps v in
       let i = k .inv in
       record {
+        procedure = i .procedure;
+        active = i .counted;
         slots = i .slots;
         pictured = i .reached;
         height = i .height;

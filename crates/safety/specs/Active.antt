@@ -2,7 +2,7 @@
 -- one; with none, procedure 0."
 use mathlib.Core.List.{List, [], _∷_}
 use mathlib.Core.Path.{_≡_}
-use Prim.Native.Nat.{ℕ, zero, suc, _-_}
+use Prim.Native.Nat.{ℕ, suc, _-_}
 use lib.ListN.{length}
 use Rattle.opcode.specs.Decode.{decodeAt}
 use Rattle.opcode.specs.declared.Decoded.{Decoded}
@@ -29,7 +29,7 @@ abbrev pub running : List Call → ℕ
 running [] = 0
 running (c ∷ calls) = c .procedure
 
--- "procedure 0's is the whole stack".
+-- "procedure 0's is the whole stack. It begins there until the procedure returns", and "reaches to the top".
 abbrev pub shareOf : List Call → ℕ
 shareOf [] = 0
 shareOf (c ∷ calls) = c .share

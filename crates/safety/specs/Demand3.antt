@@ -1,11 +1,10 @@
--- Demand 3, as the letter words it. Each field of `Demand3` is one of its sentences, about every configuration of every run of an
--- accepted record, loaded fresh.
-use mathlib.Core.Bool.{true}
+-- Demand 3, as the letter words it: each field of `Ends` and `Safe` is one of its sentences. 01: "Demand 3 is a single claim about all
+-- states of a run, from the one loaded to the last".
 use mathlib.Core.List.{List, [], _∷_}
 use mathlib.Core.Path.{_≡_}
-use Prim.Native.Nat.{ℕ, _≤_, _<_, _+_, _-_, _*_}
-use lib.ListN.{length, getD, take, drop}
-use Rattle.record.specs.Header.{codeOf}
+use Prim.Native.Nat.{ℕ, _≤_, _<_, _+_}
+use lib.ListN.{length, getD}
+use Rattle.record.specs.Entries.{entryCount}
 use Rattle.effect.specs.Memory.{read}
 use Rattle.effect.specs.Program.{areasOf, constantsStart, framesStart}
 use Rattle.effect.specs.declared.registers.Registers.{Registers}
@@ -56,6 +55,10 @@ pub record Unread (M : Module) (c : Configuration) (s' : List ℕ) : Type 0 wher
 
 -- What holds of each configuration: w is the workspace as the check left it, m0 the memory as loaded.
 pub record Safe (r : List ℕ) (M : Module) (w m0 : List ℕ) (c : Configuration) : Type 0 where
+  -- 01: "The last active call's procedure is the running one; with none, procedure 0." It is one of the record's, and the active calls
+  -- are as many as the machine counts.
+  pub procedure : running (c .calls) < entryCount (M .code)
+  pub active : length (c .calls) ≡ c .machine .registers .calls
   -- "the place is one that the running procedure's stack picture has"
   pub slots : List Slot
   pub pictured : Reached M (running (c .calls)) (c .machine .registers .pc) slots
@@ -69,13 +72,15 @@ pub record Safe (r : List ℕ) (M : Module) (w m0 : List ℕ) (c : Configuration
   pub constants : (a : ℕ) → constantsStart (areasOf r) ≤ a → a < framesStart (areasOf r) → read (c .memory) a ≡ read m0 a
   -- "each active call's link words are as that call wrote them"
   pub links : Linked (c .memory) (c .calls)
-  -- "No step, a trapped one included, reads or changes a stack word below the share that it starts with."
+  -- "No step, a trapped one included, reads or changes a stack word below the share that it starts with": with the run's own stack for
+  -- s', `keeps-own` says that it changes none.
   pub unread : (s' : List ℕ) → SameFrom (shareOf (c .calls)) (c .stack) s' → Unread M c s'
 
 abbrev pub loadedConfiguration : List ℕ → Registers → List ℕ → List ℕ → Configuration
 loadedConfiguration r q m s = record { machine = machine (areasOf r) q; memory = m; stack = s; calls = [] }
 
--- How a run of so many steps at most ends: in a configuration that it visits, properly, with "demand 2's steps and step count".
+-- How a run of so many steps at most ends: in a configuration that it visits, properly, with "demand 2's steps and step count". The
+-- finishing RTN counts, and leaves the state that it found.
 abbrev pub counted : End → ℕ → ℕ
 counted Finished n = n + 1
 counted Spent n = n
@@ -92,6 +97,7 @@ pub record Ends (M : Module) (first : Configuration) (run : Result) : Type 0 whe
   pub proper : Proper ending
   pub ends : run ≡ endedIn ending steps last
 
+-- 01: "Check, load and run get the same record; the run gets the load's memory and stack and all else it answered or wrote, as left".
 -- "Take any record that the check accepts and load it fresh, with any parameters, memory and stack that the loader takes; run it from
 -- there, with demand 2's steps and step count and any step budget. .. After every number of its steps, from none to the last, .."
 pub record Demand3 (r w m0 s : List ℕ) (q : Registers) (M : Module) : Type 0 where
@@ -101,5 +107,5 @@ pub record Demand3 (r w m0 s : List ℕ) (q : Registers) (M : Module) : Type 0 w
 abbrev pub Claim : Type 0
 Claim =
     (r results w parameters m s : List ℕ) (q : Registers) → Bytes r → checkOf r results w .number ≡ 0
-    → loadOf r parameters m s .answer ≡ Ready q → (R : Ruled r results)
-    → Demand3 r (checkOf r results w .workspace) (loadOf r parameters m s .memory) s q (subject r results R)
+    → loadOf r parameters m s .answer ≡ Ready q
+    → (R : Ruled r results) × Demand3 r (checkOf r results w .workspace) (loadOf r parameters m s .memory) s q (subject r results R)

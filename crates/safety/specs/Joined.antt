@@ -1,7 +1,7 @@
--- Check, load and run in one call: what the three in turn answer and leave.
+-- Check, load and run in one call: what the three in turn answer and leave. 01: "printer and console check before they load".
 use mathlib.Core.Bool.{cond}
 use mathlib.Core.List.{List}
-use Prim.Native.Nat.{ℕ}
+use Prim.Native.Nat.{ℕ, _≤_}
 use lib.Dec.{eqb}
 use Rattle.verifier.specs.Check.{checkOf}
 use Rattle.machine.specs.declared.load.Loaded.{Loaded}
@@ -35,7 +35,8 @@ joinedOf r results w parameters budget m s =
     let l = loadOf r parameters m s in
     cond (eqb (c .number) 0) (thenLoad r budget (c .workspace) s (l .answer) (l .memory)) (joined (Refused (c .number)) (c .workspace) m s)
 
--- A run of accepted code ends properly: "never in one of the four code traps".
+-- The check's numbers are 1 to 15 and the load's are among them; a run of accepted code is never refused and ends properly: "never in
+-- one of the four code traps".
 pub data ProperAnswer : Answer → Type 0 where
-  not-run : {n : ℕ} → ProperAnswer (Refused n)
+  not-run : {n : ℕ} → 1 ≤ n → n ≤ 15 → ProperAnswer (Refused n)
   well-ended : {e : Ending} → Proper (e .ending) → ProperAnswer (Ended e)

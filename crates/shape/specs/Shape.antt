@@ -1,4 +1,4 @@
--- The shape of an instruction: all that the check looks at. What takes and gives words alone and goes on is one shape; what
+-- The shape of an instruction: what the check makes of its operands. What takes and gives words alone and goes on is one shape; what
 -- jumps, makes or uses a label, calls or returns has its own.
 use Rattle.opcode.specs.declared.instruction.Instruction.{Instruction}
 use Rattle.opcode.specs.declared.instruction.Instruction.the-variants.{LoadConstant, Load, LoadAddress, Store, Pop, Swap, Nop, Signed, Unsigned, Negate, Equal, NotEqual, CompareSigned, CompareUnsigned, Set, Not, Alloc, Free, Jump, JumpC, JumpT, JumpF, Iter, Next, Switch, SwitchX, Leave, Call, Enter, Rtn}

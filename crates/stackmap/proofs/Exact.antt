@@ -14,7 +14,7 @@ use Rattle.stackmap.specs.Walk.{State, blank, waiting, done, States, slo
 use Rattle.stackmap.specs.Theorems.{Sound, mapIn, FindsMaps, RefutesMaps, FindsReached, HasReached}
 use Rattle.stackmap.proofs.Counts.{undone-most}
 use Rattle.stackmap.proofs.Reaching.{reached-in}
-use Rattle.stackmap.proofs.Placing.{owner, owned, placed-reached, in-given, in-told}
+use Rattle.stackmap.proofs.Placing.{owner, owned, in-given, in-told}
 use Rattle.stackmap.proofs.Handing.{Ends, broken, went, ends-map}
 use Rattle.stackmap.proofs.Walking.{Good, Refuted, walking}
 use Rattle.stackmap.proofs.Entering.{atFirst, first-entered, first-has}
@@ -79,9 +79,9 @@ pub refutes-maps : RefutesMaps
 refutes-maps M S e = ends-none (subst (Ends (Refuted M) (Final M)) e (whole M S))
 
 pub finds-reached : FindsReached
-finds-reached M S σ e p h at l g =
-    let t = in-told M p σ at l g in
-    placed-reached M p at l (t .0) (final M S σ e .good .sane at l (t .1))
+finds-reached M S σ e at l g =
+    let P = final M S σ e .good .sane at l g in
+    (owner M at, S .procedures (owner M at) at (P .start), P .reached)
 
 pub has-reached : HasReached
 has-reached M p π h at l r = reached-in M p π h at l r

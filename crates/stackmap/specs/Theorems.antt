@@ -35,11 +35,11 @@ abbrev pub RefutesMaps : Type 0
 RefutesMaps =
     (M : Module) → Sound M → walkOf M ≡ none → (p : ℕ) × (p < entryCount (M .code)) × ((π : Map) → IsMap M p π → ⊥)
 
--- What it found is just what is reached from the entries.
+-- Whatever it found, at any offset, is reached from some procedure's entry.
 abbrev pub FindsReached : Type 0
 FindsReached =
-    (M : Module) → Sound M → (σ : States) → walkOf M ≡ some σ → (p : ℕ) → p < entryCount (M .code) → (at : ℕ) (l : List Slot)
-    → mapIn M p σ at ≡ some l → Reached M p at l
+    (M : Module) → Sound M → (σ : States) → walkOf M ≡ some σ → (at : ℕ) (l : List Slot) → mapOf σ at ≡ some l
+    → (p : ℕ) × (p < entryCount (M .code)) × Reached M p at l
 
 -- Every map has what is reached, so that there is one map of the instructions reached.
 abbrev pub HasReached : Type 0

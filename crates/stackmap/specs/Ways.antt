@@ -36,7 +36,8 @@ resultsIn results p = getD results p 0
 abbrev pub resultsOf : Module → ℕ → ℕ
 resultsOf M p = resultsIn (M .results) p
 
--- ITER is E0; SWITCH is E2, SWITCH_X is E3: "SWITCH_X counts as SWITCH here".
+-- ITER is E0; SWITCH is E2, SWITCH_X is E3: "SWITCH_X counts as SWITCH here". An origin is a start, and DOUBLE stands before none of
+-- the three, so that its first byte is its code.
 abbrev pub isLoop : List ℕ → ℕ → Bool
 isLoop code origin = eqb (byteAt code origin) 0xE0
 
@@ -60,7 +61,8 @@ abbrev pub after : Option (List Slot) → (List Slot → List Way) → Option (L
 after none f = none
 after (some rest) f = some (f rest)
 
--- Two ways in rising offset, the one that goes on first where they meet.
+-- Two ways in rising offset, the one that goes on first where they meet (02, K9: "hands its list to its successors in rising offset");
+-- what the walk finds does not depend on the order.
 abbrev pub both : Way → Way → List Way
 both on away = cond (leb (place on) (place away)) (on ∷ away ∷ []) (away ∷ on ∷ [])
 

@@ -17,9 +17,9 @@ use Rattle.stackmap.specs.Slots.{Slot}
 use Rattle.stackmap.specs.StackMap.{Map, IsMap, Reached}
 use Rattle.stackmap.specs.Theorems.{Sound, mapIn}
 use Rattle.stackmap.specs.Walk.{State, States, mapOf, slotsIn, blank, waiting, done, walkOf}
-use Rattle.stackmap.proofs.Exact.{finds-maps, refutes-maps, finds-reached, has-reached}
 use Rattle.verifier.specs.Check.{resultsSound, listNumber, moduleOf, Verdict, refuted, accepted, walked, examined, verdictOf, checking, concluded, shownState, shownFrom, checkOf}
 use Rattle.verifier.specs.Exact.{Bytes, Ruled, subject, Mapped, Room, AcceptsOnly, AcceptsAll, RefusesOnly, Shows, ShowsReached}
+use Rattle.verifier.proofs.Ranges.{list-range, code-range, cut-range}
 use Rattle.verifier.proofs.Records.{Listed, listed, numberless, code-bytes}
 use Rattle.verifier.proofs.Concluding.{sound}
 use Rattle.verifier.proofs.Showing.{shown-at, shown-length}
@@ -60,3 +60,17 @@ judged code results = by (cutOf code) refl
     by : (c : Cut) → cutOf code ≡ c → Judged code results
     by (bad n) c = miscut n c (rw c)
     by (cut marks) c = faults marks c (codeNumber code marks) refl
+
+-- The check's numbers are at most 15.
+pub check-range : (r results w : List ℕ) → checkOf r results w .number ≤ 15
+check-range r results w = by (answers r results w)
+  where
+    verdict : Judged (codeOf r) results → concluded (length (codeOf r)) w (verdictOf (codeOf r) results) .number ≤ 15
+    verdict (miscut n c v) = rw v (let z = cut-range (codeOf r) n c in omega arith)
+    verdict (faulty marks n c f v) = rw v (omega (arith, f, code-range (codeOf r) marks))
+    verdict (unmapped marks c f h v) = rw v (let z : 15 ≤ 15 = omega arith in z)
+    verdict (mapped marks c f σ h v) = rw v (let z : 0 ≤ 15 = omega arith in z)
+
+    by : Answers r results w → checkOf r results w .number ≤ 15
+    by (early n f g) = rw g (omega (arith, f, list-range r results (length w)))
+    by (late L g) = rw g (verdict (judged (codeOf r) results))

@@ -2,6 +2,7 @@
 -- shows what is reached.
 use mathlib.Core.Bool.{Bool, true, false, cond}
 use mathlib.Core.List.{List, _++_}
+use mathlib.Core.Logic.{_⊎_, inl, inr}
 use mathlib.Core.Option.{Option, none, some}
 use mathlib.Core.Path.{_≡_, _∙_, refl, sym, ap, subst}
 use Prim.Native.Nat.{ℕ, zero, suc, _+_, _*_, _<_, _≤_}
@@ -19,9 +20,9 @@ use Rattle.stackmap.specs.Ways.{Module}
 use Rattle.stackmap.specs.StackMap.{Map, IsMap, Reached}
 use Rattle.stackmap.specs.Theorems.{Sound, mapIn}
 use Rattle.stackmap.specs.Walk.{State, States, mapOf, slotsIn, blank, waiting, done, walkOf}
-use Rattle.stackmap.proofs.Exact.{finds-maps, refutes-maps, has-reached}
+use Rattle.stackmap.proofs.Exact.{finds-maps, refutes-maps, finds-reached, has-reached}
 use Rattle.verifier.specs.Check.{resultsSound, listNumber, moduleOf, refuted, accepted, verdictOf, checking, Checking, concluded, shownState, shownFrom, checkOf}
-use Rattle.verifier.specs.Exact.{Bytes, Ruled, subject, Mapped, Room, AcceptsOnly, AcceptsAll, RefusesOnly, Shows, ShowsReached}
+use Rattle.verifier.specs.Exact.{Bytes, Ruled, subject, Mapped, Unmapped, Room, AcceptsOnly, AcceptsAll, RefusesOnly, RefusesAll, Shows, ShowsReached, ShowsNoMore}
 use Rattle.verifier.proofs.Records.{Listed, listed, numberless, code-bytes}
 use Rattle.verifier.proofs.Concluding.{sound}
 use Rattle.verifier.proofs.Showing.{shown-at, shown-length}
@@ -100,10 +101,11 @@ module _ (r results w : List ℕ) where
       by (early n f g) = let z : suc n ≡ 0 = rw g at e in absurd (omega arith)
       by (late L g) = late-by L g (judged code results)
 
-  only : Bytes r → checkOf r results w .number ≡ 0 → (R : Ruled r results) × Mapped r results R
+  only : Bytes r → checkOf r results w .number ≡ 0 → Room r w × (R : Ruled r results) × Mapped r results R
   only b e =
       let P = passed e in
       let S = sound-cut b (P .lists .numberless) (P .marks) (P .is-cut) in (
+        P .lists .enough,
         rules (P .lists) (P .marks) (P .is-cut) (P .in-order),
         λ p h.
             (mapIn (moduleOf code results (P .marks)) p (P .states), finds-maps (moduleOf code results (P .marks)) S (P .states) (P .walks) p h),
@@ -132,13 +134,11 @@ module _ (r results w : List ℕ) where
       by (early n f g) = let z : suc n ≡ 0 = sym f ∙ no-number room R in absurd (omega arith)
       by (late L g) = late-by L g (judged code results)
 
-  refuses : Bytes r → checkOf r results w .number ≡ 15
-      → (R : Ruled r results) × (p : ℕ) × (p < entryCount code) × ((π : Map) → IsMap (subject r results R) p π → ⊥)
+  refuses : Bytes r → checkOf r results w .number ≡ 15 → Room r w × (R : Ruled r results) × Unmapped r results R
   refuses b e = by (answers r results w)
     where
       late-by : Listed r results (length w) → checkOf r results w ≡ concluded (length code) w (verdictOf code results)
-          → Judged code results
-          → (R : Ruled r results) × (p : ℕ) × (p < entryCount code) × ((π : Map) → IsMap (subject r results R) p π → ⊥)
+          → Judged code results → Room r w × (R : Ruled r results) × Unmapped r results R
       late-by L g (miscut n c v) =
           let z : n ≡ 15 = rw (g, v) at e in
           absurd (omega (arith, cut-range code n c))
@@ -146,16 +146,36 @@ module _ (r results w : List ℕ) where
           let z : suc n ≡ 15 = rw (g, v) at e in
           absurd (omega (arith, f, code-range code marks))
       late-by L g (unmapped marks c f h v) =
-          let x = refutes-maps (moduleOf code results marks) (sound-cut b (L .numberless) marks c) h in
-          (rules L marks c f, x .0, x .1, x .2)
+          (L .enough, rules L marks c f, refutes-maps (moduleOf code results marks) (sound-cut b (L .numberless) marks c) h)
       late-by L g (mapped marks c f σ h v) =
           let z : _≡_ {A = ℕ} 0 15 = rw (g, v) at e in
           absurd (omega arith)
 
-      by : Answers r results w → (R : Ruled r results) × (p : ℕ) × (p < entryCount code) × ((π : Map) → IsMap (subject r results R) p π → ⊥)
+      by : Answers r results w → Room r w × (R : Ruled r results) × Unmapped r results R
       by (early n f g) =
           let z : suc n ≡ 15 = rw g at e in
           absurd (omega (arith, f, list-range r results (length w)))
+      by (late L g) = late-by L g (judged code results)
+
+  refuses-where : Bytes r → Room r w → (R : Ruled r results) → Unmapped r results R → checkOf r results w .number ≡ 15
+  refuses-where b room R U = by (answers r results w)
+    where
+      late-by : Listed r results (length w) → checkOf r results w ≡ concluded (length code) w (verdictOf code results)
+          → Judged code results → checkOf r results w .number ≡ 15
+      late-by L g (miscut n c v) = absurd (not-bad c (R .is-cut))
+      late-by L g (faulty marks n c f v) =
+          let m : marks ≡ R .marks = cut-same marks (R .marks) (sym c ∙ R .is-cut) in
+          let z : suc n ≡ 0 = sym f ∙ (ap (codeNumber code) m ∙ R .in-order) in
+          absurd (omega arith)
+      late-by L g (unmapped marks c f h v) = rw (g, v)
+      late-by L g (mapped marks c f σ h v) =
+          let m : marks ≡ R .marks = cut-same marks (R .marks) (sym c ∙ R .is-cut) in
+          let M = moduleOf code results (R .marks) in
+          let found : walkOf M ≡ some σ = sym (ap (λ (k : Marks). walkOf (moduleOf code results k)) m) ∙ h in
+          absurd (U .2 (mapIn M (U .0) σ) (finds-maps M (sound-cut b (R .record-sound) (R .marks) (R .is-cut)) σ found (U .0) (U .1)))
+
+      by : Answers r results w → checkOf r results w .number ≡ 15
+      by (early n f g) = let z : suc n ≡ 0 = sym f ∙ no-number room R in absurd (omega arith)
       by (late L g) = late-by L g (judged code results)
 
   -- What is reached has its list in the states found, and the workspace shows these.
@@ -189,6 +209,37 @@ module _ (r results w : List ℕ) where
             origin = index (P .states) (P .leaves) at 1 (f .0) (omega arith) ∙ s .1;
           }
 
+  -- An offset that the states found have no list for shows 0 and 0; what they have is reached.
+  shows-else : Bytes r → checkOf r results w .number ≡ 0 → (R : Ruled r results) (at : ℕ) → at < length code
+      → ((p : ℕ) × (l : List Slot) × (p < entryCount code) × Reached (subject r results R) p at l)
+      ⊎ ((getD (checkOf r results w .workspace) (4 * at) 0 ≡ 0) × (getD (checkOf r results w .workspace) (4 * at + 1) 0 ≡ 0))
+  shows-else b e R at h = by (passed e)
+    where
+      by : Passed → ((p : ℕ) × (l : List Slot) × (p < entryCount code) × Reached (subject r results R) p at l)
+          ⊎ ((getD (checkOf r results w .workspace) (4 * at) 0 ≡ 0) × (getD (checkOf r results w .workspace) (4 * at + 1) 0 ≡ 0))
+      by P = each (P .states at) refl
+        where
+          m : P .marks ≡ R .marks
+          m = cut-same (P .marks) (R .marks) (sym (P .is-cut) ∙ R .is-cut)
+
+          has : (l : List Slot) → mapOf (P .states) at ≡ some l
+              → (p : ℕ) × (l : List Slot) × (p < entryCount code) × Reached (subject r results R) p at l
+          has l g =
+              let x = finds-reached (moduleOf code results (P .marks)) (sound-cut b (P .lists .numberless) (P .marks) (P .is-cut))
+              (P .states) (P .walks) at l g in
+              (x .0, l, x .1, subst (λ (k : Marks). Reached (moduleOf code results k) (x .0) at l) m (x .2))
+
+          each : (s : State) → P .states at ≡ s
+              → ((p : ℕ) × (l : List Slot) × (p < entryCount code) × Reached (subject r results R) p at l)
+              ⊎ ((getD (checkOf r results w .workspace) (4 * at) 0 ≡ 0) × (getD (checkOf r results w .workspace) (4 * at + 1) 0 ≡ 0))
+          each blank g = inr (
+            ap (λ (j : ℕ). getD (checkOf r results w .workspace) j 0) (let z : 4 * at ≡ 4 * at + 0 = omega arith in z)
+                ∙ (index (P .states) (P .leaves) at 0 h (omega arith) ∙ rw g),
+            index (P .states) (P .leaves) at 1 h (omega arith) ∙ rw g,
+          )
+          each (waiting l) g = inl (has l (rw g))
+          each (done l) g = inl (has l (rw g))
+
 pub accepts-only : AcceptsOnly
 accepts-only r results w b e = only r results w b e
 
@@ -197,6 +248,12 @@ accepts-all r results w b room R maps = all r results w b room R maps
 
 pub refuses-only : RefusesOnly
 refuses-only r results w b e = refuses r results w b e
+
+pub refuses-all : RefusesAll
+refuses-all r results w b room R U = refuses-where r results w b room R U
+
+pub shows-no-more : ShowsNoMore
+shows-no-more r results w b e R at h = shows-else r results w b e R at h
 
 pub shows-reached : ShowsReached
 shows-reached r results w b e R p h at l reached = shows r results w b e R p h at l reached

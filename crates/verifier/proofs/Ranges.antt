@@ -22,7 +22,7 @@ at-most : (k n : ℕ) (given : Bool) (rest : ℕ) → n ≤ k → rest ≤ k →
 at-most k n true rest a b = a
 at-most k n false rest a b = b
 
-record-range : (r : List ℕ) → recordNumber r ≤ 7
+pub record-range : (r : List ℕ) → recordNumber r ≤ 7
 unfolding recordNumber
 record-range r =
     let h = headerOf r in

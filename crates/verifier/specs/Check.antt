@@ -41,7 +41,7 @@ pub data Verdict : Type 0 where
   refuted : ℕ → Verdict
   accepted : States → Verdict
 
--- 15: "some region has no picture".
+-- 15: "some region has no picture", which is where the walk breaks (specs/Exact).
 abbrev pub walked : Option States → Verdict
 walked none = refuted 15
 walked (some σ) = accepted σ

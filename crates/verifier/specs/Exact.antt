@@ -1,7 +1,7 @@
 -- What the check accepts, as 01 words it. The letter: "The check accepts exactly the records that meet the written rules".
 use mathlib.Core.Bool.{true}
 use mathlib.Core.List.{List}
-use mathlib.Core.Option.{some}
+use mathlib.Core.Logic.{_⊎_}
 use mathlib.Core.Path.{_≡_}
 use Prim.Native.Nat.{ℕ, _≤_, _<_, _+_, _*_}
 use lib.ListN.{length, getD}
@@ -13,7 +13,7 @@ use Rattle.layout.specs.Faults.{codeNumber}
 use Rattle.stackmap.specs.Slots.{Slot, topOrigin}
 use Rattle.stackmap.specs.Ways.{Module}
 use Rattle.stackmap.specs.StackMap.{Map, IsMap, Reached}
-use Rattle.verifier.specs.Check.{resultsSound, moduleOf, listNumber, checkOf}
+use Rattle.verifier.specs.Check.{resultsSound, moduleOf, checkOf}
 
 -- A list of bytes.
 abbrev pub Bytes : List ℕ → Type 0
@@ -37,23 +37,29 @@ Mapped r results R = (p : ℕ) → p < entryCount (codeOf r) → (π : Map) × I
 abbrev pub Room : List ℕ → List ℕ → Type 0
 Room r w = 4 * length (codeOf r) ≤ length w
 
--- Accepted: then the rules are met and every region has a map; and the other way round.
+-- Accepted: then there is room, the rules are met and every region has a map; and the other way round.
 abbrev pub AcceptsOnly : Type 0
 AcceptsOnly =
-    (r results w : List ℕ) → Bytes r → checkOf r results w .number ≡ 0 → (R : Ruled r results) × Mapped r results R
+    (r results w : List ℕ) → Bytes r → checkOf r results w .number ≡ 0 → Room r w × (R : Ruled r results) × Mapped r results R
 
 abbrev pub AcceptsAll : Type 0
 AcceptsAll =
     (r results w : List ℕ) → Bytes r → Room r w → (R : Ruled r results) → Mapped r results R → checkOf r results w .number ≡ 0
 
--- 15 is given exactly when the rules up to 14 are met and some region has none.
+-- 15 is given exactly when there is room, the rules up to 14 are met, and some region has none.
+abbrev pub Unmapped : (r results : List ℕ) → Ruled r results → Type 0
+Unmapped r results R = (p : ℕ) × (p < entryCount (codeOf r)) × ((π : Map) → IsMap (subject r results R) p π → ⊥)
+
 abbrev pub RefusesOnly : Type 0
 RefusesOnly =
-    (r results w : List ℕ) → Bytes r → checkOf r results w .number ≡ 15
-    → (R : Ruled r results) × (p : ℕ) × (p < entryCount (codeOf r)) × ((π : Map) → IsMap (subject r results R) p π → ⊥)
+    (r results w : List ℕ) → Bytes r → checkOf r results w .number ≡ 15 → Room r w × (R : Ruled r results) × Unmapped r results R
 
--- After acceptance the workspace shows, at each offset of a region, the map of just what is reached: height plus 1 and the topmost
--- label where there is a list, 0 and 0 where there is none.
+abbrev pub RefusesAll : Type 0
+RefusesAll =
+    (r results w : List ℕ) → Bytes r → Room r w → (R : Ruled r results) → Unmapped r results R → checkOf r results w .number ≡ 15
+
+-- After acceptance the workspace shows the map of just what is reached: height plus 1 and the topmost label where there is a list, and
+-- 0 and 0 at every other offset.
 pub record Shows (w : List ℕ) (at : ℕ) (l : List Slot) : Type 0 where
   pub height : getD w (4 * at) 0 ≡ length l + 1
   pub origin : getD w (4 * at + 1) 0 ≡ topOrigin l
@@ -62,3 +68,9 @@ abbrev pub ShowsReached : Type 0
 ShowsReached =
     (r results w : List ℕ) → Bytes r → checkOf r results w .number ≡ 0 → (R : Ruled r results) (p : ℕ) → p < entryCount (codeOf r)
     → (at : ℕ) (l : List Slot) → Reached (subject r results R) p at l → Shows (checkOf r results w .workspace) at l
+
+abbrev pub ShowsNoMore : Type 0
+ShowsNoMore =
+    (r results w : List ℕ) → Bytes r → checkOf r results w .number ≡ 0 → (R : Ruled r results) (at : ℕ) → at < length (codeOf r)
+    → ((p : ℕ) × (l : List Slot) × (p < entryCount (codeOf r)) × Reached (subject r results R) p at l)
+    ⊎ ((getD (checkOf r results w .workspace) (4 * at) 0 ≡ 0) × (getD (checkOf r results w .workspace) (4 * at + 1) 0 ≡ 0))

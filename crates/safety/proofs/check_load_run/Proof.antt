@@ -3,8 +3,8 @@ use native.Mathlib.Omega.{arith}
 use borrow.Author.Needs.{needs}
 use borrow.Author.Tests.{eq-eqb, ne-eqb}
 use Rattle.safety.proofs.check_load_run.Statement.{statement}
-use Rattle.safety.specs.Joined.{joinedOf, not-run}
-use Rattle.safety.proofs.Joining.{answered-well}
+use Rattle.safety.specs.Joined.{joinedOf}
+use Rattle.safety.proofs.Joining.{not-accepted, not-loaded, answered-well}
 use Rattle.safety.proofs.check_load_run.Tie as tie
 
 check-requires : tie.Need-check-requires
@@ -15,7 +15,7 @@ same-length c = search needs
 
 returns : tie.Need-returns
 unfolding joinedOf
-returns c = (rw (← c .before .before .before .check .ensures, ne-eqb (c .before .before .before .check .result) 0 (c .if1 .taken)), not-run)
+returns c = (rw (← c .before .before .before .check .ensures, ne-eqb (c .before .before .before .check .result) 0 (c .if1 .taken)), not-accepted (c .before .before .before .before .before .before .before .before .before .before .before .args .r .now) (c .before .before .before .before .before .before .before .before .before .before .before .args .results .now) (c .before .before .before .before .before .before .before .before .before .before .before .args .workspace .now) (c .before .before .before .check .ensures) (c .if1 .taken))
 
 load-requires : tie.Need-load-requires
 load-requires c κs = search needs
@@ -40,7 +40,7 @@ same-length-4 c = search needs
 
 returns-2 : tie.Need-returns-2
 unfolding joinedOf
-returns-2 c = (rw (← c .before .before .before .before .before .before .before .before .before .before .before .check .ensures, eq-eqb (c .before .before .before .before .before .before .before .before .before .before .before .check .result) 0 (c .before .before .before .before .before .before .before .before .if1 .left), ← c .before .before .before .before .before .load .ensures, c .before .loaded .given .1), not-run)
+returns-2 c = (rw (← c .before .before .before .before .before .before .before .before .before .before .before .check .ensures, eq-eqb (c .before .before .before .before .before .before .before .before .before .before .before .check .result) 0 (c .before .before .before .before .before .before .before .before .if1 .left), ← c .before .before .before .before .before .load .ensures, c .before .loaded .given .1), not-loaded (c .before .before .before .before .before .before .before .before .before .before .before .before .before .before .before .before .before .before .before .args .r .now) (c .before .before .before .before .before .before .before .before .before .before .before .before .before .before .before .before .before .before .before .args .parameters .now) (c .before .before .before .before .before .before .before .before .before .before .before .before .before .before .before .before .before .before .before .args .memory .now) (c .before .before .before .before .before .before .before .before .before .before .before .before .before .before .before .before .before .before .before .args .stack .now) (c .before .before .before .before .before .load .ensures) (c .before .loaded .given .1))
 
 same-length-5 : tie.Need-same-length-5
 same-length-5 c = search needs
