@@ -1,0 +1,90 @@
+-- `run_file::read_parameters` meets its contract. The loop's invariant: the parameters keep their count, and up to the place reached
+-- they are the words of the file. The measure is what is left of them.
+use Prim.Native.Nat.{_+_, _-_, _≤_}
+use mathlib.Core.Path.{_≡_, _∙_}
+use native.Mathlib.Omega.{arith}
+use lib.ListN.{length, take, length-set}
+use borrow.Author.Needs.{needs}
+use Rattle.run_file.proofs.read_parameters.Statement.{statement}
+use Rattle.machine.specs.Load.{wordsFrom}
+use Rattle.run_file.proofs.Words.{written-next, written-all}
+use Rattle.run_file.proofs.read_parameters.Tie as tie
+
+abbrev Inv-loop : tie.InvT-loop
+Inv-loop f parameters₀ from i₀ i-end parameters i =
+    (length parameters ≡ length parameters₀) × (i ≤ length parameters₀) × (take i parameters ≡ wordsFrom f from i)
+
+abbrev μ-loop : tie.MeasureT-loop
+μ-loop f parameters₀ from i₀ i-end parameters i = length parameters₀ - i
+
+results-count-requires : tie.Need-results-count-requires Inv-loop μ-loop
+results-count-requires c κs = search needs
+
+add-from : tie.Need-add-from Inv-loop μ-loop
+add-from c = omega (arith, c .before .before .shared-slice-known .given 5)
+
+loop-holds : tie.Need-loop-holds Inv-loop μ-loop
+loop-holds c = search needs
+
+mul-word-at : tie.Need-mul-word-at Inv-loop μ-loop
+mul-word-at c = search needs
+
+add-word-at : tie.Need-add-word-at Inv-loop μ-loop
+add-word-at c = omega (arith, c .before .before .before .before .shared-slice-known .given 5)
+
+word-at-requires : tie.Need-word-at-requires Inv-loop μ-loop
+word-at-requires c κs = search needs
+
+mul-parameters : tie.Need-mul-parameters Inv-loop μ-loop
+mul-parameters c = search needs
+
+slice-write-parameters : tie.Need-slice-write-parameters Inv-loop μ-loop
+slice-write-parameters c = search needs
+
+add-i : tie.Need-add-i Inv-loop μ-loop
+add-i c = search needs
+
+loop-less : tie.Need-loop-less Inv-loop μ-loop
+loop-less c = search needs
+
+loop-again : tie.Need-loop-again Inv-loop μ-loop
+loop-again c =
+    let f = c .before .before .before .before .before .before .args .f .now in
+    let from = 7 + c .before .before .before .results-count .result in
+    let l = c .before .before .loop in
+    let x = c .word-at in (
+      length-set (l .parameters) (l .i) (x .result) ∙ l .inv .0,
+      omega arith,
+      written-next f (l .parameters) from (l .i) (x .result) (l .inv .2) (omega arith) (x .ensures),
+    )
+
+same-length : tie.Need-same-length Inv-loop μ-loop
+same-length c = search needs
+
+returns : tie.Need-returns Inv-loop μ-loop
+returns c =
+    let f = c .before .before .before .before .before .args .f .now in
+    let count = c .before .before .results-count in
+    let l = c .before .loop in
+    rw (← count .ensures)
+    (written-all f (l .parameters) (7 + count .result) (l .i) _ (l .inv .2) (l .inv .0) (c .loop-test .left) (l .inv .1))
+
+pub read-parameters-spec : {M : Type 1} → statement M
+read-parameters-spec =
+    tie.close
+    (tie.spec
+    Inv-loop
+    μ-loop
+    results-count-requires
+    add-from
+    loop-holds
+    mul-word-at
+    add-word-at
+    word-at-requires
+    mul-parameters
+    slice-write-parameters
+    add-i
+    loop-less
+    loop-again
+    same-length
+    returns)

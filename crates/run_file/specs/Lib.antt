@@ -1,0 +1,2 @@
+-- The run file.
+pub mod RunFile

@@ -1,0 +1,62 @@
+-- `text::put_bytes` meets its contract: after i turns the bytes from i on are left to write.
+use Prim.Native.Nat.{_+_, _-_, _≤_}
+use mathlib.Core.Path.{_≡_, refl}
+use native.Mathlib.Omega.{arith}
+use lib.ListN.{length, drop, drop-of-length-le}
+use borrow.Author.Needs.{needs}
+use Rattle.text.proofs.put_bytes.Statement.{statement}
+use Rattle.text.proofs.Writing.{Left, left-start, left-next, left-over, left-length, wrote-one, drop-one}
+use Rattle.text.proofs.put_bytes.Tie as tie
+
+abbrev Inv-loop : tie.InvT-loop
+Inv-loop out₀ at s i₀ i-end out i = (i-end ≡ length s) × (i ≤ length s) × Left out₀ at s out (at + i) (drop i s)
+
+abbrev μ-loop : tie.MeasureT-loop
+μ-loop out₀ at s i₀ i-end out i = length s - i
+
+loop-holds : tie.Need-loop-holds Inv-loop μ-loop
+loop-holds c = (refl, omega arith, left-start refl (omega arith))
+
+add-put-byte : tie.Need-add-put-byte Inv-loop μ-loop
+add-put-byte c = search needs
+
+shared-slice-read-put-byte : tie.Need-shared-slice-read-put-byte Inv-loop μ-loop
+shared-slice-read-put-byte c = search needs
+
+put-byte-requires : tie.Need-put-byte-requires Inv-loop μ-loop
+put-byte-requires c κs = search needs
+
+add-i : tie.Need-add-i Inv-loop μ-loop
+add-i c = search needs
+
+loop-less : tie.Need-loop-less Inv-loop μ-loop
+loop-less c = search needs
+
+loop-again : tie.Need-loop-again Inv-loop μ-loop
+loop-again c = (refl, omega (arith, c .before .before .before .before .before .before .loop .inv .0), left-next (c .before .before .before .before .before .before .loop .inv .2) (drop-one (c .before .before .before .before .before .before .before .before .before .args .s .now) (c .before .before .before .before .before .before .loop .i) (omega (arith, c .before .before .before .before .before .before .loop .inv .0))) (wrote-one (c .before .before .put-byte .ensures) (omega arith)))
+
+add-result : tie.Need-add-result Inv-loop μ-loop
+add-result c = search needs
+
+same-length : tie.Need-same-length Inv-loop μ-loop
+same-length c = left-length (c .before .loop .inv .2)
+
+returns : tie.Need-returns Inv-loop μ-loop
+returns c = left-over (c .before .loop .inv .2) (drop-of-length-le (c .before .before .before .before .args .s .now) {i = c .before .loop .i} (omega (arith, c .before .loop .inv .0))) (omega (arith, c .before .loop .inv .0))
+
+pub put-bytes-spec : {M : Type 1} → statement M
+put-bytes-spec =
+    tie.close
+    (tie.spec
+    Inv-loop
+    μ-loop
+    loop-holds
+    add-put-byte
+    shared-slice-read-put-byte
+    put-byte-requires
+    add-i
+    loop-less
+    loop-again
+    add-result
+    same-length
+    returns)

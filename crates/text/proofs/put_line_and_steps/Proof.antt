@@ -1,0 +1,53 @@
+-- `text::put_line_and_steps` meets its contract: its five pieces stand one behind the other.
+use native.Mathlib.Omega.{arith}
+use borrow.Author.Needs.{needs}
+use Rattle.text.proofs.put_line_and_steps.Statement.{statement}
+use Rattle.text.specs.Text.{lineAndSteps}
+use Rattle.text.proofs.Writing.{wrote-then, decimal-short}
+use Rattle.text.proofs.put_line_and_steps.Tie as tie
+
+slice-aggregate-put-bytes : tie.Need-slice-aggregate-put-bytes
+slice-aggregate-put-bytes c = search needs
+
+put-bytes-requires : tie.Need-put-bytes-requires
+put-bytes-requires c κs = search needs
+
+put-number-requires : tie.Need-put-number-requires
+put-number-requires c κs = search needs
+
+slice-aggregate-put-bytes-2 : tie.Need-slice-aggregate-put-bytes-2
+slice-aggregate-put-bytes-2 c = search needs
+
+put-bytes-requires-2 : tie.Need-put-bytes-requires-2
+put-bytes-requires-2 c κs = omega (arith, c .before .before .before .before .before .before .before .before .put-bytes .ensures .ends, c .before .before .before .before .put-number .ensures .ends, decimal-short (c .before .before .before .before .before .before .before .before .before .before .before .before .args .line))
+
+put-number-requires-2 : tie.Need-put-number-requires-2
+put-number-requires-2 c κs = omega (arith, c .before .before .before .before .before .before .before .before .before .before .before .before .put-bytes .ensures .ends, c .before .before .before .before .before .before .before .before .put-number .ensures .ends, c .before .before .before .put-bytes2 .ensures .ends, decimal-short (c .before .before .before .before .before .before .before .before .before .before .before .before .before .before .before .before .args .line))
+
+slice-aggregate-put-bytes-3 : tie.Need-slice-aggregate-put-bytes-3
+slice-aggregate-put-bytes-3 c = search needs
+
+put-bytes-requires-3 : tie.Need-put-bytes-requires-3
+put-bytes-requires-3 c κs = omega (arith, c .before .before .before .before .before .before .before .before .before .before .before .before .before .before .before .before .before .put-bytes .ensures .ends, c .before .before .before .before .before .before .before .before .before .before .before .before .before .put-number .ensures .ends, c .before .before .before .before .before .before .before .before .put-bytes2 .ensures .ends, c .before .before .before .before .put-number2 .ensures .ends, decimal-short (c .before .before .before .before .before .before .before .before .before .before .before .before .before .before .before .before .before .before .before .before .before .args .line), decimal-short (c .before .before .before .before .before .before .before .before .before .before .before .before .before .before .before .before .before .before .before .before .before .args .steps))
+
+same-length : tie.Need-same-length
+same-length c = search needs
+
+returns : tie.Need-returns
+unfolding lineAndSteps
+returns c = wrote-then (c .before .before .before .before .before .before .before .before .before .before .before .before .before .before .before .before .before .before .before .before .put-bytes .ensures) (wrote-then (c .before .before .before .before .before .before .before .before .before .before .before .before .before .before .before .before .put-number .ensures) (wrote-then (c .before .before .before .before .before .before .before .before .before .before .before .put-bytes2 .ensures) (wrote-then (c .before .before .before .before .before .before .before .put-number2 .ensures) (c .before .before .put-bytes3 .ensures))))
+
+pub put-line-and-steps-spec : {M : Type 1} → statement M
+put-line-and-steps-spec =
+    tie.close
+    (tie.spec
+    slice-aggregate-put-bytes
+    put-bytes-requires
+    put-number-requires
+    slice-aggregate-put-bytes-2
+    put-bytes-requires-2
+    put-number-requires-2
+    slice-aggregate-put-bytes-3
+    put-bytes-requires-3
+    same-length
+    returns)

@@ -1,0 +1,60 @@
+-- `text::width_of` meets its contract: the tests are those of the definition, in the same order.
+use borrow.Author.Tests.{lt-ltb, le-ltb}
+use Rattle.text.proofs.width_of.Statement.{statement}
+use Rattle.text.specs.Text.{width}
+use Rattle.text.proofs.width_of.Tie as tie
+
+returns : tie.Need-returns
+unfolding width
+returns c = rw (lt-ltb _ 10 (c .if1 .taken))
+
+returns-2 : tie.Need-returns-2
+unfolding width
+returns-2 c = rw (le-ltb _ 10 (c .before .if1 .left), lt-ltb _ 100 (c .if2 .taken))
+
+returns-3 : tie.Need-returns-3
+unfolding width
+returns-3 c = rw (le-ltb _ 10 (c .before .before .if1 .left), le-ltb _ 100 (c .before .if2 .left), lt-ltb _ 1000 (c .if3 .taken))
+
+returns-4 : tie.Need-returns-4
+unfolding width
+returns-4 c = rw (le-ltb _ 10 (c .before .before .before .if1 .left), le-ltb _ 100 (c .before .before .if2 .left), le-ltb _ 1000 (c .before .if3 .left), lt-ltb _ 10000 (c .if4 .taken))
+
+returns-5 : tie.Need-returns-5
+unfolding width
+returns-5 c = rw (le-ltb _ 10 (c .before .before .before .before .if1 .left), le-ltb _ 100 (c .before .before .before .if2 .left), le-ltb _ 1000 (c .before .before .if3 .left), le-ltb _ 10000 (c .before .if4 .left), lt-ltb _ 100000 (c .if5 .taken))
+
+returns-6 : tie.Need-returns-6
+unfolding width
+returns-6 c = rw (le-ltb _ 10 (c .before .before .before .before .before .if1 .left), le-ltb _ 100 (c .before .before .before .before .if2 .left), le-ltb _ 1000 (c .before .before .before .if3 .left), le-ltb _ 10000 (c .before .before .if4 .left), le-ltb _ 100000 (c .before .if5 .left), lt-ltb _ 1000000 (c .if6 .taken))
+
+returns-7 : tie.Need-returns-7
+unfolding width
+returns-7 c = rw (le-ltb _ 10 (c .before .before .before .before .before .before .if1 .left), le-ltb _ 100 (c .before .before .before .before .before .if2 .left), le-ltb _ 1000 (c .before .before .before .before .if3 .left), le-ltb _ 10000 (c .before .before .before .if4 .left), le-ltb _ 100000 (c .before .before .if5 .left), le-ltb _ 1000000 (c .before .if6 .left), lt-ltb _ 10000000 (c .if7 .taken))
+
+returns-8 : tie.Need-returns-8
+unfolding width
+returns-8 c = rw (le-ltb _ 10 (c .before .before .before .before .before .before .before .if1 .left), le-ltb _ 100 (c .before .before .before .before .before .before .if2 .left), le-ltb _ 1000 (c .before .before .before .before .before .if3 .left), le-ltb _ 10000 (c .before .before .before .before .if4 .left), le-ltb _ 100000 (c .before .before .before .if5 .left), le-ltb _ 1000000 (c .before .before .if6 .left), le-ltb _ 10000000 (c .before .if7 .left), lt-ltb _ 100000000 (c .if8 .taken))
+
+returns-9 : tie.Need-returns-9
+unfolding width
+returns-9 c = rw (le-ltb _ 10 (c .before .before .before .before .before .before .before .before .if1 .left), le-ltb _ 100 (c .before .before .before .before .before .before .before .if2 .left), le-ltb _ 1000 (c .before .before .before .before .before .before .if3 .left), le-ltb _ 10000 (c .before .before .before .before .before .if4 .left), le-ltb _ 100000 (c .before .before .before .before .if5 .left), le-ltb _ 1000000 (c .before .before .before .if6 .left), le-ltb _ 10000000 (c .before .before .if7 .left), le-ltb _ 100000000 (c .before .if8 .left), lt-ltb _ 1000000000 (c .if9 .taken))
+
+returns-10 : tie.Need-returns-10
+unfolding width
+returns-10 c = rw (le-ltb _ 10 (c .before .before .before .before .before .before .before .before .if1 .left), le-ltb _ 100 (c .before .before .before .before .before .before .before .if2 .left), le-ltb _ 1000 (c .before .before .before .before .before .before .if3 .left), le-ltb _ 10000 (c .before .before .before .before .before .if4 .left), le-ltb _ 100000 (c .before .before .before .before .if5 .left), le-ltb _ 1000000 (c .before .before .before .if6 .left), le-ltb _ 10000000 (c .before .before .if7 .left), le-ltb _ 100000000 (c .before .if8 .left), le-ltb _ 1000000000 (c .if9 .left))
+
+pub width-of-spec : {M : Type 1} → statement M
+width-of-spec =
+    tie.close
+    (tie.spec
+    returns
+    returns-2
+    returns-3
+    returns-4
+    returns-5
+    returns-6
+    returns-7
+    returns-8
+    returns-9
+    returns-10)

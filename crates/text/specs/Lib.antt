@@ -1,0 +1,2 @@
+-- Printed text.
+pub mod Text
