@@ -27,7 +27,7 @@ use Rattle.effect.proofs.Links.{chain-lower, chain-rest}
 use Rattle.effect.proofs.Protected.{free-above}
 use Rattle.machine.specs.Step.{written}
 use Rattle.machine.proofs.Fitting.{Fitting}
-use Rattle.machine.proofs.Stored.{Intact, intact-none, intact-then, stored-above, sets-under}
+use Rattle.machine.proofs.Stored.{apart, Intact, intact-none, intact-then, stored-above, sets-under}
 use Rattle.machine.proofs.Stored.{stored as stored-one}
 
 -- The registers q lie rightly in the memory n, which came of m under the registers q₀ with each protected word as it was.
@@ -78,10 +78,6 @@ module _ (A : Areas) (q : Registers) (m s : List ℕ) (F : Fitting A q m s) wher
 
   pub moved-keeps : (gone : ℕ) (push : Push) (place : ℕ) → Keeps A q m (Go gone push NoWrite (moved q place))
   moved-keeps gone push place = sized-keeps gone push place (q .mp) (F .frame) (F .within)
-
-  apart : (a b : Bool) → (a || b) ≡ false → (a ≡ false) × (b ≡ false)
-  apart true b e = let z : _≡_ {A = Bool} true false = e in (cc, cc)
-  apart false b e = (refl, e)
 
   free-link : (a : ℕ) → protects A q m a ≡ false → (3 ≤ a) × (isLink m (q .fp) (q .calls) a ≡ false)
   unfolding protects

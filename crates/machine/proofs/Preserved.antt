@@ -42,10 +42,6 @@ use Rattle.machine.specs.declared.step.Outcome.{Outcome}
 use Rattle.machine.proofs.Fitting.{Fitting}
 use Rattle.machine.proofs.Keeping.{Steady, Keeps, keeps-cond, sized-keeps, moved-keeps, stored-keeps, storable-keeps, mode-keeps, entered-keeps, called-keeps, returned-keeps}
 
-apart : (a b : Bool) → (a || b) ≡ false → (a ≡ false) × (b ≡ false)
-apart true b e = let z : _≡_ {A = Bool} true false = e in (cc, cc)
-apart false b e = (refl, e)
-
 module _ (code : List ℕ) (A : Areas) (q : Registers) (m s : List ℕ) (F : Fitting A q m s) where
   value-keeps : (next gone : ℕ) (v : Value) → Keeps A q m (valued q next gone v)
   value-keeps next gone (Word x) = moved-keeps A q m s F gone (PushOne x) next

@@ -19,7 +19,7 @@ pub record Intact (m n : List ℕ) (start fp calls : ℕ) : Type 0 where
   pub links : chained n start fp calls ≡ chained m start fp calls
   pub same : (b : ℕ) → isLink n fp calls b ≡ isLink m fp calls b
 
-apart : (a b : Bool) → (a || b) ≡ false → (a ≡ false) × (b ≡ false)
+pub apart : (a b : Bool) → (a || b) ≡ false → (a ≡ false) × (b ≡ false)
 apart true b e = let z : _≡_ {A = Bool} true false = e in (cc, cc)
 apart false b e = (refl, e)
 

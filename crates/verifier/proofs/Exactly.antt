@@ -25,6 +25,7 @@ use Rattle.verifier.specs.Check.{resultsSound, listNumber, moduleOf, ref
 use Rattle.verifier.specs.Exact.{Bytes, Ruled, subject, Mapped, Unmapped, Room, AcceptsOnly, AcceptsAll, RefusesOnly, RefusesAll, Shows, ShowsReached, ShowsNoMore}
 use Rattle.verifier.proofs.Records.{Listed, listed, numberless, code-bytes}
 use Rattle.verifier.proofs.Concluding.{sound}
+use Rattle.verifier.proofs.Starting.{not-given}
 use Rattle.verifier.proofs.Showing.{shown-at, shown-length}
 use Rattle.verifier.proofs.Ranges.{list-range, code-range, cut-range}
 use Rattle.verifier.proofs.Accepting.{Answers, early, late, answers, Judged, miscut, faulty, unmapped, mapped, judged}
@@ -45,13 +46,10 @@ not-bad : {n : ℕ} {marks : Marks} {c : Cut} → c ≡ bad n → c ≡ cut mark
 unfolding numberOf
 not-bad e f = let z : _≡_ {A = ℕ} 1 0 = ap numberOf (sym e ∙ f) in omega arith
 
-none-some : {l : List Slot} → _≡_ {A = Option (List Slot)} none (some l) → ⊥
-none-some e = let z : _≡_ {A = ℕ} 0 1 = cc in omega arith
-
 -- The list that a state has, as the workspace shows it.
 state-shows : (s : State) (l : List Slot) → slotsIn s ≡ some l
     → (getD (shownState s) 0 0 ≡ length l + 1) × (getD (shownState s) 1 0 ≡ topOrigin l)
-state-shows blank l e = absurd (none-some e)
+state-shows blank l e = absurd (not-given e)
 state-shows (waiting k) l e = let z : k ≡ l = cc in (rw z, rw z)
 state-shows (done k) l e = let z : k ≡ l = cc in (rw z, rw z)
 
@@ -193,7 +191,7 @@ module _ (r results w : List ℕ) where
       in-map : (M : Module) (σ : States) → Sound M → mapIn M p σ at ≡ some l → (t : Bool) → startsIn (M .marks) p at ≡ t
           → (at < length (M .code)) × (slotsIn (σ at) ≡ some l)
       in-map M σ S q true f = (S .within p at f, rw f at q)
-      in-map M σ S q false f = absurd (none-some (rw f at q))
+      in-map M σ S q false f = absurd (not-given (rw f at q))
 
       by : Passed → Shows (checkOf r results w .workspace) at l
       by P =

@@ -31,7 +31,7 @@ words-coherent : (code : List ℕ) (π : Map) (n : ℕ) → Coherent code π (pu
 words-coherent code π zero = on-nothing
 words-coherent code π (suc n) = on-word (words-coherent code π n)
 
-not-given : {l : List Slot} → _≡_ {A = Option (List Slot)} none (some l) → ⊥
+pub not-given : {l : List Slot} → _≡_ {A = Option (List Slot)} none (some l) → ⊥
 not-given e =
     let z : _≡_ {A = ℕ} 0 1 = cc in
     omega arith
