@@ -31,6 +31,18 @@ uint64_t icode_line(const uint8_t *record, size_t record_len, uint32_t offset);
 uint32_t icode_check(const uint8_t *record, size_t record_len, const uint8_t *results, size_t results_len, uint16_t *workspace,
                      size_t workspace_len);
 
+/* Checks, loads and runs a run file, in memory and a stack of its own, and writes the report's text into out:
+ *   check 0
+ *   end E at A line L steps N     E: 0 finished, 1 spent, or the trap; A: offset of the finishing RTN, of the next instruction
+ *                                 when spent, or of the trapped one; L: its source line; N: the completed steps
+ *   s W ..                        the words on the stack, bottom first
+ *   g W ..                        the globals
+ * or, where the file is refused, the one line "check" and its number: 16 for a run file that is malformed or too long, else that of
+ * icode_check, else 8 of the load. Each line ends with one newline, numbers are unsigned decimals, and no NUL follows. Answers the
+ * bytes written; what lies past them is not written. Answers 0 for an out that is too short, which stays as it was; 32,768 bytes are
+ * enough for any run file. */
+size_t icode_report(const uint8_t *run_file, size_t run_file_len, uint8_t *out, size_t out_len);
+
 /* For tests: decodes the instruction at a place of the code, which has to end at or before the limit. Bytes past code_len count as 0.
  * Answers the first of these that holds:
  *   8   out_len is not 5,

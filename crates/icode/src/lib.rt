@@ -3,6 +3,7 @@ ghost use mathlib.Core.Path.{_≡_};
 ghost use Rattle.record.specs.Number.{recordNumber, lineOf};
 ghost use Rattle.opcode.specs.Decode.{decodeAt};
 ghost use Rattle.verifier.specs.Check.{checking, checkOf};
+ghost use Rattle.report.specs.Report.{reported, printed, textOf};
 ghost use Rattle.icode.specs.Interface.{lineCode, decoding, decodeReply};
 
 pub mod bench;
@@ -33,6 +34,17 @@ pub extern "C" fn icode_check(bytes: &[u8], results: &[u8], workspace: &mut [u16
     ensures { λ n. ⌜ checking n (now (workspace .exit)) ≡ checkOf (now (bytes .entry)) (now (results .entry)) (now (workspace .entry)) ⌝ }
 {
     verifier::check::check(bytes, results, workspace)
+}
+
+// Run-and-report with memory and stack of its own.
+#[no_mangle]
+pub extern "C" fn icode_report(file: &[u8], out: &mut [u8]) -> usize
+    ensures { λ n. ⌜ reported n (now (out .exit)) ≡ printed (textOf (now (file .entry))) (now (out .entry)) ⌝ }
+{
+    let mut workspace = [0u16; 16384];
+    let mut memory = [0u32; 4096];
+    let mut stack = [0u32; 1024];
+    report::report(file, &mut workspace, &mut memory, &mut stack, out)
 }
 
 // For the tests: the instruction at a place of the code, within a limit.
