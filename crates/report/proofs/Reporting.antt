@@ -7,7 +7,7 @@ use Prim.Native.Nat.{ℕ, _+_, _≤_, _<_}
 use native.Mathlib.Omega.{arith}
 use borrow.Author.Tests.{le-leb, lt-leb, leb-true}
 use lib.Dec.{eqb, leb}
-use lib.ListN.{length, take, drop, getD, replicate}
+use lib.ListN.{length, take, drop, getD}
 use Rattle.words.specs.Bytes.{halfwordAt}
 use Rattle.stackmap.proofs.Updates.{both-true}
 use Rattle.machine.specs.Load.{wordsFrom}
@@ -17,12 +17,13 @@ use Rattle.verifier.specs.Check.{checking, checkOf}
 use Rattle.text.specs.Text.{checkLine}
 use Rattle.run_file.specs.RunFile.{resultsCount, parametersCount, recordAt, named, resultsOf, parametersOf, budgetOf, memoryWords, stackWords, recordOf, wellFormed}
 use Rattle.run_file.proofs.Words.{parameters-part}
-use Rattle.report.specs.Report.{answerText, Page, ranPage, partPage, pageOf, orEight, reported, printed, Leaving, leaving, left, reportOf, textOf}
+use Rattle.report.specs.Report.{answerText, reported, printed}
+use Rattle.report.specs.Buffers.{Page, ranPage, partPage, pageOf, orEight, Leaving, leaving, delivered, reportOf}
 use Rattle.report.proofs.Printing.{answer-fits}
 
 pub ran : (f w₀ ps m₀ s₀ out₀ : List ℕ) {r results : List ℕ} {budget n : ℕ} {a : Answer} {w m s out : List ℕ} → r ≡ recordOf f → results ≡ resultsOf f
     → budget ≡ budgetOf f → joined a w m s ≡ joinedOf r results w₀ ps budget m₀ s₀ → reported n out ≡ printed (answerText r a m s) out₀
-    → leaving n out w m s ≡ left (ranPage f w₀ ps m₀ s₀) out₀
+    → leaving n out w m s ≡ delivered (ranPage f w₀ ps m₀ s₀) out₀
 unfolding ranPage
 ran f w₀ ps m₀ s₀ out₀ e g h j p = rw (← e, ← g, ← h, ← j, ← p) refl
 
@@ -37,8 +38,8 @@ pub count-small : (f : List ℕ) {k : ℕ} → k ≡ parametersCount f → ((i :
 count-small f e bytes = let b = bytes (6 + resultsCount f) in omega arith
 
 pub widens : (f w₀ m₀ s₀ out₀ : List ℕ) {ps : List ℕ} {k d n : ℕ} {out w m s : List ℕ} → ps ≡ parametersOf f → k ≡ memoryWords f → d ≡ stackWords f
-    → leaving n out w m s ≡ left (ranPage f w₀ ps (take k m₀) (take d s₀)) out₀
-    → leaving n out w (m ++ drop k m₀) (s ++ drop d s₀) ≡ left (partPage f w₀ m₀ s₀) out₀
+    → leaving n out w m s ≡ delivered (ranPage f w₀ ps (take k m₀) (take d s₀)) out₀
+    → leaving n out w (m ++ drop k m₀) (s ++ drop d s₀) ≡ delivered (partPage f w₀ m₀ s₀) out₀
 unfolding partPage
 widens f w₀ m₀ s₀ out₀ {k = k} {d = d} e g h l =
     rw (← e, ← g, ← h)
@@ -60,7 +61,7 @@ pub malformed : (f w m s out : List ℕ) {n : ℕ} {out′ : List ℕ} → wellF
 unfolding reportOf pageOf
 malformed f w m s out h p = rw (h, ← p) refl
 
-pub shallow : (f w m s out : List ℕ) → wellFormed f ≡ true → stackWords f ≤ 1024 → left (partPage f w m s) out ≡ reportOf f w m s out
+pub shallow : (f w m s out : List ℕ) → wellFormed f ≡ true → stackWords f ≤ 1024 → delivered (partPage f w m s) out ≡ reportOf f w m s out
 unfolding reportOf pageOf
 shallow f w m s out h d = rw (h, le-leb (stackWords f) 1024 d) refl
 
@@ -76,9 +77,3 @@ unfolding reportOf
 report-fits f w m s out {n} e =
     let same : n ≡ printed (pageOf f w m s .text) out .answer = ap (λ (x : Leaving). x .answer) e in
     rw same (answer-fits (pageOf f w m s .text) out)
-
--- What is read of a report over memory and stack of its own.
-pub report-prints : (f out : List ℕ) {n : ℕ} {out′ w′ m′ s′ : List ℕ}
-    → leaving n out′ w′ m′ s′ ≡ reportOf f (replicate 16384 0) (replicate 4096 0) (replicate 1024 0) out → reported n out′ ≡ printed (textOf f) out
-unfolding reportOf textOf
-report-prints f out e = ap (λ (x : Leaving). reported (x .answer) (x .out)) e

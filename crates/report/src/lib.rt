@@ -4,7 +4,8 @@ ghost use Prim.Native.Nat.{_≤_, _<_};
 ghost use lib.ListN.{length, take, drop};
 ghost use Rattle.text.specs.Text.{checkLine, Wrote};
 ghost use Rattle.run_file.specs.RunFile.{memoryWords, stackWords};
-ghost use Rattle.report.specs.Report.{endedText, answerText, orEight, ranPage, partPage, reported, printed, leaving, left, reportOf};
+ghost use Rattle.report.specs.Report.{endedText, answerText, reported, printed};
+ghost use Rattle.report.specs.Buffers.{orEight, ranPage, partPage, leaving, delivered, reportOf};
 use machine::run::Answer;
 use machine::run::Ended;
 use record::header;
@@ -96,20 +97,12 @@ fn run_and_print(
 ) -> usize
     requires { ⌜ length (now memory) ≤ 65536 ⌝ }
     requires { ⌜ length (now stack) ≤ 65536 ⌝ }
-    ensures { λ n. ⌜ leaving n (now (out .exit)) (now (workspace .exit)) (now (memory .exit)) (now (stack .exit)) ≡ left (ranPage (now (f .entry)) (now (workspace .entry)) (now (parameters .entry)) (now (memory .entry)) (now (stack .entry))) (now (out .entry)) ⌝ }
+    ensures { λ n. ⌜ leaving n (now (out .exit)) (now (workspace .exit)) (now (memory .exit)) (now (stack .exit)) ≡ delivered (ranPage (now (f .entry)) (now (workspace .entry)) (now (parameters .entry)) (now (memory .entry)) (now (stack .entry))) (now (out .entry)) ⌝ }
 {
     let r = run_file::record_of(f);
     let results = run_file::results_of(f);
     let budget = run_file::budget_of(f);
-    let answer = safety::check_load_run(
-        r,
-        results,
-        workspace,
-        parameters,
-        budget,
-        memory,
-        stack,
-    );
+    let answer = safety::check_load_run(r, results, workspace, parameters, budget, memory, stack);
     print_answer(out, r, answer, memory, stack)
 }
 
@@ -125,7 +118,7 @@ fn run_page(
     requires { ⌜ stackWords (now f) ≤ 1024 ⌝ }
     requires { ⌜ length (now memory) ≡ 4096 ⌝ }
     requires { ⌜ length (now stack) ≡ 1024 ⌝ }
-    ensures { λ n. ⌜ leaving n (now (out .exit)) (now (workspace .exit)) (now (memory .exit)) (now (stack .exit)) ≡ left (partPage (now (f .entry)) (now (workspace .entry)) (now (memory .entry)) (now (stack .entry))) (now (out .entry)) ⌝ }
+    ensures { λ n. ⌜ leaving n (now (out .exit)) (now (workspace .exit)) (now (memory .exit)) (now (stack .exit)) ≡ delivered (partPage (now (f .entry)) (now (workspace .entry)) (now (memory .entry)) (now (stack .entry))) (now (out .entry)) ⌝ }
 {
     let mut parameters = [0u32; 255];
     run_file::read_parameters(f, &mut parameters);

@@ -1,4 +1,4 @@
-use Rattle.report.proofs.Reporting.{report-prints}
+use Rattle.report.proofs.OwnMemory.{report-prints}
 use borrow.Author.Needs.{needs}
 use Rattle.icode.proofs.icode_report.Statement.{statement}
 use Rattle.icode.proofs.icode_report.Tie as tie

@@ -1,0 +1,98 @@
+-- Over zeros, what the code prints is what the definition does: the part of a larger memory is as many zeros, and a stack of over 1,024
+-- words, which the code does not have, is the load's 8 once the check has accepted.
+use mathlib.Core.Bool.{Bool, true, false, cond, not, _&&_}
+use mathlib.Core.List.{List, _∷_}
+use mathlib.Core.Path.{_≡_, refl, sym, _∙_, ap}
+use Prim.Native.Nat.{ℕ, zero, suc, _+_, _≤_, _<_}
+use native.Mathlib.Omega.{arith}
+use borrow.Author.Tests.{eqb-true, leb-true, leb-false, lt-leb}
+use lib.Dec.{eqb, leb, eqb·suc-zero}
+use lib.ListN.{length, take, drop, replicate, length-replicate}
+use Rattle.record.specs.Number.{recordNumber}
+use Rattle.effect.specs.Program.{areasOf, framesStart}
+use Rattle.machine.specs.Fits.{sizesTaken}
+use Rattle.machine.specs.Load.{loadNumber, loadOf}
+use Rattle.machine.specs.declared.load.Loaded.the-variants.{Refused as NotLoaded}
+use Rattle.verifier.specs.Check.{checkOf}
+use Rattle.verifier.proofs.Accepting.{Answers, early, late, answers}
+use Rattle.safety.specs.Joined.{Joined, joinedOf}
+use Rattle.text.specs.Text.{checkLine}
+use Rattle.run_file.specs.RunFile.{resultsOf, parametersOf, budgetOf, memoryWords, stackWords, recordOf, wellFormed}
+use Rattle.report.specs.Report.{answerText, reported, printed, zeros, textOf}
+use Rattle.report.specs.Buffers.{ranPage, partPage, pageOf, orEight, Leaving, leaving, reportOf}
+use Rattle.report.proofs.Reporting.{memory-fits}
+
+take-zeros : (k n : ℕ) → k ≤ n → take k (zeros n) ≡ zeros k
+take-zeros zero n h = refl
+take-zeros (suc k) zero h = absurd (omega arith)
+take-zeros (suc k) (suc n) h = ap (λ (l : List ℕ). 0 ∷ l) (take-zeros k n (omega arith))
+
+accepted-sound : (r results w : List ℕ) → checkOf r results w .number ≡ 0 → recordNumber r ≡ 0
+accepted-sound r results w e = by (answers r results w)
+  where
+    by : Answers r results w → recordNumber r ≡ 0
+    by (early n f g) = let z : suc n ≡ 0 = rw g at e in absurd (omega arith)
+    by (late l g) = l .numberless
+
+none-holds : (a b c : Bool) → (a && (b && (c && false))) ≡ false
+none-holds true true true = refl
+none-holds true true false = refl
+none-holds true false c = refl
+none-holds false b c = refl
+
+-- 8: "stack over 1,024".
+too-deep : (r ps m s : List ℕ) → recordNumber r ≡ 0 → 1024 < length s → loadOf r ps m s .answer ≡ NotLoaded 8
+unfolding loadOf loadNumber sizesTaken
+too-deep r ps m s e h =
+    let A = areasOf r in
+    rw (
+      e,
+      lt-leb (length s) 1024 h,
+      none-holds (leb (length ps) (A .globals)) (leb (framesStart A) (length m)) (leb (length m) 16384),
+    )
+
+module _ (r results ps w m s : List ℕ) (budget : ℕ) where
+  abbrev answered : Joined → List ℕ
+  answered j = answerText r (j .answer) (j .memory) (j .stack)
+
+  deep-answer : 1024 < length s → checkLine (orEight (checkOf r results w .number)) ≡ answered (joinedOf r results w ps budget m s)
+  unfolding joinedOf
+  deep-answer h = by (checkOf r results w .number) refl
+    where
+      by : (n : ℕ) → checkOf r results w .number ≡ n → checkLine (orEight (checkOf r results w .number)) ≡ answered (joinedOf r results w ps budget m s)
+      by zero g = rw (g, too-deep r ps m s (accepted-sound r results w g) h) refl
+      by (suc n) g = rw (g, eqb·suc-zero n) refl
+
+module _ (f : List ℕ) where
+  malformed-text : wellFormed f ≡ false → checkLine 16 ≡ textOf f
+  unfolding textOf
+  malformed-text e = rw e refl
+
+  shallow-text : wellFormed f ≡ true → stackWords f ≤ 1024
+      → partPage f (zeros 16384) (zeros 4096) (zeros 1024) .text ≡ textOf f
+  unfolding partPage ranPage textOf
+  shallow-text e h =
+      rw (e, take-zeros (memoryWords f) 4096 (memory-fits f e), take-zeros (stackWords f) 1024 h) refl
+
+  deep-text : wellFormed f ≡ true → 1024 < stackWords f
+      → checkLine (orEight (checkOf (recordOf f) (resultsOf f) (zeros 16384) .number)) ≡ textOf f
+  unfolding textOf
+  deep-text e h =
+      let deep : 1024 < length (zeros (stackWords f)) = rw (length-replicate {A = ℕ} (stackWords f) 0) h in
+      rw e (deep-answer (recordOf f) (resultsOf f) (parametersOf f) (zeros 16384) (zeros (memoryWords f)) (zeros (stackWords f)) (budgetOf f) deep)
+
+  pub own-text : pageOf f (zeros 16384) (zeros 4096) (zeros 1024) .text ≡ textOf f
+  unfolding pageOf
+  own-text = by (wellFormed f) refl (leb (stackWords f) 1024) refl
+    where
+      by : (b : Bool) → wellFormed f ≡ b → (c : Bool) → leb (stackWords f) 1024 ≡ c → pageOf f (zeros 16384) (zeros 4096) (zeros 1024) .text ≡ textOf f
+      by false e c g = rw e (malformed-text e)
+      by true e true g = rw (e, g) (shallow-text e (leb-true (stackWords f) 1024 g))
+      by true e false g = rw (e, g) (deep-text e (leb-false (stackWords f) 1024 g))
+
+-- What is read of a report over memory and stack of its own.
+pub report-prints : (f out : List ℕ) {n : ℕ} {out′ w′ m′ s′ : List ℕ} → leaving n out′ w′ m′ s′ ≡ reportOf f (zeros 16384) (zeros 4096) (zeros 1024) out
+    → reported n out′ ≡ printed (textOf f) out
+unfolding reportOf
+report-prints f out e =
+    ap (λ (x : Leaving). reported (x .answer) (x .out)) e ∙ ap (λ (t : List ℕ). reported (printed t out .answer) (printed t out .out)) (own-text f)

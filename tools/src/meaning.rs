@@ -1,0 +1,30 @@
+//! The numbers that refuse a record or a run file.
+
+/// The meaning of a number, in the words of 01's table ("Numbers handed back"); 6 and 7 say what
+/// its "as above" stands for. 8 does not arise: the check is lent enough workspace.
+pub fn meaning(number: u32) -> &'static str {
+    match number {
+        1 => "record under 28 bytes",
+        2 => "a size above its maximum",
+        3 => "length not that of the parts",
+        4 => "imports or relocation present",
+        5 => "version word malformed",
+        6 => "source table odd, or its offsets not strictly rising and below the code size",
+        7 => {
+            "entries not strictly rising and below the code size, \
+             or entry 1 not even, at least 4 and at most 512"
+        }
+        9 => "results list of wrong length or content",
+        10 => "unserved instruction, or prefix before one without that mode",
+        11 => "instruction runs past its region",
+        12 => "a successor or switch label is no start in its region",
+        13 => {
+            "procedures 1 and up do not begin with ENTER, ENTER elsewhere, \
+             or procedure 0's has parameters"
+        }
+        14 => "callee 0 or not in the entries",
+        15 => "some region has no picture",
+        16 => "run file malformed or too long",
+        _ => "a number without a meaning",
+    }
+}
