@@ -1,4 +1,5 @@
--- The joined call ends properly: demand 3 for the record that the check accepted.
+-- The joined call ends properly, by demand 3 for the record that the check accepted; refused, it leaves memory and stack, for after an
+-- accepted check only the load refuses.
 use mathlib.Core.Bool.{Bool, true, false, cond, not, _&&_}
 use mathlib.Core.List.{List}
 use mathlib.Core.Path.{_≡_, refl, sym, ap, subst, _∙_}
@@ -16,11 +17,12 @@ use Rattle.effect.specs.declared.registers.Registers.{Registers}
 use Rattle.machine.specs.declared.load.Loaded.{Loaded}
 use Rattle.machine.specs.declared.load.Loaded.the-variants.{Refused as NotLoaded, Ready}
 use Rattle.machine.specs.declared.run.Answer.{Answer}
-use Rattle.machine.specs.declared.run.Answer.the-variants.{Refused}
+use Rattle.machine.specs.declared.run.Answer.the-variants.{Refused, Ended}
+use Rattle.machine.specs.declared.run.Ended.{Ended as Ending}
 use Rattle.machine.specs.Fits.{sizesTaken}
 use Rattle.machine.specs.Load.{Loading, loading, startOf, loadNumber, loadOf}
 use Rattle.machine.specs.Run.{Result, ran, runOf}
-use Rattle.safety.specs.Joined.{ProperAnswer, not-run, well-ended}
+use Rattle.safety.specs.Joined.{Joined, joinedOf, ProperAnswer, not-run, well-ended, RefusedJoined}
 use Rattle.safety.proofs.Ending.{claim}
 
 -- The load's numbers are 1 to 8.
@@ -58,6 +60,14 @@ not-accepted r results w {n} e f =
     let z : n ≡ checkOf r results w .number = ap (λ (k : Checking). k .number) e in
     not-run {n = n} (omega arith) (omega (arith, check-range r results w))
 
+not-loaded-memory : (r parameters m s : List ℕ) (n : ℕ) → loadOf r parameters m s .answer ≡ NotLoaded n → loadOf r parameters m s .memory ≡ m
+unfolding loadOf
+not-loaded-memory r parameters m s n e = by (loadNumber r parameters m s) refl
+  where
+    by : (k : ℕ) → loadNumber r parameters m s ≡ k → loadOf r parameters m s .memory ≡ m
+    by zero g = let h : Ready (startOf (programOf r)) ≡ NotLoaded n = rw g at e in absurd (ready-not h)
+    by (suc k) g = rw (g, eqb·suc-zero k)
+
 module _ (r results w parameters : List ℕ) (budget : ℕ) (m s : List ℕ) (b : Bytes r) where
   ran-well : (q : Registers) → checkOf r results w .number ≡ 0 → loadOf r parameters m s .answer ≡ Ready q
       → ProperAnswer (runOf r budget q (loadOf r parameters m s .memory) s .answer)
@@ -76,3 +86,27 @@ module _ (r results w parameters : List ℕ) (budget : ℕ) (m s : List ℕ) (b 
       let same : a ≡ runOf r budget q (loadOf r parameters m s .memory) s .answer =
       ap (λ (k : Result). k .answer) e ∙ ap (λ (k : List ℕ). runOf r budget q k s .answer) memory in
       subst ProperAnswer (sym same) (ran-well q number answer)
+
+ended-not : {R X : Result} {e : Ending} {n : ℕ} → R ≡ X → X .answer ≡ Ended e → R .answer ≡ Refused n → ⊥
+ended-not same g h = let z : _≡_ {A = ℕ} 0 1 = cc in omega arith
+
+pub refused-joined : RefusedJoined
+unfolding joinedOf
+refused-joined r results w parameters budget m s n b e = checks (checkOf r results w .number) refl
+  where
+    j : Joined
+    j = joinedOf r results w parameters budget m s
+
+    l : Loading
+    l = loadOf r parameters m s
+
+    loads : checkOf r results w .number ≡ 0 → (x : Loaded) → l .answer ≡ x → (j .memory ≡ m) × (j .stack ≡ s)
+    loads c (NotLoaded k) g = rw (c, g) (not-loaded-memory r parameters m s k g, refl)
+    loads c (Ready q) g =
+        let E = claim r results w parameters m s q b c g .1 .runs budget in
+        let h : runOf r budget q (l .memory) s .answer ≡ Refused n = rw (c, g) at e in
+        absurd (ended-not (E .ends) refl h)
+
+    checks : (k : ℕ) → checkOf r results w .number ≡ k → (j .memory ≡ m) × (j .stack ≡ s)
+    checks zero c = loads c (l .answer) refl
+    checks (suc k) c = rw (c, eqb·suc-zero k) (refl, refl)

@@ -1,9 +1,11 @@
 -- Check, load and run in one call: what the three in turn answer and leave. 01: "printer and console check before they load".
 use mathlib.Core.Bool.{cond}
 use mathlib.Core.List.{List}
+use mathlib.Core.Path.{_≡_}
 use Prim.Native.Nat.{ℕ, _≤_}
 use lib.Dec.{eqb}
 use Rattle.verifier.specs.Check.{checkOf}
+use Rattle.verifier.specs.Exact.{Bytes}
 use Rattle.machine.specs.declared.load.Loaded.{Loaded}
 use Rattle.machine.specs.declared.load.Loaded.the-variants.{Refused as NotLoaded, Ready}
 use Rattle.machine.specs.declared.run.Answer.{Answer}
@@ -40,3 +42,10 @@ joinedOf r results w parameters budget m s =
 pub data ProperAnswer : Answer → Type 0 where
   not-run : {n : ℕ} → 1 ≤ n → n ≤ 15 → ProperAnswer (Refused n)
   well-ended : {e : Ending} → Proper (e .ending) → ProperAnswer (Ended e)
+
+-- 00, demand 1: "A refused record leaves memory and stack as they were".
+abbrev pub RefusedJoined : Type 0
+RefusedJoined =
+    (r results w parameters : List ℕ) (budget : ℕ) (m s : List ℕ) (n : ℕ) → Bytes r
+    → joinedOf r results w parameters budget m s .answer ≡ Refused n
+    → (joinedOf r results w parameters budget m s .memory ≡ m) × (joinedOf r results w parameters budget m s .stack ≡ s)
