@@ -31,10 +31,15 @@ fn write_size(code: u8, length: usize) {
     write(b".w");
 }
 
+// Character `k` of a mnemonic; a space past its end.
+fn character(name: u32, k: u32) -> u8 {
+    words::byte_at(&names::NAMES, (name as usize) * 8 + (k as usize))
+}
+
 fn write_mnemonic(code: u8, i: Instruction, length: usize) {
     let name = mnemonic::number_of(i);
     for k in 0..8 {
-        let character = [names::character(name, k)];
+        let character = [character(name, k)];
         if character[0] != b' ' {
             write(&character);
         }

@@ -1,6 +1,6 @@
 // The mnemonics in the order of their numbers (crate mnemonic), eight characters each.
 
-const NAMES: [u8; 464] = [
+pub const NAMES: [u8; 464] = [
     b'L',
     b'O',
     b'A',
@@ -469,8 +469,3 @@ const NAMES: [u8; 464] = [
 
 // Mnemonics below this one name the size of their operand.
 pub const SIZED: u32 = 18;
-
-// Character `k` of a mnemonic; a space past its end.
-pub fn character(name: u32, k: u32) -> u8 {
-    words::byte_at(&NAMES, (name as usize) * 8 + (k as usize))
-}
