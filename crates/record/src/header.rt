@@ -16,14 +16,18 @@ pub struct Header {
 pub fn header_of(r: &[u8]) -> Header
     ensures { λ h. ⌜ h ≡ headerOf (now (r .entry)) ⌝ }
 {
+    let a = cursor::pair_at(r, 0);
+    let b = cursor::pair_at(r, 8);
+    let c = cursor::pair_at(r, 16);
+    let d = cursor::pair_at(r, 24);
     Header {
-        imports: words::word_at(r, 0),
-        code: words::word_at(r, 4),
-        globals: words::word_at(r, 8),
-        constants: words::word_at(r, 12),
-        relocation: words::word_at(r, 16),
-        versions: words::word_at(r, 20),
-        sources: words::word_at(r, 24),
+        imports: a.first,
+        code: a.second,
+        globals: b.first,
+        constants: b.second,
+        relocation: c.first,
+        versions: c.second,
+        sources: d.first,
     }
 }
 

@@ -14,7 +14,7 @@ pub fn source_sound(r: &[u8], h: Header) -> bool
     let mut at = crate::header::sources_at(h);
     let mut least: u64 = 0;
     for _ in 0..pairs {
-        let offset = words::word_at(r, at);
+        let offset = cursor::pair_at(r, at).first;
         if (offset as u64) < least {
             return false;
         }
@@ -34,7 +34,7 @@ pub fn pairs_covering(r: &[u8], h: Header, offset: u32) -> u32
     let pairs = h.sources / 2;
     let mut at = crate::header::sources_at(h);
     for k in 0..pairs {
-        if offset < words::word_at(r, at) {
+        if offset < cursor::pair_at(r, at).first {
             return k;
         }
         at += 8;
@@ -49,7 +49,7 @@ pub fn pair_line(r: &[u8], h: Header, k: u32) -> u32
     if k == 0 {
         return 0;
     }
-    words::word_at(r, crate::header::sources_at(h) + 8 * ((k - 1) as usize) + 4)
+    cursor::pair_at(r, crate::header::sources_at(h) + 8 * ((k - 1) as usize)).second
 }
 
 pub fn line_at(r: &[u8], h: Header, offset: u32) -> u32

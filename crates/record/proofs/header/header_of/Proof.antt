@@ -1,51 +1,37 @@
--- `record::header::header_of` meets its contract: each field is its word.
+-- `record::header::header_of` meets its contract: each field is a word of its pair.
 use borrow.Author.Needs.{needs}
+use Rattle.cursor.specs.Cursor.{pairAt}
 use Rattle.record.proofs.header.header_of.Statement.{statement}
 use Rattle.record.specs.Header.{headerOf}
 use Rattle.record.proofs.header.header_of.Tie as tie
 
-word-at-requires : tie.Need-word-at-requires
-word-at-requires c κs = search needs
+pair-at-requires : tie.Need-pair-at-requires
+pair-at-requires c κs = search needs
 
-word-at-requires-2 : tie.Need-word-at-requires-2
-word-at-requires-2 c κs = search needs
+pair-at-requires-2 : tie.Need-pair-at-requires-2
+pair-at-requires-2 c κs = search needs
 
-word-at-requires-3 : tie.Need-word-at-requires-3
-word-at-requires-3 c κs = search needs
+pair-at-requires-3 : tie.Need-pair-at-requires-3
+pair-at-requires-3 c κs = search needs
 
-word-at-requires-4 : tie.Need-word-at-requires-4
-word-at-requires-4 c κs = search needs
-
-word-at-requires-5 : tie.Need-word-at-requires-5
-word-at-requires-5 c κs = search needs
-
-word-at-requires-6 : tie.Need-word-at-requires-6
-word-at-requires-6 c κs = search needs
-
-word-at-requires-7 : tie.Need-word-at-requires-7
-word-at-requires-7 c κs = search needs
+pair-at-requires-4 : tie.Need-pair-at-requires-4
+pair-at-requires-4 c κs = search needs
 
 returns : tie.Need-returns
-unfolding headerOf
+unfolding headerOf pairAt
 returns c = rw (
-  c .before .before .before .before .before .before .word-at .ensures,
-  c .before .before .before .before .before .word-at2 .ensures,
-  c .before .before .before .before .word-at3 .ensures,
-  c .before .before .before .word-at4 .ensures,
-  c .before .before .word-at5 .ensures,
-  c .before .word-at6 .ensures,
-  c .word-at7 .ensures,
+  c .before .before .before .pair-at .ensures,
+  c .before .before .pair-at2 .ensures,
+  c .before .pair-at3 .ensures,
+  c .pair-at4 .ensures,
 )
 
 pub header-of-spec : {M : Type 1} → statement M
 header-of-spec =
     tie.close
     (tie.spec
-    word-at-requires
-    word-at-requires-2
-    word-at-requires-3
-    word-at-requires-4
-    word-at-requires-5
-    word-at-requires-6
-    word-at-requires-7
+    pair-at-requires
+    pair-at-requires-2
+    pair-at-requires-3
+    pair-at-requires-4
     returns)

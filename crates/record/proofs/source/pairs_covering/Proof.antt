@@ -6,6 +6,7 @@ use native.Mathlib.Omega.{arith}
 use native.Mathlib.Nat.{sub-zero, sub-eq-zero-of-le}
 use borrow.Author.Needs.{needs}
 use borrow.Author.Tests.{le-leb, lt-leb}
+use Rattle.cursor.proofs.Pairs.{first-of}
 use Rattle.record.proofs.source.pairs_covering.Statement.{statement}
 use Rattle.record.specs.Header.{codeAt, constantsAt, relocationAt, versionsAt, sourcesAt}
 use Rattle.record.specs.Source.{offsetsFrom, sourceOffsets, covering}
@@ -25,16 +26,16 @@ sources-at-requires c κs = search needs
 loop-holds : tie.Need-loop-holds Inv-loop μ-loop
 loop-holds c = (omega arith, omega arith, rw sub-zero (omega arith))
 
-word-at-requires : tie.Need-word-at-requires Inv-loop μ-loop
-word-at-requires c κs = search needs
+pair-at-requires : tie.Need-pair-at-requires Inv-loop μ-loop
+pair-at-requires c κs = search needs
 
 returns : tie.Need-returns Inv-loop μ-loop
 unfolding sourceOffsets
 returns c = rw (
-  ← c .before .before .before .before .sources-at .ensures,
-  c .before .before .before .loop .inv .2,
-  one-left _ _ (c .before .before .loop-test .taken),
-  ← c .before .word-at .ensures,
+  ← c .before .before .before .before .before .sources-at .ensures,
+  c .before .before .before .before .loop .inv .2,
+  one-left _ _ (c .before .before .before .loop-test .taken),
+  ← first-of _ _ (c .before .before .pair-at .ensures),
   lt-leb _ _ (c .if1 .taken),
 ) (omega arith)
 
@@ -52,8 +53,8 @@ loop-again : tie.Need-loop-again Inv-loop μ-loop
 loop-again c = (
   omega arith,
   omega arith,
-  c .before .before .before .loop .inv .2
-      ∙ rw (one-left _ _ (c .before .before .loop-test .taken), ← c .before .word-at .ensures, le-leb _ _ (c .if1 .left)) (omega arith),
+  c .before .before .before .before .loop .inv .2
+      ∙ rw (one-left _ _ (c .before .before .before .loop-test .taken), ← first-of _ _ (c .before .before .pair-at .ensures), le-leb _ _ (c .if1 .left)) (omega arith),
 )
 
 returns-2 : tie.Need-returns-2 Inv-loop μ-loop
@@ -68,7 +69,7 @@ pairs-covering-spec =
     μ-loop
     sources-at-requires
     loop-holds
-    word-at-requires
+    pair-at-requires
     returns
     add-at
     add-k

@@ -6,6 +6,7 @@ use native.Mathlib.Omega.{arith}
 use native.Mathlib.Nat.{sub-zero, sub-eq-zero-of-le}
 use borrow.Author.Needs.{needs}
 use borrow.Author.Tests.{eq-eqb, ne-eqb, le-leb, lt-leb, le-ltb, lt-ltb}
+use Rattle.cursor.proofs.Pairs.{first-of}
 use Rattle.record.proofs.source.source_sound.Statement.{statement}
 use Rattle.record.specs.Header.{codeAt, constantsAt, relocationAt, versionsAt, sourcesAt}
 use Rattle.record.specs.Order.{risingFrom}
@@ -38,8 +39,8 @@ left-decides : (c : tie.At-loop Inv-loop μ-loop) →
 unfolding sourceSound sourceOffsets
 left-decides c = rw (eq-eqb _ 0 (c .before .before .before .if1 .left), ← c .before .sources-at .ensures) (c .loop .inv .1)
 
-word-at-requires : tie.Need-word-at-requires Inv-loop μ-loop
-word-at-requires c κs = search needs
+pair-at-requires : tie.Need-pair-at-requires Inv-loop μ-loop
+pair-at-requires c κs = search needs
 
 cast-if2 : tie.Need-cast-if2 Inv-loop μ-loop
 cast-if2 c = search needs
@@ -48,7 +49,7 @@ returns-2 : tie.Need-returns-2 Inv-loop μ-loop
 returns-2 c = rw (
   left-decides (c .before .before .before),
   one-left _ _ (c .before .before .loop-test .taken),
-  ← c .before .word-at .ensures,
+  ← first-of _ _ (c .before .pair-at .ensures),
   lt-leb _ _ (c .if2 .taken),
 )
 
@@ -56,7 +57,7 @@ returns-3 : tie.Need-returns-3 Inv-loop μ-loop
 returns-3 c = rw (
   left-decides (c .before .before .before .before),
   one-left _ _ (c .before .before .before .loop-test .taken),
-  ← c .before .before .word-at .ensures,
+  ← first-of _ _ (c .before .before .pair-at .ensures),
   le-leb _ _ (c .before .if2 .left),
   le-ltb _ _ (c .if3 .taken),
 )
@@ -83,7 +84,7 @@ loop-again c = (
   c .before .before .before .before .loop .inv .1
       ∙ rw (
         one-left _ _ (c .before .before .before .loop-test .taken),
-        ← c .before .before .word-at .ensures,
+        ← first-of _ _ (c .before .before .pair-at .ensures),
         le-leb _ _ (c .before .if2 .left),
         lt-ltb _ _ (c .if3 .left),
       ),
@@ -101,7 +102,7 @@ source-sound-spec =
     returns
     sources-at-requires
     loop-holds
-    word-at-requires
+    pair-at-requires
     cast-if2
     returns-2
     returns-3
