@@ -6,7 +6,6 @@ ghost use Rattle.compact.specs.Ways.{toward, inOrder, straightWays, drop
 use crate::top;
 use crate::top::Top;
 use layout::targets;
-use record::entries;
 use shape::Shape;
 use shape::Table;
 

@@ -1,11 +1,11 @@
 -- Each case of the table has its outcome: the definitions, computed.
 use mathlib.Core.Path.{_≡_, refl}
 use Rattle.words.specs.Bytes.{halfwordAt, wordAt}
-use Rattle.record.specs.Entries.{entryAt, entryCount, countSound, entriesInOrder, entriesSound, regionEnd}
-use Rattle.record.specs.Header.{headerOf, sizesFit, codeAt, constantsAt, relocationAt, versionsAt, sourcesAt, recordLength, codeOf}
+use Rattle.entries.specs.Entries.{entryAt, entryCount, countSound, entriesInOrder, entriesSound, regionEnd}
+use Rattle.header.specs.Header.{headerOf, sizesFit, codeAt, constantsAt, relocationAt, versionsAt, sourcesAt, recordLength, codeOf}
 use Rattle.record.specs.Number.{recordNumber, readingOf, lineOf}
-use Rattle.record.specs.Source.{sourceOffsets, sourceSound, lineAt}
-use Rattle.record.specs.Version.{issueAt, versionSound}
+use Rattle.source.specs.Source.{sourceOffsets, sourceSound, lineAt}
+use Rattle.version.specs.Version.{issueAt, versionSound}
 use Rattle.opcode.specs.Decode.{instructionAt, decodeIn, decodeAt}
 use Rattle.opcode.specs.Length.{lengthIn, lengthAt}
 use Rattle.opcode.specs.Operand.{extended}

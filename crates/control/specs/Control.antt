@@ -9,7 +9,7 @@ use lib.ListN.{length}
 use lib.Signed.{ltZ}
 use mir.Syntax.{w32}
 use mir.Val.{toZ}
-use Rattle.record.specs.Entries.{entryAt, entryCount}
+use Rattle.entries.specs.Entries.{entryAt, entryCount}
 use Rattle.opcode.specs.Distance.{placeAt}
 use Rattle.opcode.specs.Switch.{exitDistance, elseDistance, branchDistance, searchDistance, orElse}
 use Rattle.opcode.specs.declared.instruction.Mode.the-variants.{Normal}

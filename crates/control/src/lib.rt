@@ -204,7 +204,7 @@ pub fn calls(code: &[u8], q: Registers, m: &[u32], next: u32, p: u32) -> Effect
     if p == 0 {
         return Effect::Trap(23);
     }
-    if record::entries::entry_count(code) <= p {
+    if entries::entry_count(code) <= p {
         return Effect::Trap(23);
     }
     if 64 <= q.calls {
@@ -213,7 +213,7 @@ pub fn calls(code: &[u8], q: Registers, m: &[u32], next: u32, p: u32) -> Effect
     if m.len() < (q.mp as usize) + 2 {
         return Effect::Trap(35);
     }
-    let entry = record::entries::entry_at(code, p) as u32;
+    let entry = entries::entry_at(code, p) as u32;
     Effect::Go(
         0,
         Push::NoPush,

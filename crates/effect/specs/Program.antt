@@ -1,8 +1,8 @@
 -- What the machine reads of a record, and where its data areas lie in memory.
 use mathlib.Core.List.{List}
 use Prim.Native.Nat.{ℕ, _+_}
-use Rattle.record.specs.Header.{headerOf, codeOf}
-use Rattle.record.specs.declared.header.Header.{Header}
+use Rattle.header.specs.Header.{headerOf, codeOf}
+use Rattle.header.specs.declared.Header.{Header}
 use Rattle.effect.specs.declared.registers.Areas.{Areas}
 
 pub record Program : Type 0 where

@@ -6,7 +6,7 @@ use Prim.Native.Nat.{ℕ, zero, suc, _+_, _≤_}
 use native.Mathlib.Omega.{arith}
 use lib.Dec.{eqb}
 use lib.ListN.{length}
-use Rattle.record.specs.Header.{codeOf}
+use Rattle.header.specs.Header.{codeOf}
 use Rattle.effect.specs.declared.registers.Registers.{Registers}
 use Rattle.effect.specs.Program.{areasOf, programOf}
 use Rattle.machine.specs.declared.load.Loaded.the-variants.{Refused, Ready}

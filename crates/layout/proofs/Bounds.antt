@@ -8,7 +8,7 @@ use borrow.Author.Tests.{leb-true, eqb-false}
 use lib.Dec.{eqb, ltb, leb}
 use lib.ListN.{length, getD}
 use Rattle.words.specs.Bytes.{halfwordAt}
-use Rattle.record.specs.Entries.{entryAt, entryCount, regionEnd}
+use Rattle.entries.specs.Entries.{entryAt, entryCount, regionEnd}
 use Rattle.opcode.specs.Length.{lengthIn}
 use Rattle.opcode.specs.Decode.{instructionAt, decodeIn, decodeAt}
 use Rattle.opcode.specs.declared.Decoded.the-variants.{Unserved, Past, At}

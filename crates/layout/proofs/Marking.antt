@@ -9,7 +9,7 @@ use borrow.Author.Tests.{ltb-true, eqb-true, eqb-false, lt-ltb}
 use lib.Dec.{eqb, ltb}
 use lib.ListN.{length, getD, set, length-set}
 use lib.Seq.{getD-set-same, getD-set-other}
-use Rattle.record.specs.Entries.{entryAt, entryCount, entriesSound, regionEnd}
+use Rattle.entries.specs.Entries.{entryAt, entryCount, entriesSound, regionEnd}
 use Rattle.opcode.specs.Decode.{decodeAt}
 use Rattle.opcode.specs.declared.Decoded.{Decoded}
 use Rattle.opcode.specs.declared.Decoded.the-variants.{Unserved, Past, At}

@@ -8,8 +8,8 @@ use native.Mathlib.Omega.{arith}
 use borrow.Author.Tests.{ltb-true, ltb-false, leb-true, lt-ltb, le-ltb, ne-eqb}
 use lib.Dec.{eqb, ltb, leb}
 use lib.ListN.{length}
-use Rattle.record.specs.Order.{risingFrom}
-use Rattle.record.specs.Entries.{entryAt, entryCount, countSound, entriesFrom, entriesInOrder, entriesSound, regionEnd}
+use Rattle.words.specs.Order.{risingFrom}
+use Rattle.entries.specs.Entries.{entryAt, entryCount, countSound, entriesFrom, entriesInOrder, entriesSound, regionEnd}
 
 -- The first entry of n procedures from p on and procedure 0.
 abbrev pub firstOf : List ℕ → ℕ → ℕ → ℕ

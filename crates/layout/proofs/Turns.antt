@@ -6,8 +6,8 @@ use native.Mathlib.Nat.{sub-eq-zero-of-le}
 use native.Mathlib.Omega.{arith}
 use borrow.Author.Tests.{lt-ltb, le-ltb}
 use lib.ListN.{length, set, length-set}
-use Rattle.record.specs.Entries.{entryAt, entryCount, regionEnd}
-use Rattle.record.proofs.Left.{one-left}
+use Rattle.entries.specs.Entries.{entryAt, entryCount, regionEnd}
+use Rattle.words.proofs.Left.{one-left}
 use Rattle.opcode.specs.Decode.{decodeAt}
 use Rattle.opcode.specs.declared.Decoded.{Decoded}
 use Rattle.opcode.specs.declared.Decoded.the-variants.{At}

@@ -5,7 +5,7 @@ ghost use mathlib.Core.Bool.{not, _&&_, _||_};
 ghost use lib.Dec.{eqb, leb};
 ghost use Prim.Native.Nat.{_≤_, _<_, _-_};
 ghost use lib.ListN.{length};
-ghost use Rattle.record.specs.Entries.{entryAt, entryCount};
+ghost use Rattle.entries.specs.Entries.{entryAt, entryCount};
 ghost use Rattle.layout.specs.Cut.{startsIn};
 ghost use Rattle.layout.specs.Successors.{tableSize, tableFrom, exitLabel, selectTargets};
 ghost use Rattle.layout.specs.Faults.{allStart, bare, strays, misplaced, uncallable, codeNumber};
@@ -13,7 +13,6 @@ ghost use Rattle.layout.specs.Workspace.{marksIn, faultOf, faultAt, lowe
 use crate::marks;
 use crate::targets;
 use opcode::Decoded;
-use record::entries;
 use shape::Shape;
 use shape::Table;
 

@@ -5,7 +5,6 @@ ghost use lib.ListN.{length};
 ghost use Rattle.layout.specs.Workspace.{marksIn, numbered, markRegion, markAll};
 use crate::workspace;
 use opcode::Decoded;
-use record::entries;
 
 // The mark of an offset, 0 outside of so many code bytes.
 pub fn mark_at(w: &[u16], size: usize, at: usize) -> u16

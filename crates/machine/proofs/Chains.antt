@@ -6,7 +6,7 @@ use mathlib.Core.List.{List}
 use native.Mathlib.Omega.{arith}
 use lib.Dec.{eqb}
 use borrow.Author.Tests.{le-leb, lt-leb}
-use Rattle.record.proofs.Left.{one-left}
+use Rattle.words.proofs.Left.{one-left}
 use Rattle.effect.specs.Memory.{savedFp, chained}
 
 pub record Followed (m : List ℕ) (start fp calls frame counter : ℕ) : Type 0 where

@@ -10,8 +10,8 @@ use lib.Seq.{getD-append-add, take-suc, take-suc-set, take-all}
 use borrow.Author.Tests.{eqb-true, eqb-false, leb-true, le-leb, lt-leb, eq-eqb, ne-eqb}
 use Rattle.words.specs.Bytes.{wordAt}
 use Rattle.record.specs.declared.Reading.the-variants.{Sound, Refused as NotRead}
-use Rattle.record.specs.declared.header.Header.{Header}
-use Rattle.record.specs.Header.{headerOf, sizesFit, constantsAt, codeAt, codeOf}
+use Rattle.header.specs.declared.Header.{Header}
+use Rattle.header.specs.Header.{headerOf, sizesFit, constantsAt, codeAt, codeOf}
 use Rattle.record.specs.Number.{recordNumber, readingOf}
 use Rattle.effect.specs.declared.registers.Areas.{Areas}
 use Rattle.effect.specs.Memory.{read}

@@ -11,7 +11,7 @@ use lib.IntN.{ℤ}
 use mir.Syntax.{w32}
 use mir.Val.{toZ}
 use borrow.Author.Tests.{ltb-false, leb-true, leb-false, eqb-false}
-use Rattle.record.specs.Entries.{entryAt, entryCount}
+use Rattle.entries.specs.Entries.{entryAt, entryCount}
 use Rattle.opcode.specs.Decode.{decodeAt}
 use Rattle.opcode.specs.declared.Decoded.{Decoded}
 use Rattle.opcode.specs.declared.Decoded.the-variants.{Unserved, Past, At}

@@ -6,9 +6,9 @@ use mathlib.Core.List.{List}
 use native.Mathlib.Omega.{arith}
 use lib.ListN.{length}
 use borrow.Author.Tests.{ne-eqb}
-use Rattle.record.specs.declared.header.Header.{Header}
+use Rattle.header.specs.declared.Header.{Header}
 use Rattle.record.specs.declared.Reading.the-variants.{Refused as NotRead, Sound}
-use Rattle.record.specs.Header.{codeOf}
+use Rattle.header.specs.Header.{codeOf}
 use Rattle.record.specs.Number.{recordNumber, readingOf}
 use Rattle.effect.specs.declared.registers.Areas.{Areas}
 use Rattle.effect.specs.declared.registers.Registers.{Registers}

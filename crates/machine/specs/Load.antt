@@ -7,8 +7,8 @@ use lib.Dec.{eqb, leb}
 use lib.ListN.{length, replicate}
 use Rattle.words.specs.Bytes.{wordAt}
 use Rattle.words.specs.Refusal.{refusal, _when_}
-use Rattle.record.specs.Header.{headerOf, constantsAt}
-use Rattle.record.specs.Entries.{entryAt}
+use Rattle.header.specs.Header.{headerOf, constantsAt}
+use Rattle.entries.specs.Entries.{entryAt}
 use Rattle.record.specs.Number.{recordNumber}
 use Rattle.effect.specs.declared.registers.Registers.{Registers}
 use Rattle.machine.specs.declared.load.Loaded.{Loaded}

@@ -15,7 +15,7 @@ use Rattle.machine.specs.declared.run.End.the-variants.{Finished as fini
 use Rattle.machine.specs.declared.run.Ended.{Ended as Ending}
 use Rattle.machine.specs.declared.run.Answer.{Answer}
 use Rattle.machine.specs.declared.run.Answer.the-variants.{Refused, Ended}
-use Rattle.record.specs.Header.{codeOf}
+use Rattle.header.specs.Header.{codeOf}
 use Rattle.effect.specs.declared.registers.Areas.{Areas}
 use Rattle.effect.specs.Program.{areasOf}
 use Rattle.machine.specs.Step.{After, stepOf}

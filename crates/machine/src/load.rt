@@ -2,15 +2,15 @@
 ghost use mathlib.Core.Path.{_≡_};
 ghost use Prim.Native.Nat.{_≤_};
 ghost use lib.ListN.{length};
-ghost use Rattle.record.specs.Header.{headerOf};
+ghost use Rattle.header.specs.Header.{headerOf};
 ghost use Rattle.effect.specs.Memory.{read};
 ghost use Rattle.effect.specs.Program.{areasIn, areasOf, framesStart, program};
 ghost use Rattle.machine.specs.Load.{initialData, loadedMemory, startOf, loading, loadOf};
 use crate::fits;
 use effect::registers::Areas;
 use effect::registers::Registers;
+use header::Header;
 use record::Reading;
-use record::header::Header;
 
 pub enum Loaded {
     Refused(u32),
@@ -49,7 +49,7 @@ fn initial_word(r: &[u8], h: Header, parameters: &[u32], i: usize) -> u32
     }
     let j = k - globals;
     if j < (h.constants as usize) {
-        return words::word_at(r, record::header::constants_at(h) + 4 * j);
+        return words::word_at(r, header::constants_at(h) + 4 * j);
     }
     0
 }
@@ -72,7 +72,7 @@ fn start_of(code: &[u8], areas: Areas) -> Registers
 {
     let frames = 3 + areas.globals + areas.constants;
     Registers {
-        pc: record::entries::entry_at(code, 0) as u32,
+        pc: entries::entry_at(code, 0) as u32,
         fp: frames,
         mp: frames,
         gp: 3,
@@ -97,7 +97,7 @@ pub fn load(r: &[u8], parameters: &[u32], memory: &mut [u32], stack: &[u32]) -> 
                 return Loaded::Refused(8);
             }
             fill(r, h, parameters, memory);
-            Loaded::Ready(start_of(record::header::code_of(r), areas))
+            Loaded::Ready(start_of(header::code_of(r), areas))
         }
     }
 }

@@ -104,7 +104,7 @@ pub fn run(r: &[u8], budget: u32, q: Registers, memory: &mut [u32], stack: &mut 
                 areas,
                 registers: q,
             };
-            Answer::Ended(run_steps(record::header::code_of(r), budget, start, memory, stack))
+            Answer::Ended(run_steps(header::code_of(r), budget, start, memory, stack))
         }
     }
 }

@@ -1,7 +1,2 @@
--- The record (5.1; 01, "The record"): header, version word, source table, entries, and the numbers 1 to 7.
-pub mod Header
-pub mod Version
-pub mod Order
-pub mod Source
-pub mod Entries
+-- The record as a whole (5.1; 01, "The record"): the numbers 1 to 7, and what reading it answers.
 pub mod Number

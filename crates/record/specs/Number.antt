@@ -5,10 +5,10 @@ use Prim.Native.Nat.{ℕ}
 use lib.Dec.{ltb, eqb}
 use lib.ListN.{length}
 use Rattle.words.specs.Refusal.{refusal, _when_}
-use Rattle.record.specs.Header.{headerOf, sizesFit, recordLength, codeOf}
-use Rattle.record.specs.Version.{versionSound}
-use Rattle.record.specs.Source.{sourceSound, lineAt}
-use Rattle.record.specs.Entries.{entriesSound}
+use Rattle.header.specs.Header.{headerOf, sizesFit, recordLength, codeOf}
+use Rattle.version.specs.Version.{versionSound}
+use Rattle.source.specs.Source.{sourceSound, lineAt}
+use Rattle.entries.specs.Entries.{entriesSound}
 use Rattle.record.specs.declared.Reading.{Reading}
 use Rattle.record.specs.declared.Reading.the-variants.{Refused, Sound}
 use Rattle.record.specs.declared.Line.{Line}

@@ -1,12 +1,7 @@
-// The record of 5.1: which number refuses it, where its parts lie, and which source line an offset belongs to.
+// The record of 5.1: which number refuses it, and which source line an offset belongs to.
 ghost use mathlib.Core.Path.{_≡_};
 ghost use Rattle.record.specs.Number.{recordNumber, readingOf, lineOf};
-use crate::header::Header;
-
-pub mod entries;
-pub mod header;
-pub mod source;
-pub mod version;
+use header::Header;
 
 // What reading a record answers: the number that refuses it, or its header.
 pub enum Reading {

@@ -4,9 +4,9 @@ use mathlib.Core.Path.{_≡_, refl, sym, _∙_}
 use Prim.Native.Nat.{ℕ, _+_, _*_, _≤_}
 use native.Mathlib.Omega.{arith}
 use lib.ListN.{length, take, drop, length-append, length-take, length-drop}
-use Rattle.record.specs.Header.{headerOf}
-use Rattle.record.specs.Source.{lineAt}
-use Rattle.record.specs.declared.header.Header.{Header}
+use Rattle.header.specs.Header.{headerOf}
+use Rattle.source.specs.Source.{lineAt}
+use Rattle.header.specs.declared.Header.{Header}
 use Rattle.machine.specs.declared.run.Ended.{Ended as Ending}
 use Rattle.machine.specs.Run.{endNumber}
 use Rattle.text.specs.Text.{decimal, checkText, endText, atText, lineText, stepsText, newline, wordsText, listLine, checkLine, lineAndSteps, endLine, Wrote}

@@ -5,8 +5,8 @@ use mathlib.Core.List.{List, _++_}
 use Prim.Native.Nat.{ℕ}
 use lib.Dec.{leb}
 use lib.ListN.{length, take, drop, replicate}
-use Rattle.record.specs.Header.{headerOf}
-use Rattle.record.specs.Source.{lineAt}
+use Rattle.header.specs.Header.{headerOf}
+use Rattle.source.specs.Source.{lineAt}
 use Rattle.machine.specs.declared.run.Answer.{Answer}
 use Rattle.machine.specs.declared.run.Answer.the-variants.{Refused, Ended}
 use Rattle.machine.specs.declared.run.Ended.{Ended as Ending}

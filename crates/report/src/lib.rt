@@ -8,8 +8,6 @@ ghost use Rattle.report.specs.Report.{endedText, answerText, reported, p
 ghost use Rattle.report.specs.Buffers.{orEight, ranPage, partPage, leaving, delivered, reportOf};
 use machine::run::Answer;
 use machine::run::Ended;
-use record::header;
-use record::source;
 
 // At most `n` words from `at` on: those that there are.
 fn part(s: &[u32], at: usize, n: usize) -> &[u32]

@@ -9,8 +9,8 @@ use lib.Dec.{eqb, leb}
 use lib.ListN.{length}
 use borrow.Author.Tests.{eqb-true, leb-true, eq-eqb}
 use Rattle.words.specs.Refusal.{refusal, _when_}
-use Rattle.record.specs.Header.{headerOf, codeOf}
-use Rattle.record.specs.Entries.{entryCount}
+use Rattle.header.specs.Header.{headerOf, codeOf}
+use Rattle.entries.specs.Entries.{entryCount}
 use Rattle.record.specs.Number.{recordNumber}
 use Rattle.effect.specs.declared.registers.Registers.{Registers}
 use Rattle.effect.specs.Program.{areasOf, programOf, framesStart}

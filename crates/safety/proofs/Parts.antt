@@ -5,7 +5,7 @@ use mathlib.Core.Option.{Option, some}
 use mathlib.Core.Path.{_≡_}
 use Prim.Native.Nat.{ℕ, _≤_, _<_, _+_, _-_}
 use lib.ListN.{length}
-use Rattle.record.specs.Entries.{entryAt, entryCount}
+use Rattle.entries.specs.Entries.{entryAt, entryCount}
 use Rattle.opcode.specs.Decode.{decodeAt}
 use Rattle.opcode.specs.declared.Decoded.the-variants.{At}
 use Rattle.opcode.specs.declared.instruction.Instruction.{Instruction}

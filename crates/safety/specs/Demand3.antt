@@ -4,7 +4,7 @@ use mathlib.Core.List.{List, [], _∷_}
 use mathlib.Core.Path.{_≡_}
 use Prim.Native.Nat.{ℕ, _≤_, _<_, _+_}
 use lib.ListN.{length, getD}
-use Rattle.record.specs.Entries.{entryCount}
+use Rattle.entries.specs.Entries.{entryCount}
 use Rattle.effect.specs.Memory.{read}
 use Rattle.effect.specs.Program.{areasOf, constantsStart, framesStart}
 use Rattle.effect.specs.declared.registers.Registers.{Registers}

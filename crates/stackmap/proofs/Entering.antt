@@ -10,7 +10,7 @@ use lib.Dec.{eqb}
 use lib.ListN.{length}
 use borrow.Author.Tests.{eqb-true, eqb-false}
 use Rattle.words.specs.Bytes.{byteAt}
-use Rattle.record.specs.Entries.{entryAt, entryCount}
+use Rattle.entries.specs.Entries.{entryAt, entryCount}
 use Rattle.layout.specs.Cut.{updated}
 use Rattle.stackmap.specs.Slots.{Slot, pushWords}
 use Rattle.stackmap.specs.Ways.{Module, parametersOf}

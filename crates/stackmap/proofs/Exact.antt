@@ -5,7 +5,7 @@ use mathlib.Core.Option.{none, some}
 use mathlib.Core.Path.{_≡_, refl, subst}
 use Prim.Native.Nat.{ℕ, _<_}
 use lib.ListN.{length}
-use Rattle.record.specs.Entries.{entryAt, entryCount}
+use Rattle.entries.specs.Entries.{entryAt, entryCount}
 use Rattle.layout.specs.Cut.{startsIn}
 use Rattle.stackmap.specs.Slots.{Slot}
 use Rattle.stackmap.specs.Ways.{Module}

@@ -8,8 +8,8 @@ use native.Mathlib.Omega.{arith}
 use lib.Dec.{eqb, eqb·suc-zero}
 use lib.ListN.{length, getD, drop, List·getD-append}
 use borrow.Author.Tests.{eqb-true, eqb-false, eq-eqb}
-use Rattle.record.specs.Header.{codeOf}
-use Rattle.record.specs.Entries.{entryCount}
+use Rattle.header.specs.Header.{codeOf}
+use Rattle.entries.specs.Entries.{entryCount}
 use Rattle.record.specs.Number.{recordNumber}
 use Rattle.layout.specs.Cut.{Marks, Cut, bad, cut, cutOf, startsIn}
 use Rattle.layout.specs.Faults.{codeNumber}

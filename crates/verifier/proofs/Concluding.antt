@@ -9,7 +9,7 @@ use native.Mathlib.Omega.{arith}
 use lib.Dec.{eqb, eqb·suc-zero}
 use lib.ListN.{length, getD, drop, replicate, length-replicate, getD-replicate, drop-of-length-le}
 use Rattle.words.specs.Bytes.{byteAt}
-use Rattle.record.specs.Entries.{entriesSound}
+use Rattle.entries.specs.Entries.{entriesSound}
 use Rattle.layout.specs.Cut.{Marks, cut, cutOf}
 use Rattle.layout.specs.Faults.{codeNumber}
 use Rattle.layout.specs.Workspace.{marksIn, markAll}

@@ -10,8 +10,8 @@ use native.Mathlib.Omega.{arith}
 use lib.Dec.{eqb, ltb}
 use lib.ListN.{length, getD, drop, List·getD-append}
 use borrow.Author.Tests.{eq-eqb, le-ltb}
-use Rattle.record.specs.Header.{codeOf}
-use Rattle.record.specs.Entries.{entryCount, entriesSound}
+use Rattle.header.specs.Header.{codeOf}
+use Rattle.entries.specs.Entries.{entryCount, entriesSound}
 use Rattle.record.specs.Number.{recordNumber}
 use Rattle.layout.specs.Cut.{Marks, Cut, bad, cut, cutOf, startsIn}
 use Rattle.layout.specs.Faults.{codeNumber}

@@ -5,7 +5,7 @@ use Prim.Native.Nat.{ℕ, _+_, _*_, _<_, _≤_, min}
 use native.Mathlib.Omega.{arith}
 use lib.Dec.{eqb}
 use lib.ListN.{length, getD, take, drop, replicate, length-take, drop-of-length-le}
-use Rattle.record.specs.Header.{codeOf}
+use Rattle.header.specs.Header.{codeOf}
 use Rattle.verifier.specs.Check.{Verdict, refuted, accepted, verdictOf, listNumber, Checking, checking, concluded, shownFrom, checkOf}
 use Rattle.verifier.specs.Examine.{examinedTop}
 use Rattle.verifier.proofs.Records.{Listed, listed, numberless, code-bytes, code-small}

@@ -6,10 +6,10 @@ use Prim.Native.Nat.{ℕ, zero, suc, _+_, _-_, _*_, _≤_}
 use native.Mathlib.Omega.{arith}
 use lib.Dec.{eqb, ltb}
 use lib.ListN.{length}
-use Rattle.record.specs.Header.{headerOf, sizesFit, recordLength, codeOf}
-use Rattle.record.specs.Version.{versionSound}
-use Rattle.record.specs.Source.{sourceSound}
-use Rattle.record.specs.Entries.{entryAt, entryCount, regionEnd, entriesSound}
+use Rattle.header.specs.Header.{headerOf, sizesFit, recordLength, codeOf}
+use Rattle.version.specs.Version.{versionSound}
+use Rattle.source.specs.Source.{sourceSound}
+use Rattle.entries.specs.Entries.{entryAt, entryCount, regionEnd, entriesSound}
 use Rattle.record.specs.Number.{recordNumber}
 use Rattle.opcode.specs.Decode.{decodeAt}
 use Rattle.opcode.specs.declared.Decoded.{Decoded}

@@ -9,10 +9,10 @@ use lib.ListN.{length, getD, take, drop, length-take, List·getD-eq-default}
 use lib.Seq.{getD-take, getD-drop}
 use borrow.Author.Tests.{eqb-true, eqb-false, leb-true, ltb-true, ltb-false}
 use Rattle.words.specs.Refusal.{refusal, _when_}
-use Rattle.record.specs.Header.{headerOf, sizesFit, recordLength, codeAt, codeOf}
-use Rattle.record.specs.Version.{versionSound}
-use Rattle.record.specs.Source.{sourceSound}
-use Rattle.record.specs.Entries.{entriesSound}
+use Rattle.header.specs.Header.{headerOf, sizesFit, recordLength, codeAt, codeOf}
+use Rattle.version.specs.Version.{versionSound}
+use Rattle.source.specs.Source.{sourceSound}
+use Rattle.entries.specs.Entries.{entriesSound}
 use Rattle.record.specs.Number.{recordNumber}
 use Rattle.verifier.specs.Check.{resultsSound, listNumber}
 

@@ -9,8 +9,8 @@ use native.Mathlib.Omega.{arith}
 use borrow.Author.Tests.{lt-ltb, le-ltb, ltb-true, eqb-true}
 use lib.Dec.{eqb, ltb}
 use lib.ListN.{length, getD}
-use Rattle.record.specs.Entries.{entryAt, entryCount}
-use Rattle.record.proofs.Left.{one-left}
+use Rattle.entries.specs.Entries.{entryAt, entryCount}
+use Rattle.words.proofs.Left.{one-left}
 use Rattle.shape.specs.declared.Table.{Table}
 use Rattle.layout.specs.Cut.{startsIn}
 use Rattle.layout.specs.Successors.{tableSize, tableTarget, tableFrom}

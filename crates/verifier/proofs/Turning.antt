@@ -10,7 +10,7 @@ use borrow.Author.Fill.{fill-more}
 use borrow.Author.Tests.{le-leb, lt-leb}
 use lib.ListN.{length, getD, set, drop, replicate, length-set, drop-of-length-le, length-append, length-replicate, length-drop}
 use lib.Seq.{drop-cons}
-use Rattle.record.proofs.Left.{one-left}
+use Rattle.words.proofs.Left.{one-left}
 use Rattle.verifier.specs.Check.{allAtMost}
 use Rattle.verifier.specs.Examine.{zeroed, unmarked}
 

@@ -8,8 +8,8 @@ use Prim.Native.Nat.{ℕ, zero, suc, _+_, _*_}
 use lib.Dec.{eqb, leb, ltb}
 use lib.ListN.{length, getD, drop, replicate}
 use Rattle.words.specs.Refusal.{refusal, _when_}
-use Rattle.record.specs.Header.{codeOf}
-use Rattle.record.specs.Entries.{entryCount}
+use Rattle.header.specs.Header.{codeOf}
+use Rattle.entries.specs.Entries.{entryCount}
 use Rattle.record.specs.Number.{recordNumber}
 use Rattle.layout.specs.Cut.{Marks, Cut, bad, cut, cutOf}
 use Rattle.layout.specs.Faults.{codeNumber}

@@ -5,8 +5,8 @@ use mathlib.Core.Logic.{_⊎_}
 use mathlib.Core.Path.{_≡_}
 use Prim.Native.Nat.{ℕ, _≤_, _<_, _+_, _*_}
 use lib.ListN.{length, getD}
-use Rattle.record.specs.Header.{codeOf}
-use Rattle.record.specs.Entries.{entryCount}
+use Rattle.header.specs.Header.{codeOf}
+use Rattle.entries.specs.Entries.{entryCount}
 use Rattle.record.specs.Number.{recordNumber}
 use Rattle.layout.specs.Cut.{Marks, cut, cutOf}
 use Rattle.layout.specs.Faults.{codeNumber}

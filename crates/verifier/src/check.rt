@@ -3,15 +3,13 @@ ghost use mathlib.Core.Path.{_≡_};
 ghost use mathlib.Core.Bool.{true};
 ghost use Prim.Native.Nat.{_≤_, _<_, _*_};
 ghost use lib.ListN.{length};
-ghost use Rattle.record.specs.Entries.{entriesSound};
+ghost use Rattle.entries.specs.Entries.{entriesSound};
 ghost use Rattle.verifier.specs.Check.{allAtMost, resultsSound, listNumber, checking, concluded, verdictOf, checkOf};
 ghost use Rattle.verifier.specs.Examine.{zeroed, unmarked, examinedTop};
 use crate::walk;
 use layout::faults;
 use layout::marks;
 use layout::workspace;
-use record::entries;
-use record::header;
 
 fn all_at_most(most: u8, s: &[u8]) -> bool
     ensures { λ b. ⌜ b ≡ allAtMost most (now (s .entry)) ⌝ }

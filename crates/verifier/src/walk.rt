@@ -2,7 +2,7 @@
 ghost use mathlib.Core.Path.{_≡_};
 ghost use Prim.Native.Nat.{_≤_, _<_, _-_};
 ghost use lib.ListN.{length};
-ghost use Rattle.record.specs.Entries.{entryCount};
+ghost use Rattle.entries.specs.Entries.{entryCount};
 ghost use Rattle.verifier.specs.Handing.{handing, visitedTop, firstWaiting, walking, walkTop, entryGiven, entriesGiven, walkedTop};
 use crate::hand;
 use crate::hand::Handed;
@@ -10,7 +10,6 @@ use compact::top::Top;
 use compact::ways;
 use layout::workspace;
 use opcode::Decoded;
-use record::entries;
 
 // A number held as one more; 0 for none reads as 0.
 fn held(shown: u16) -> u32

@@ -1,3 +1,4 @@
--- Laws about numbers in a list of bytes, and about a part of a list.
+-- Laws about numbers in a list of bytes, about a part of a list, and about what is left of a counted list.
 pub mod Bytes
+pub mod Left
 pub mod Slices

@@ -8,10 +8,10 @@ use borrow.Author.Tests.{eq-eqb, ne-eqb, le-ltb, lt-ltb}
 use Rattle.record.proofs.record_number.Statement.{statement}
 use Rattle.record.specs.Number.{recordNumber}
 use Rattle.words.specs.Refusal.{refusal, _when_}
-use Rattle.record.specs.Header.{codeOf}
-use Rattle.record.specs.Version.{versionSound}
-use Rattle.record.specs.Source.{sourceSound}
-use Rattle.record.specs.Entries.{entriesSound}
+use Rattle.header.specs.Header.{codeOf}
+use Rattle.version.specs.Version.{versionSound}
+use Rattle.source.specs.Source.{sourceSound}
+use Rattle.entries.specs.Entries.{entriesSound}
 use Rattle.record.proofs.record_number.Tie as tie
 
 returns : tie.Need-returns

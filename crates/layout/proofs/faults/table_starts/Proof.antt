@@ -11,7 +11,7 @@ use Rattle.layout.proofs.faults.table_starts.Statement.{statement}
 use Rattle.layout.specs.Successors.{tableFrom}
 use Rattle.layout.specs.Faults.{allStart}
 use Rattle.layout.specs.Workspace.{marksIn}
-use Rattle.record.proofs.Left.{one-left}
+use Rattle.words.proofs.Left.{one-left}
 use Rattle.layout.proofs.Bounds.{size-below}
 use Rattle.layout.proofs.faults.table_starts.Tie as tie
 

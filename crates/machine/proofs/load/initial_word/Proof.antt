@@ -3,7 +3,7 @@ use mathlib.Core.Path.{sym, _∙_}
 use native.Mathlib.Omega.{arith}
 use borrow.Author.Needs.{needs}
 use Rattle.machine.proofs.load.initial_word.Statement.{statement}
-use Rattle.record.specs.Header.{codeAt, constantsAt}
+use Rattle.header.specs.Header.{codeAt, constantsAt}
 use Rattle.machine.proofs.Loading.{word-low, word-third, word-parameter, word-global, word-constant, word-past}
 use Rattle.machine.proofs.load.initial_word.Tie as tie
 

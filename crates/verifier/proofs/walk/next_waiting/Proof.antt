@@ -6,7 +6,7 @@ use native.Mathlib.Nat.{sub-eq-zero-of-le}
 use borrow.Author.Needs.{needs}
 use borrow.Author.Tests.{eq-eqb, ne-eqb}
 use Rattle.verifier.proofs.walk.next_waiting.Statement.{statement}
-use Rattle.record.proofs.Left.{one-left}
+use Rattle.words.proofs.Left.{one-left}
 use Rattle.verifier.specs.Handing.{firstWaiting}
 use Rattle.verifier.proofs.walk.next_waiting.Tie as tie
 

@@ -1,0 +1,37 @@
+-- `header::header_of` meets its contract: each field is a word of its pair.
+use borrow.Author.Needs.{needs}
+use Rattle.cursor.specs.Cursor.{pairAt}
+use Rattle.header.proofs.header_of.Statement.{statement}
+use Rattle.header.specs.Header.{headerOf}
+use Rattle.header.proofs.header_of.Tie as tie
+
+pair-at-requires : tie.Need-pair-at-requires
+pair-at-requires c κs = search needs
+
+pair-at-requires-2 : tie.Need-pair-at-requires-2
+pair-at-requires-2 c κs = search needs
+
+pair-at-requires-3 : tie.Need-pair-at-requires-3
+pair-at-requires-3 c κs = search needs
+
+pair-at-requires-4 : tie.Need-pair-at-requires-4
+pair-at-requires-4 c κs = search needs
+
+returns : tie.Need-returns
+unfolding headerOf pairAt
+returns c = rw (
+  c .before .before .before .pair-at .ensures,
+  c .before .before .pair-at2 .ensures,
+  c .before .pair-at3 .ensures,
+  c .pair-at4 .ensures,
+)
+
+pub header-of-spec : {M : Type 1} → statement M
+header-of-spec =
+    tie.close
+    (tie.spec
+    pair-at-requires
+    pair-at-requires-2
+    pair-at-requires-3
+    pair-at-requires-4
+    returns)

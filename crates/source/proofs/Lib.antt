@@ -1,0 +1,2 @@
+-- A law about the line of a pair.
+pub mod Pairs

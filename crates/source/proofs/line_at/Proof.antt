@@ -1,0 +1,23 @@
+-- `source::line_at` meets its contract: the line of the last pair that covers an offset of the code.
+use borrow.Author.Needs.{needs}
+use borrow.Author.Tests.{le-ltb, lt-ltb}
+use Rattle.source.proofs.line_at.Statement.{statement}
+use Rattle.source.specs.Source.{lineAt}
+use Rattle.source.proofs.line_at.Tie as tie
+
+returns : tie.Need-returns
+unfolding lineAt
+returns c = rw (le-ltb _ _ (c .if1 .taken))
+
+pairs-covering-requires : tie.Need-pairs-covering-requires
+pairs-covering-requires c κs = search needs
+
+pair-line-requires : tie.Need-pair-line-requires
+pair-line-requires c κs = search needs
+
+returns-2 : tie.Need-returns-2
+unfolding lineAt
+returns-2 c = rw (lt-ltb _ _ (c .before .before .if1 .left), c .pair-line .ensures, c .before .pairs-covering .ensures)
+
+pub line-at-spec : {M : Type 1} → statement M
+line-at-spec = tie.close (tie.spec returns pairs-covering-requires pair-line-requires returns-2)
