@@ -7,21 +7,18 @@ use mathlib.Core.List.{List}
 use native.Mathlib.Omega.{arith}
 use lib.Dec.{eqb, leb}
 use borrow.Author.Tests.{eqb-true, leb-true, eq-eqb, ne-eqb}
+use Rattle.words.proofs.Tests.{both-true}
 use Rattle.effect.specs.Memory.{savedFp, isLink, chained}
-
-both : (a b : Bool) → (a && b) ≡ true → (a ≡ true) × (b ≡ true)
-both true b e = (refl, e)
-both false b e = let z : _≡_ {A = Bool} false true = e in (e, cc)
 
 -- A frame of a chain, and the rest of the chain below it.
 pub chain-end : (m : List ℕ) (start fp : ℕ) → chained m start fp zero ≡ true → fp ≡ start
 chain-end m start fp h = eqb-true fp start h
 
 pub chain-lower : (m : List ℕ) (start fp n : ℕ) → chained m start fp (suc n) ≡ true → savedFp m fp + 2 ≤ fp
-chain-lower m start fp n h = leb-true _ _ (both (leb (savedFp m fp + 2) fp) (chained m start (savedFp m fp) n) h .0)
+chain-lower m start fp n h = leb-true _ _ (both-true (leb (savedFp m fp + 2) fp) (chained m start (savedFp m fp) n) h .0)
 
 pub chain-rest : (m : List ℕ) (start fp n : ℕ) → chained m start fp (suc n) ≡ true → chained m start (savedFp m fp) n ≡ true
-chain-rest m start fp n h = both (leb (savedFp m fp + 2) fp) (chained m start (savedFp m fp) n) h .1
+chain-rest m start fp n h = both-true (leb (savedFp m fp + 2) fp) (chained m start (savedFp m fp) n) h .1
 
 pub chain-start : (m : List ℕ) (start fp n : ℕ) → chained m start fp n ≡ true → start ≤ fp
 chain-start m start fp zero h = omega (arith, chain-end m start fp h)

@@ -7,6 +7,7 @@ use native.Mathlib.Omega.{arith}
 use borrow.Author.Tests.{leb-true, eqb-false}
 use lib.Dec.{eqb, ltb, leb}
 use lib.ListN.{length, getD}
+use Rattle.words.proofs.Tests.{either}
 use Rattle.words.specs.Bytes.{halfwordAt}
 use Rattle.entries.specs.Entries.{entryAt, entryCount, regionEnd}
 use Rattle.opcode.specs.Length.{lengthIn}
@@ -20,10 +21,6 @@ use Rattle.shape.specs.declared.Table.the-variants.{Branches, Ranges}
 use Rattle.layout.specs.Successors.{tableSize}
 
 -- A choice of two numbers below a bound is below it.
-either-below : (b : Bool) (x y n : ℕ) → x ≤ n → y ≤ n → cond b x y ≤ n
-either-below true x y n p q = p
-either-below false x y n p q = q
-
 module _ (code : List ℕ) (bytes : (k : ℕ) → getD code k 0 < 256) where
   pub entry-below : (p : ℕ) → entryAt code p ≤ 65535
   unfolding entryAt halfwordAt
@@ -31,13 +28,13 @@ module _ (code : List ℕ) (bytes : (k : ℕ) → getD code k 0 < 256) where
 
   pub region-below : (p : ℕ) → length code ≤ 65535 → regionEnd code p ≤ 65535
   unfolding regionEnd
-  region-below p h = either-below (eqb p 0) (length code) _ 65535 h (entry-below _)
+  region-below p h = either (λ (k : ℕ). k ≤ 65535) (eqb p 0) (length code) _ h (entry-below _)
 
   pub count-below : entryCount code ≤ 32767
   unfolding entryCount
   count-below =
       let b = entry-below 1 in
-      either-below (eqb (entryAt code 0) 2) 1 (entryAt code 1 / 2) 32767 (omega arith) (omega arith)
+      either (λ (k : ℕ). k ≤ 32767) (eqb (entryAt code 0) 2) 1 (entryAt code 1 / 2) (omega arith) (omega arith)
 
 pub size-below : (t : Table) (n : ℕ) → tableSize t n ≤ n + 1
 size-below Branches n = omega arith

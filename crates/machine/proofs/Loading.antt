@@ -1,4 +1,4 @@
--- What a sound record tells of its sizes, and the memory that load leaves, word by word.
+-- What reading a record tells, and the memory that load leaves, word by word.
 use Prim.Native.Nat.{ℕ, zero, suc, _+_, _*_, _-_, _<_, _≤_}
 use mathlib.Core.Path.{_≡_, _∙_, refl, sym, ap}
 use mathlib.Core.Bool.{Bool, true, false, cond, _&&_, false≢true}
@@ -9,6 +9,8 @@ use lib.ListN.{length, take, drop, replicate, set, length-append, length-replica
 use lib.Seq.{getD-append-add, take-suc, take-suc-set, take-all}
 use borrow.Author.Tests.{eqb-true, eqb-false, leb-true, le-leb, lt-leb, eq-eqb, ne-eqb}
 use Rattle.words.specs.Bytes.{wordAt}
+use Rattle.words.proofs.Tests.{both-true}
+use Rattle.record.proofs.Sound.{sound-sizes}
 use Rattle.record.specs.declared.Reading.the-variants.{Sound, Refused as NotRead}
 use Rattle.header.specs.declared.Header.{Header}
 use Rattle.header.specs.Header.{headerOf, sizesFit, constantsAt, codeAt, codeOf}
@@ -19,25 +21,6 @@ use Rattle.effect.specs.Program.{areasIn, areasOf, programOf, framesStart}
 use Rattle.machine.specs.declared.load.Loaded.the-variants.{Refused, Ready}
 use Rattle.machine.specs.Fits.{sizesTaken}
 use Rattle.machine.specs.Load.{wordsFrom, constantWords, initialData, loadedMemory, startOf, loadNumber, loading, loadOf}
-
-both : (a b : Bool) → (a && b) ≡ true → (a ≡ true) × (b ≡ true)
-both true b e = (refl, e)
-both false b e = absurd (false≢true e)
-
--- Sizes that fit are at most the largest.
-fitted : (h : Header) → sizesFit h ≡ true → (h .globals ≤ 1024) × (h .constants ≤ 1024) × (h .code ≤ 4096)
-unfolding sizesFit
-fitted h e =
-    let k = three (leb (h .imports) 16) (leb (h .code) 4096) (leb (h .globals) 1024) (leb (h .constants) 1024)
-    (leb (h .relocation) 4096 && (leb (h .versions) 16 && leb (h .sources) 2048)) e in
-    (leb-true (h .globals) 1024 (k .1), leb-true (h .constants) 1024 (k .2), leb-true (h .code) 4096 (k .0))
-  where
-    three : (a b c d rest : Bool) → (a && (b && (c && (d && rest)))) ≡ true → (b ≡ true) × (c ≡ true) × (d ≡ true)
-    three true true true true rest q = (refl, refl, refl)
-    three false b c d rest q = absurd (false≢true q)
-    three true false c d rest q = absurd (false≢true q)
-    three true true false d rest q = absurd (false≢true q)
-    three true true true false rest q = absurd (false≢true q)
 
 apart : (n : ℕ) (h : Header) → NotRead n ≡ Sound h → ⊥
 apart n h e = let z : _≡_ {A = ℕ} 0 1 = cc in omega arith
@@ -59,30 +42,16 @@ refused-number r n e = by (eqb (recordNumber r) 0) refl
     by true q = absurd (apart n (headerOf r) (sym (rw q at e)))
     by false q = let s : NotRead (recordNumber r) ≡ NotRead n = rw q at e in (eqb-false (recordNumber r) 0 q, cc)
 
-pub sound-sizes : (r : List ℕ) → recordNumber r ≡ 0 →
-    (headerOf r .globals ≤ 1024) × (headerOf r .constants ≤ 1024) × (headerOf r .code ≤ 4096)
-unfolding recordNumber
-sound-sizes r e = fitted (headerOf r) (by (ltb (length r) 28) (sizesFit (headerOf r)) refl refl)
-  where
-    by : (short fit : Bool) → ltb (length r) 28 ≡ short → sizesFit (headerOf r) ≡ fit → sizesFit (headerOf r) ≡ true
-    by true fit p q = let z : _≡_ {A = ℕ} 1 0 = rw p at e in absurd (omega arith)
-    by false true p q = q
-    by false false p q = let z : _≡_ {A = ℕ} 2 0 = rw (p, q) at e in absurd (omega arith)
-
-pub sound-code : (r : List ℕ) → recordNumber r ≡ 0 → length (codeOf r) ≤ 4096
-unfolding codeOf
-sound-code r e = omega (arith, length-take (headerOf r .code) (drop (codeAt (headerOf r)) r), sound-sizes r e .2)
-
 -- Sizes that load takes hold the data areas, and are at most the largest.
 pub taken-sizes : (A : Areas) (m s : List ℕ) (t : Bool) → t ≡ sizesTaken A m s → t ≡ true →
     (framesStart A ≤ length m) × (length m ≤ 16384) × (length s ≤ 1024)
 unfolding sizesTaken
 taken-sizes A m s t e h =
     let all : (leb (framesStart A) (length m) && (leb (length m) 16384 && leb (length s) 1024)) ≡ true = sym e ∙ h in
-    let some : (leb (length m) 16384 && leb (length s) 1024) ≡ true = both (leb (framesStart A) (length m)) _ all .1 in (
-      leb-true (framesStart A) (length m) (both (leb (framesStart A) (length m)) _ all .0),
-      leb-true (length m) 16384 (both (leb (length m) 16384) (leb (length s) 1024) some .0),
-      leb-true (length s) 1024 (both (leb (length m) 16384) (leb (length s) 1024) some .1),
+    let some : (leb (length m) 16384 && leb (length s) 1024) ≡ true = both-true (leb (framesStart A) (length m)) _ all .1 in (
+      leb-true (framesStart A) (length m) (both-true (leb (framesStart A) (length m)) _ all .0),
+      leb-true (length m) 16384 (both-true (leb (length m) 16384) (leb (length s) 1024) some .0),
+      leb-true (length s) 1024 (both-true (leb (length m) 16384) (leb (length s) 1024) some .1),
     )
 
 -- The words of a part, and how many they are.
@@ -219,7 +188,7 @@ module _ (r ps m s : List ℕ) where
     none = sound-header r h sound .0
 
     pub load-globals : h .globals ≤ 1024
-    load-globals = rw (sound-header r h sound .1) (sound-sizes r none .0)
+    load-globals = rw (sound-header r h sound .1) (sound-sizes r none .globals)
 
     pub load-parameters : h .globals < length ps → loading (Refused 8) m ≡ loadOf r ps m s
     load-parameters l =

@@ -13,6 +13,7 @@ use Rattle.record.specs.Number.{recordNumber, readingOf}
 use Rattle.effect.specs.declared.registers.Areas.{Areas}
 use Rattle.effect.specs.declared.registers.Registers.{Registers}
 use Rattle.effect.specs.Program.{areasIn, areasOf}
+use Rattle.record.proofs.Sound.{sound-code}
 use Rattle.machine.specs.declared.run.Answer.the-variants.{Refused}
 use Rattle.machine.specs.declared.step.Machine.{Machine}
 use Rattle.machine.specs.declared.step.Stepped.{Stepped}
@@ -23,7 +24,7 @@ use Rattle.machine.specs.Fits.{fits}
 use Rattle.machine.specs.Run.{Result, ran, result, machine, proceed, runFrom, runNumber, runOf}
 use Rattle.machine.proofs.Fitting.{Fitting, fitting, fitted}
 use Rattle.machine.proofs.Preserved.{Holds, step-holds}
-use Rattle.machine.proofs.Loading.{sound-header, refused-number, sound-code}
+use Rattle.machine.proofs.Loading.{sound-header, refused-number}
 
 pub record Running (code : List ℕ) (budget : ℕ) (M₀ : Machine) (m₀ s₀ : List ℕ) (M : Machine) (m s : List ℕ) (steps : ℕ) : Type 0 where
   pub count : steps ≤ budget

@@ -9,7 +9,7 @@ use borrow.Author.Tests.{le-leb, lt-leb, leb-true}
 use lib.Dec.{eqb, leb}
 use lib.ListN.{length, take, drop, getD}
 use Rattle.words.specs.Bytes.{halfwordAt}
-use Rattle.stackmap.proofs.Updates.{both-true}
+use Rattle.words.proofs.Tests.{both-true}
 use Rattle.machine.specs.Load.{wordsFrom}
 use Rattle.machine.specs.declared.run.Answer.{Answer}
 use Rattle.safety.specs.Joined.{joined, joinedOf}

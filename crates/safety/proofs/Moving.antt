@@ -19,7 +19,8 @@ use Rattle.machine.specs.Step.{pushed}
 use Rattle.safety.specs.Active.{shareOf, Configuration}
 use Rattle.safety.specs.Demand3.{Holds}
 use Rattle.safety.proofs.Parts.{registersOf, Within}
-use Rattle.safety.proofs.Sharing.{nothing, under, popped-drops, holds-words, length-words, holds-below, holds-made}
+use Rattle.stackmap.proofs.Pushing.{pushed-height}
+use Rattle.safety.proofs.Sharing.{nothing, under, popped-drops, holds-words, holds-below, holds-made}
 use Rattle.safety.proofs.Settling.{Good, good-trap, good-go}
 use Rattle.safety.proofs.Plain.{Plain, plain-trap, plain-go}
 
@@ -64,7 +65,7 @@ module _ {code : List ℕ} {c : Configuration} {l : List Slot} {out : List Way} 
       (λ room. record {
         slots = pushWords (pushes push) rest;
         among = a;
-        height = omega (arith, h, length-words (pushes push) rest);
+        height = omega (arith, h, pushed-height (pushes push) rest);
         holds = holds-words (pushes push) (holds-below (registersOf c .height - gone) (pushed push) (omega (arith, h)) k);
       })
 

@@ -27,7 +27,7 @@ use Rattle.stackmap.specs.StackMap.{waysAt, Map, Obeys, IsMap, Among, Reached, 
 use Rattle.stackmap.proofs.Exact.{has-reached}
 use Rattle.verifier.specs.Check.{moduleOf, checkOf}
 use Rattle.verifier.specs.Exact.{Bytes, Ruled, subject}
-use Rattle.verifier.proofs.Records.{numberless}
+use Rattle.record.proofs.Sound.{numberless}
 use Rattle.verifier.proofs.Exactly.{accepts-only}
 
 -- A module that the check accepts.

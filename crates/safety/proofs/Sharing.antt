@@ -8,15 +8,12 @@ use lib.ListN.{length, getD, set}
 use lib.Seq.{sets, getD-set-other, getD-set-same}
 use Rattle.stackmap.specs.Slots.{Slot, word, label, pushWords, popWords, dropSlots}
 use Rattle.stackmap.specs.Ways.{labelWord}
+use Rattle.machine.proofs.Stored.{sets-under}
 use Rattle.safety.specs.Demand3.{Holds, holds-none, holds-word, holds-label}
 
 -- None is not some.
 pub nothing : {A B : Type 0} (x : A) → none ≡ some x → B
 nothing x e = let z : _≡_ {A = ℕ} 0 1 = cc in absurd (omega arith)
-
-pub sets-below : (s : List ℕ) (i : ℕ) (vs : List ℕ) (j : ℕ) → j < i → getD (sets s i vs) j 0 ≡ getD s j 0
-sets-below s i [] j h = refl
-sets-below s i (v ∷ vs) j h = sets-below (set s i v) (suc i) vs j (omega arith) ∙ getD-set-other s i j v 0 (λ e. omega arith)
 
 -- Words that are put above a share leave it as it is.
 pub holds-below : {code s : List ℕ} {share : ℕ} {l : List Slot} (i : ℕ) (vs : List ℕ) → share + length l ≤ i → Holds code s share l
@@ -24,7 +21,7 @@ pub holds-below : {code s : List ℕ} {share : ℕ} {l : List Slot} (i : ℕ) (v
 holds-below i vs h holds-none = holds-none
 holds-below i vs h (holds-word k) = holds-word (holds-below i vs (omega arith) k)
 holds-below {s = s} i vs h (holds-label {bottom = share} {l = l} e k) =
-    holds-label (sets-below s i vs (share + length l) (omega arith) ∙ e) (holds-below i vs (omega arith) k)
+    holds-label (sets-under s i vs (share + length l) (omega arith) ∙ e) (holds-below i vs (omega arith) k)
 
 -- What lies under n slots.
 pub record Under (code s : List ℕ) (share n : ℕ) (l rest : List Slot) : Type 0 where
@@ -56,10 +53,6 @@ popped-drops (suc n) (label origin ∷ l) rest e = nothing rest e
 pub holds-words : {code s : List ℕ} {share : ℕ} {l : List Slot} (n : ℕ) → Holds code s share l → Holds code s share (pushWords n l)
 holds-words zero h = h
 holds-words (suc n) h = holds-word (holds-words n h)
-
-pub length-words : (n : ℕ) (l : List Slot) → length (pushWords n l) ≡ n + length l
-length-words zero l = omega arith
-length-words (suc n) l = omega (arith, length-words n l)
 
 -- The word of a label that is put on top.
 pub holds-made : {code s : List ℕ} {share : ℕ} {l : List Slot} (x origin : ℕ) → x ≡ labelWord code origin → share + length l < length s

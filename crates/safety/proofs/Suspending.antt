@@ -16,7 +16,8 @@ use Rattle.stackmap.specs.StackMap.{Among, here, Reached, entered}
 use Rattle.safety.specs.Active.{Call, running, shareOf, begun, without}
 use Rattle.safety.specs.Demand3.{Holds, holds-none, holds-word, holds-label}
 use Rattle.safety.proofs.Parts.{Framed, no-frame, a-frame, Suspended, no-caller, a-caller}
-use Rattle.safety.proofs.Sharing.{nothing, under, popped-drops, holds-words, length-words}
+use Rattle.stackmap.proofs.Pushing.{pushed-height}
+use Rattle.safety.proofs.Sharing.{nothing, under, popped-drops, holds-words}
 use Rattle.safety.proofs.Moving.{Taken, taken, among-taken}
 use Rattle.safety.proofs.Pictures.{Checked, reached-inside}
 
@@ -86,7 +87,7 @@ module _ (M : Module) (C : Checked M) where
         procedure = running-procedure s calls rest;
         slots = pushWords n k;
         reached = rw at reached;
-        height = omega (arith, same, h, share, results-found n l out w, length-words n k);
+        height = omega (arith, same, h, share, results-found n l out w, pushed-height n k);
         holds = holds-words n u;
         suspended = rest;
       }
@@ -106,7 +107,7 @@ module _ (M : Module) (C : Checked M) where
         procedure = p;
         slots = pushWords n [];
         reached = rw to entered;
-        height = omega (arith, same, h, u .size, length-words n []);
+        height = omega (arith, same, h, u .size, pushed-height n []);
         holds = holds-words n holds-none;
         suspended = a-caller (T .rest) (goes (pushWords (resultsOf M d) (T .rest)) (among-taken T next _ here)) share (u .holds) p S;
       }

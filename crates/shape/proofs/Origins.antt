@@ -8,6 +8,7 @@ use native.Mathlib.Omega.{arith}
 use borrow.Author.Tests.{lt-ltb, le-leb, leb-true, eq-eqb, ne-eqb, eqb-true, eqb-false}
 use lib.Dec.{eqb, ltb, leb}
 use Rattle.words.specs.Bytes.{byteAt}
+use Rattle.words.proofs.Tests.{both-true, either}
 use Rattle.opcode.specs.Operand.{operand, operand2}
 use Rattle.opcode.specs.Table.{Row, row, unserved, allows, Entry, entry, find, rowOf}
 use Rattle.opcode.specs.Table.{shortTable, dataTable, operationTable, controlTable}
@@ -99,10 +100,6 @@ abbrev every : (ℕ → Row → Bool) → List Entry → Bool
 every f [] = true
 every f (entry k r ∷ rest) = f k r && every f rest
 
-both-true : (a b : Bool) → (a && b) ≡ true → (a ≡ true) × (b ≡ true)
-both-true true b e = (refl, e)
-both-true false b e = absurd (false≢true e)
-
 picked :
     (f : ℕ → Row → Bool) (key k : ℕ) (r s : Row) (b : Bool) →
     eqb key k ≡ b → f k r ≡ true → f key s ≡ true → f key (cond b r s) ≡ true
@@ -115,10 +112,6 @@ find-every f (entry k r ∷ rest) key u e =
     let p = both-true (f k r) (every f rest) e in
     picked f key k r (find rest key) (eqb key k) refl (p .0) (find-every f rest key u (p .1))
 
-either : (g : Row → Bool) (b : Bool) (r s : Row) → g r ≡ true → g s ≡ true → g (cond b r s) ≡ true
-either g true r s p q = p
-either g false r s p q = q
-
 -- The same of all codes; the short table has keys of another kind, first digits, so the test is not told them.
 row-every :
     (f : ℕ → Row → Bool) (code : ℕ) →
@@ -127,10 +120,10 @@ row-every :
     f code (rowOf code) ≡ true
 unfolding rowOf
 row-every f code u s d o c =
-    either (f code) (eqb code 0x70) _ _ u
-    (either (f code) (ltb code 0x80) _ _ (find-every (λ k. f code) shortTable (code / 16) u s)
-    (either (f code) (ltb code 0xA0) _ _ (find-every f dataTable code u d)
-    (either (f code) (ltb code 0xDA) _ _ (find-every f operationTable code u o) (find-every f controlTable code u c))))
+    either (λ (r : Row). f code r ≡ true) (eqb code 0x70) _ _ u
+    (either (λ (r : Row). f code r ≡ true) (ltb code 0x80) _ _ (find-every (λ k. f code) shortTable (code / 16) u s)
+    (either (λ (r : Row). f code r ≡ true) (ltb code 0xA0) _ _ (find-every f dataTable code u d)
+    (either (λ (r : Row). f code r ≡ true) (ltb code 0xDA) _ _ (find-every f operationTable code u o) (find-every f controlTable code u c))))
 
 module _ (m : Mode) (code : List ℕ) (at : ℕ) where
   -- The test: what a row makes in a mode that it serves may begin with the byte.

@@ -17,28 +17,22 @@ use Rattle.stackmap.specs.Ways.{Module, parametersOf}
 use Rattle.stackmap.specs.StackMap.{firstSlots, entered}
 use Rattle.stackmap.specs.Walk.{blank, waiting, done, States, mapOf, entriesWait}
 use Rattle.stackmap.specs.Theorems.{Sound}
+use Rattle.words.proofs.Tests.{either}
+use Rattle.stackmap.proofs.Pushing.{words-height}
 use Rattle.stackmap.proofs.Updates.{Change, changed, spared, change, updated-here}
 use Rattle.stackmap.proofs.Placing.{owned, Placed, AllPlaced, placed, placed-update, waiting-early}
-
-words-length : (n : ℕ) → length (pushWords n []) ≡ n
-words-length zero = refl
-words-length (suc n) = rw (words-length n)
-
-cond-most : (b : Bool) (x y n : ℕ) → x ≤ n → y ≤ n → cond b x y ≤ n
-cond-most true x y n g h = g
-cond-most false x y n g h = h
 
 module _ (M : Module) (S : Sound M) where
   first-short : (p : ℕ) → length (firstSlots M p) ≤ 255
   first-short p =
-      rw (words-length (parametersOf M p))
-      (cond-most (eqb p 0) 0 (byteAt (M .code) (entryAt (M .code) p + 1)) 255 (omega arith) (S .bytes (entryAt (M .code) p + 1)))
+      rw (words-height (parametersOf M p))
+      (either (λ (k : ℕ). k ≤ 255) (eqb p 0) 0 (byteAt (M .code) (entryAt (M .code) p + 1)) (omega arith) (S .bytes (entryAt (M .code) p + 1)))
 
   first-placed : (p : ℕ) → p < entryCount (M .code) → Placed M (entryAt (M .code) p) (firstSlots M p)
   first-placed p h = placed M p (entryAt (M .code) p) (firstSlots M p) (S .entries p h) (first-short p) entered
 
   -- Procedure p's entry is made to wait.
-  abbrev entering : ℕ → States → States
+  abbrev pub entering : ℕ → States → States
   entering p σ = updated σ (entryAt (M .code) p) (waiting (firstSlots M p))
 
   -- Procedure q's entry has its list.

@@ -15,7 +15,7 @@ use Rattle.stackmap.specs.Theorems.{Sound, mapIn, FindsMaps, RefutesMaps
 use Rattle.stackmap.proofs.Counts.{undone-most}
 use Rattle.stackmap.proofs.Reaching.{reached-in}
 use Rattle.stackmap.proofs.Placing.{owner, owned, in-given, in-told}
-use Rattle.stackmap.proofs.Handing.{Ends, broken, went, ends-map}
+use Rattle.stackmap.proofs.Handing.{Ends, broken, went, ends-map, ends-some}
 use Rattle.stackmap.proofs.Walking.{Good, Refuted, walking}
 use Rattle.stackmap.proofs.Entering.{atFirst, first-entered, first-has}
 
@@ -37,9 +37,6 @@ whole M S =
     })
     (walking M S (length (M .code)) (atFirst M S) (record { sane = E .sane; passed = λ at l d. absurd (E .fresh at l d) })
     (undone-most (atFirst M S) (length (M .code))))
-
-ends-some : {Bad : Type 0} {P : States → Type 0} {σ : States} → Ends Bad P (some σ) → P σ
-ends-some (went g) = g
 
 ends-none : {Bad : Type 0} {P : States → Type 0} → Ends Bad P none → Bad
 ends-none (broken b) = b

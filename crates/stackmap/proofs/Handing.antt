@@ -14,7 +14,8 @@ use Rattle.stackmap.specs.Ways.{Module, Way, _gets_}
 use Rattle.stackmap.specs.StackMap.{Map, Gives, given-all, given-one, IsMap, Among, here, there, Reached}
 use Rattle.stackmap.specs.Walk.{State, blank, waiting, done, States, mapOf, taken, thenHand, handedAll}
 use Rattle.stackmap.specs.Theorems.{mapIn}
-use Rattle.stackmap.proofs.Updates.{updated-here, not-both, both-true, true-both, slots-equal, slots-same}
+use Rattle.words.proofs.Tests.{both-true}
+use Rattle.stackmap.proofs.Updates.{updated-here, not-both, true-both, slots-equal, slots-same}
 use Rattle.stackmap.proofs.Reaching.{reached-in}
 use Rattle.stackmap.proofs.Placing.{AllPlaced, placed, placed-reached, placed-update, Later, later-self, later-later, blank-later, waiting-early, in-given, gives-later}
 
@@ -32,6 +33,9 @@ pub ends-map : {Bad Bad′ : Type 0} {P Q : States → Type 0} {r : Option State
     → Ends Bad P r → Ends Bad′ Q r
 ends-map f g (broken b) = broken (f b)
 ends-map f g (went {σ} h) = went (g σ h)
+
+pub ends-some : {Bad : Type 0} {Good : States → Type 0} {σ : States} → Ends Bad Good (some σ) → Good σ
+ends-some (went g) = g
 
 -- No map of a region.
 abbrev pub NoMap : Module → ℕ → Type 0

@@ -7,3 +7,4 @@ pub mod Handing
 pub mod Walking
 pub mod Entering
 pub mod Exact
+pub mod Pushing

@@ -7,6 +7,7 @@ use native.Mathlib.Omega.{arith}
 use lib.Dec.{eqb}
 use borrow.Author.Tests.{eqb-true, eqb-false, eq-eqb}
 use Rattle.layout.specs.Cut.{updated}
+use Rattle.words.proofs.Tests.{both-true}
 use Rattle.stackmap.specs.Slots.{Slot, word, label, sameSlot, sameSlots}
 
 pub data Change {A : Type 0} (f : ℕ → A) (at : ℕ) (x : A) (a : ℕ) : Type 0 where
@@ -27,10 +28,6 @@ pub not-both : {b : Bool} → b ≡ true → b ≡ false → ⊥
 not-both t f =
     let z : _≡_ {A = ℕ} 0 1 = cc in
     absurd (omega arith)
-
-pub both-true : (a b : Bool) → a && b ≡ true → (a ≡ true) × (b ≡ true)
-both-true true b e = (refl, e)
-both-true false b e = (e, cc)
 
 pub true-both : {a b : Bool} → a ≡ true → b ≡ true → a && b ≡ true
 true-both p q = rw (p, q)

@@ -20,7 +20,8 @@ use Rattle.stackmap.specs.Walk.{State, States, mapOf, slotsIn, blank, waiting, 
 use Rattle.verifier.specs.Check.{resultsSound, listNumber, moduleOf, Verdict, refuted, accepted, walked, examined, verdictOf, checking, concluded, shownState, shownFrom, checkOf}
 use Rattle.verifier.specs.Exact.{Bytes, Ruled, subject, Mapped, Room, AcceptsOnly, AcceptsAll, RefusesOnly, Shows, ShowsReached}
 use Rattle.verifier.proofs.Ranges.{list-range, code-range, cut-range}
-use Rattle.verifier.proofs.Records.{Listed, listed, numberless, code-bytes}
+use Rattle.record.proofs.Sound.{numberless}
+use Rattle.verifier.proofs.Records.{Listed, listed, code-bytes}
 use Rattle.verifier.proofs.Concluding.{sound}
 use Rattle.verifier.proofs.Showing.{shown-at, shown-length}
 

@@ -25,7 +25,8 @@ use Rattle.compact.specs.declared.ways.Ways.the-variants.{Broken, Ended, One, T
 use Rattle.compact.specs.Tops.{top, originUnder, poppable, labelled, lowered, loweredBy}
 use Rattle.compact.specs.Ways.{way, toward, inOrder, straightWays, dropWays, branchWays, keepWays, loopWays, againFrom, againWays, exitFrom, exitWays, selectWays, returnWays, waysTop}
 use Rattle.verifier.proofs.Coherence.{Lies, on-loop, on-select, Coherent, on-nothing, on-word, on-label, ShowsMap, topOf, compactOf, Stands, broken, ended, one, two, many}
-use Rattle.verifier.proofs.Levels.{and-false, level, Popped, stuck, popped, popping, pushed-height, pushed-origin, words-test, loop-not-select, lies-origin, at-level, labelled-word, labelled-label, lowered-word, lowered-label}
+use Rattle.stackmap.proofs.Pushing.{pushed-height, pushed-origin}
+use Rattle.verifier.proofs.Levels.{and-false, level, Popped, stuck, popped, popping, words-test, loop-not-select, lies-origin, at-level, labelled-word, labelled-label, lowered-word, lowered-label}
 
 -- The compact form of a way, from its parts.
 to-list : (t h o : ℕ) (l : List Slot) → h ≡ length l → o ≡ topOrigin l → way t h o ≡ compactOf (t gets l)

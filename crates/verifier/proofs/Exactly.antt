@@ -23,7 +23,8 @@ use Rattle.stackmap.specs.Walk.{State, States, mapOf, slotsIn, blank, waiting, 
 use Rattle.stackmap.proofs.Exact.{finds-maps, refutes-maps, finds-reached, has-reached}
 use Rattle.verifier.specs.Check.{resultsSound, listNumber, moduleOf, refuted, accepted, verdictOf, checking, Checking, concluded, shownState, shownFrom, checkOf}
 use Rattle.verifier.specs.Exact.{Bytes, Ruled, subject, Mapped, Unmapped, Room, AcceptsOnly, AcceptsAll, RefusesOnly, RefusesAll, Shows, ShowsReached, ShowsNoMore}
-use Rattle.verifier.proofs.Records.{Listed, listed, numberless, code-bytes}
+use Rattle.record.proofs.Sound.{numberless}
+use Rattle.verifier.proofs.Records.{Listed, listed, code-bytes}
 use Rattle.verifier.proofs.Concluding.{sound}
 use Rattle.verifier.proofs.Starting.{not-given}
 use Rattle.verifier.proofs.Showing.{shown-at, shown-length}

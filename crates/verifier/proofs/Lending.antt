@@ -8,7 +8,8 @@ use lib.ListN.{length, getD, take, drop, replicate, length-take, drop-of-length-
 use Rattle.header.specs.Header.{codeOf}
 use Rattle.verifier.specs.Check.{Verdict, refuted, accepted, verdictOf, listNumber, Checking, checking, concluded, shownFrom, checkOf}
 use Rattle.verifier.specs.Examine.{examinedTop}
-use Rattle.verifier.proofs.Records.{Listed, listed, numberless, code-bytes, code-small}
+use Rattle.record.proofs.Sound.{numberless, sound-code}
+use Rattle.verifier.proofs.Records.{Listed, listed, code-bytes}
 use Rattle.verifier.proofs.Concluding.{examined-concludes}
 
 part-length : (w : List ℕ) (n : ℕ) → n ≤ length w → length (take n w) ≡ n
@@ -32,7 +33,7 @@ module _ (r results w : List ℕ) (number : listNumber r results (length w) ≡ 
   room = listed r results (length w) number .enough
 
   pub small : length (codeOf r) ≤ 4096
-  small = code-small r (listed r results (length w) number .numberless)
+  small = sound-code r (listed r results (length w) number .numberless)
 
   pub lends : ((k : ℕ) → getD r k 0 < 256) → (n : ℕ) (p : List ℕ) → checking n p ≡ examinedTop (codeOf r) results (take (4 * length (codeOf r)) w)
       → checking n (p ++ drop (4 * length (codeOf r)) w) ≡ checkOf r results w

@@ -48,14 +48,6 @@ popping (suc n) [] = stuck (omega arith)
 popping (suc n) (word ∷ l) = popped-word (popping n l)
 popping (suc n) (label m ∷ l) = stuck (omega arith)
 
-pub pushed-height : (n : ℕ) (l : List Slot) → length (pushWords n l) ≡ length l + n
-pushed-height zero l = omega arith
-pushed-height (suc n) l = omega (arith, pushed-height n l)
-
-pub pushed-origin : (n : ℕ) (l : List Slot) → topOrigin (pushWords n l) ≡ topOrigin l
-pushed-origin zero l = refl
-pushed-origin (suc n) l = pushed-origin n l
-
 pub words-test : (n : ℕ) (l : List Slot) → isWords n l ≡ eqb (length l) n && eqb (topOrigin l) 0
 words-test zero [] = refl
 words-test zero (x ∷ l) = rw (eqb·suc-zero (length l))

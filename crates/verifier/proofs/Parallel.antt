@@ -16,7 +16,8 @@ use Rattle.stackmap.specs.Ways.{Module, Way, _gets_, toAll}
 use Rattle.stackmap.specs.StackMap.{Map}
 use Rattle.stackmap.specs.Walk.{State, blank, waiting, done, States, slotsIn, mapOf, taken, handed, thenHand, handedAll, passed}
 use Rattle.stackmap.specs.Theorems.{Sound}
-use Rattle.stackmap.proofs.Updates.{Change, changed, spared, change, both-true, slots-equal, slots-same, not-both}
+use Rattle.words.proofs.Tests.{both-true}
+use Rattle.stackmap.proofs.Updates.{Change, changed, spared, change, slots-equal, slots-same, not-both}
 use Rattle.compact.specs.declared.ways.Ways.{Ways}
 use Rattle.compact.specs.Ways.{way}
 use Rattle.verifier.specs.declared.hand.Handed.the-variants.{Stuck, From}

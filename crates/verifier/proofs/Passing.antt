@@ -59,12 +59,6 @@ module _ (code : List ℕ) (π : Map) where
   pushed zero l c = c
   pushed (suc n) l c = on-word (pushed n l c)
 
-  under-word : {l : List Slot} → Coherent code π (word ∷ l) → Coherent code π l
-  under-word (on-word c) = c
-
-  under-label : {m : ℕ} {l : List Slot} → Coherent code π (label m ∷ l) → Coherent code π l
-  under-label (on-label L c) = c
-
   under-words : (n : ℕ) (l rest : List Slot) → Coherent code π l → popWords n l ≡ some rest → Coherent code π rest
   under-words zero l rest c e = let s : l ≡ rest = cc in rw s at c
   under-words (suc n) l rest on-nothing e = let z : _≡_ {A = ℕ} 0 1 = cc in absurd (omega arith)

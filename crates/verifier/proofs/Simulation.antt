@@ -15,7 +15,7 @@ use Rattle.stackmap.specs.Ways.{Module}
 use Rattle.stackmap.specs.Walk.{State, waiting, States, Found, thenHand, visitNext, walk, walkOf}
 use Rattle.stackmap.specs.Theorems.{Sound}
 use Rattle.stackmap.proofs.Counts.{undone-most}
-use Rattle.stackmap.proofs.Handing.{Ends, went}
+use Rattle.stackmap.proofs.Handing.{Ends, ends-some}
 use Rattle.stackmap.proofs.Walking.{Refuted, Walked, walking as list-walking}
 use Rattle.stackmap.proofs.Entering.{atFirst, first-entered}
 use Rattle.verifier.specs.Check.{moduleOf}
@@ -45,9 +45,6 @@ ending-then go goes (both-stop k) next = both-refuse k
 ending-then go goes (both-go {v} {τ} {from} k g X) next = ending-after k (next v τ from X)
 
 -- Where the walk over lists went through, none waits.
-walked-some : {Bad : Type 0} {P : States → Type 0} {σ : States} → Ends Bad P (some σ) → P σ
-walked-some (went g) = g
-
 idle : (M : Module) → Sound M → (σ : States) → walkOf M ≡ some σ → (at : ℕ) (l : List Slot) → σ at ≡ waiting l → ⊥
 unfolding walkOf
 idle M S σ e =
@@ -55,7 +52,7 @@ idle M S σ e =
     let W : Ends (Refuted M) (Walked M (atFirst M S)) (walk M (length (M .code)) (atFirst M S)) =
     list-walking M S (length (M .code)) (atFirst M S) (record { sane = E .sane; passed = λ at l d. absurd (E .fresh at l d) })
     (undone-most (atFirst M S) (length (M .code))) in
-    walked-some (subst (Ends (Refuted M) (Walked M (atFirst M S))) e W) .idle
+    ends-some (subst (Ends (Refuted M) (Walked M (atFirst M S))) e W) .idle
 
 -- What the workspace is when the walk went through.
 pub record Accepted (M : Module) (σ : States) (W : Walking) : Type 0 where

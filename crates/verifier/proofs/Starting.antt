@@ -13,19 +13,13 @@ use Rattle.stackmap.specs.Ways.{Module, parametersOf}
 use Rattle.stackmap.specs.StackMap.{Map, firstSlots}
 use Rattle.stackmap.specs.Walk.{blank, waiting, States, mapOf, entriesWait}
 use Rattle.stackmap.specs.Theorems.{Sound}
+use Rattle.stackmap.proofs.Entering.{entering}
+use Rattle.stackmap.proofs.Pushing.{words-height, pushed-origin}
 use Rattle.stackmap.proofs.Updates.{Change, changed, spared, change}
 use Rattle.verifier.specs.Handing.{given, entryGiven, entriesGiven}
 use Rattle.verifier.proofs.Coherence.{Coherent, on-nothing, on-word, Shown, shown-blank, shown-waiting}
 use Rattle.verifier.proofs.Fields.{Within, within-given, given-height, given-origin, given-waits}
 use Rattle.verifier.proofs.Keeping.{Kept, kept-self, kept-then, within-kept, Held, held-change, Sim}
-
-words-length : (n : ℕ) → length (pushWords n []) ≡ n
-words-length zero = refl
-words-length (suc n) = rw (words-length n)
-
-words-origin : (n : ℕ) → topOrigin (pushWords n []) ≡ 0
-words-origin zero = refl
-words-origin (suc n) = words-origin n
 
 words-coherent : (code : List ℕ) (π : Map) (n : ℕ) → Coherent code π (pushWords n [])
 words-coherent code π zero = on-nothing
@@ -50,8 +44,8 @@ module _ (M : Module) (start w : List ℕ) (σ : States) (F : Fresh M start w σ
   words-shown : Shown (given w t n 0) t (waiting (pushWords n []))
   words-shown =
       let room : 4 * t + 4 ≤ length w = omega (arith, F .held .room) in
-      shown-waiting {l = pushWords n []} (rw (words-length n) (given-height t w n 0 room))
-      (rw (words-origin n) (given-origin t w n 0 room)) (given-waits t w n 0 room)
+      shown-waiting {l = pushWords n []} (rw (words-height n) (given-height t w n 0 room))
+      (rw (pushed-origin n []) (given-origin t w n 0 room)) (given-waits t w n 0 room)
 
   words-free : (at : ℕ) (l : List Slot) → mapOf (updated σ t (waiting (pushWords n []))) at ≡ some l
       → Change σ t (waiting (pushWords n [])) at → (π : Map) → Coherent (M .code) π l
@@ -69,11 +63,8 @@ module _ (M : Module) (start w : List ℕ) (σ : States) (F : Fresh M start w σ
       }
 
 module _ (M : Module) (S : Sound M) (start : List ℕ) where
-  abbrev enteredAt : ℕ → States → States
-  enteredAt p σ = updated σ (entryAt (M .code) p) (waiting (firstSlots M p))
-
   enter-one : (p : ℕ) (w : List ℕ) (σ : States) → p < entryCount (M .code) → Fresh M start w σ
-      → Fresh M start (entryGiven (M .code) p w) (enteredAt p σ)
+      → Fresh M start (entryGiven (M .code) p w) (entering M S p σ)
   unfolding entryGiven
   enter-one p w σ b F =
       words-given M start w σ F (entryAt (M .code) p) (parametersOf M p) (S .within p (entryAt (M .code) p) (S .entries p b))
@@ -82,7 +73,7 @@ module _ (M : Module) (S : Sound M) (start : List ℕ) where
       → Fresh M start (entriesGiven (M .code) p n w) (entriesWait M p n σ)
   enter-all zero p w σ b F = enter-one 0 w σ (S .counted) F
   enter-all (suc n) p w σ b F =
-      enter-all n (p + 1) (entryGiven (M .code) p w) (enteredAt p σ) (omega arith) (enter-one p w σ (omega arith) F)
+      enter-all n (p + 1) (entryGiven (M .code) p w) (entering M S p σ) (omega arith) (enter-one p w σ (omega arith) F)
 
 -- The first states.
 abbrev pub firstStates : Module → States

@@ -2,3 +2,4 @@
 pub mod Bytes
 pub mod Left
 pub mod Slices
+pub mod Tests

@@ -1,0 +1,2 @@
+-- What a sound record says.
+pub mod Sound
