@@ -1,6 +1,6 @@
 // What an instruction gives to its successors.
 ghost use mathlib.Core.Path.{_≡_};
-ghost use Prim.Native.Nat.{_≤_, _<_};
+ghost use Prim.Native.Nat.{_<_};
 ghost use Rattle.stackmap.specs.Ways.{parametersIn, resultsIn};
 ghost use Rattle.compact.specs.Ways.{toward, inOrder, straightWays, dropWays, branchWays, keepWays, loopWays, againWays, exitWays, selectWays, returnWays, waysTop};
 use crate::top;

@@ -1,5 +1,5 @@
 -- Each case of the table has its outcome: the definitions, computed.
-use mathlib.Core.Path.{_≡_, refl}
+use mathlib.Core.Path.{refl}
 use Rattle.words.specs.Bytes.{halfwordAt, wordAt}
 use Rattle.entries.specs.Entries.{entryAt, entryCount, countSound, entriesInOrder, entriesSound, regionEnd}
 use Rattle.header.specs.Header.{headerOf, sizesFit, codeAt, constantsAt, relocationAt, versionsAt, sourcesAt, recordLength, codeOf}

@@ -2,14 +2,14 @@
 -- instruction's own first byte", which is at PC.
 use mathlib.Core.Bool.{Bool, cond, _&&_, _||_}
 use mathlib.Core.List.{List}
-use Prim.Native.Nat.{ℕ, _+_, _-_}
-use lib.Dec.{eqb, leb, ltb}
+use Prim.Native.Nat.{ℕ, _+_}
+use lib.Dec.{eqb, leb}
 use lib.IntN.{ℤ, pos}
 use lib.ListN.{length}
 use lib.Signed.{ltZ}
 use mir.Syntax.{w32}
 use mir.Val.{toZ}
-use Rattle.entries.specs.Entries.{entryAt, entryCount}
+use Rattle.entries.specs.Entries.{entryAt, noCallee}
 use Rattle.opcode.specs.Distance.{placeAt}
 use Rattle.opcode.specs.Switch.{exitDistance, elseDistance, branchDistance, searchDistance, orElse}
 use Rattle.opcode.specs.declared.instruction.Mode.the-variants.{Normal}
@@ -39,7 +39,7 @@ unfoldable pub jumpsIfFalse : Registers → ℕ → ℕ → ℕ → Effect
 jumpsIfFalse q next d b = boolean b (Go 1 NoPush NoWrite (moved q (cond (eqb b 0) (jumped q d) next)))
 
 -- JUMP_T (when is 1) and JUMP_F (when is 0): POP (B); if B is `when` then PUSH (B); PC := PC + dist.
-unfoldable pub jumpsKeeping : Registers → ℕ → ℕ → ℕ → ℕ → Effect
+unfoldable pub jumpsKeeping : (q : Registers) (next truth distance word : ℕ) → Effect
 jumpsKeeping q next when d b =
     boolean b (cond (eqb b when) (Go 0 NoPush NoWrite (moved q (jumped q d))) (Go 1 NoPush NoWrite (moved q next)))
 
@@ -48,7 +48,7 @@ abbrev pub beyond : ℤ → ℤ → ℤ → Bool
 beyond s x l = (ltZ (pos 0) s && ltZ l x) || (ltZ s (pos 0) && ltZ x l)
 
 -- ITER [ adr, first, last, step ]: past the loop, or MEMORY(A) := F and the label is pushed.
-unfoldable pub iterates : Areas → Registers → List ℕ → ℕ → ℕ → ℕ → ℕ → ℕ → ℕ → Effect
+unfoldable pub iterates : (A : Areas) (q : Registers) (m : List ℕ) (next distance address first last step : ℕ) → Effect
 iterates A q m next d a f l s =
     cond (beyond (toZ w32 s) (toZ w32 f) (toZ w32 l)) (Go 4 NoPush NoWrite (moved q (jumped q d)))
     (storable A q m a Normal (Go 0 (PushOne next) (WriteOne a f) (moved q next)))
@@ -58,7 +58,7 @@ unfoldable pub nextSum : List ℕ → ℕ → ℕ → Value
 nextSum m a s = signedValue Add (read m a) s
 
 -- The sum x is stored; then the loop is left, or goes round to the label.
-abbrev pub wentRound : Registers → ℕ → ℕ → ℕ → ℕ → ℕ → ℕ → Effect
+abbrev pub wentRound : (q : Registers) (next address last step label sum : ℕ) → Effect
 wentRound q next a l s label x =
     cond (beyond (toZ w32 s) (toZ w32 x) (toZ w32 l)) (Go 5 NoPush (WriteOne a x) (moved q next))
     (Go 0 NoPush (WriteOne a x) (moved q label))
@@ -68,7 +68,7 @@ summed A q m next a l s label (Word x) = cond (protects A q m a) (trap 33) (went
 summed A q m next a l s label (Trap n) = trap n
 
 -- NEXT [ adr, first, last, step, label ]. 01: "NEXT tests live, then the sum, then protected."
-unfoldable pub repeats : Areas → Registers → List ℕ → ℕ → ℕ → ℕ → ℕ → ℕ → Effect
+unfoldable pub repeats : (A : Areas) (q : Registers) (m : List ℕ) (next address last step label : ℕ) → Effect
 repeats A q m next a l s label = cond (live q a 1) (summed A q m next a l s label (nextSum m a s)) (trap 32)
 
 -- The exit label PC + Z is pushed, and the place is PC + distance.
@@ -84,14 +84,14 @@ unfoldable pub searches : List ℕ → Registers → ℕ → ℕ → Effect
 searches code q n x = branched code q (orElse (searchDistance code (q .pc) n x) (elseDistance code (q .pc)))
 
 -- 01: "CALL tests callee, depth, memory": 23, 37, 35. "At most 64 calls are active".
-unfoldable pub calls : List ℕ → Registers → List ℕ → ℕ → ℕ → Effect
+unfoldable pub calls : (code : List ℕ) (q : Registers) (m : List ℕ) (next callee : ℕ) → Effect
 calls code q m next p =
-    cond (eqb p 0 || leb (entryCount code) p) (trap 23)
+    cond (noCallee code p) (trap 23)
     (cond (leb 64 (q .calls)) (trap 37)
     (cond (leb (q .mp + 2) (length m)) (Go 0 NoPush (WriteTwo (q .mp) (q .fp) next) (called q (entryAt code p))) (trap 35)))
 
 -- ENTER: MEMORY(MP..MP+par-1) := the top par words; MP := MP + par + dat.
-unfoldable pub enters : Registers → List ℕ → ℕ → ℕ → ℕ → Effect
+unfoldable pub enters : (q : Registers) (m : List ℕ) (next parameters words : ℕ) → Effect
 enters q m next par dat =
     cond (leb (q .mp + par + dat) (length m)) (Go par NoPush (WriteGone (q .mp)) (sized q next (q .mp + par + dat))) (trap 35)
 

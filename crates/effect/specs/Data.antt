@@ -35,7 +35,7 @@ loaded m a Normal = PushOne (read m a)
 loaded m a Double = PushTwo (read m a) (read m (a + 1))
 
 -- LOAD_L, _G, _T, _F at the address a.
-unfoldable pub loadFrom : Registers → List ℕ → ℕ → ℕ → Mode → ℕ → Effect
+unfoldable pub loadFrom : (q : Registers) (m : List ℕ) (next gone : ℕ) (mode : Mode) (a : ℕ) → Effect
 loadFrom q m next gone mode a = cond (live q a (wordsIn mode)) (Go gone (loaded m a mode) NoWrite (moved q next)) (trap 32)
 
 -- LOAD_A_L, _G, _T, _F. 01: "An address sum past 32 bits is not live; LOAD_A_F traps 31 for it."
@@ -47,11 +47,11 @@ stored a Normal x y = WriteOne a x
 stored a Double x y = WriteTwo a x y
 
 -- A store: 01, "For two words both must be live, then both unprotected."
-abbrev pub storable : Areas → Registers → List ℕ → ℕ → Mode → Effect → Effect
+abbrev pub storable : (A : Areas) (q : Registers) (m : List ℕ) (a : ℕ) (mode : Mode) (e : Effect) → Effect
 storable A q m a mode e = cond (live q a (wordsIn mode)) (cond (protectsAny A q m a mode) (trap 33) e) (trap 32)
 
 -- STOR_L, _G, _F at the address a: x, or x and y.
-unfoldable pub storeTo : Areas → Registers → List ℕ → ℕ → ℕ → Mode → ℕ → ℕ → ℕ → Effect
+unfoldable pub storeTo : (A : Areas) (q : Registers) (m : List ℕ) (next gone : ℕ) (mode : Mode) (a x y : ℕ) → Effect
 storeTo A q m next gone mode a x y = storable A q m a mode (Go gone NoPush (stored a mode x y) (moved q next))
 
 -- One word is pushed over so many that go.

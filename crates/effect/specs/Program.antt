@@ -27,4 +27,4 @@ constantsStart A = 3 + A .globals
 
 -- Where frames begin: "FP and MP start at 3+g+c".
 abbrev pub framesStart : Areas → ℕ
-framesStart A = 3 + A .globals + A .constants
+framesStart A = constantsStart A + A .constants

@@ -18,6 +18,10 @@ unfoldable pub countSound : List ℕ → Bool
 countSound code =
     eqb (entryAt code 0) 2 || (eqb (entryAt code 1 % 2) 0 && (leb 4 (entryAt code 1) && leb (entryAt code 1) 512))
 
+-- 14: "callee 0 or not in the entries"; 23: "no such callee, 0 included".
+abbrev pub noCallee : List ℕ → ℕ → Bool
+noCallee code p = eqb p 0 || leb (entryCount code) p
+
 -- The entries of n procedures from p on.
 abbrev pub entriesFrom : List ℕ → ℕ → ℕ → List ℕ
 entriesFrom code p zero = []

@@ -20,14 +20,14 @@ top n height s = take n (drop (height - n) s)
 abbrev pub deep : Registers → List ℕ → ℕ → ℕ
 deep q s depth = read s (q .height - depth)
 
-abbrev pub storedEffect : Areas → Registers → List ℕ → List ℕ → ℕ → Base → Mode → ℕ → Effect
+abbrev pub storedEffect : (A : Areas) (q : Registers) (m s : List ℕ) (next : ℕ) (base : Base) (mode : Mode) (offset : ℕ) → Effect
 storedEffect A q m s next base mode offset =
     storeTo A q m next (popped base + wordsIn mode) mode (baseOf q m (deep q s (popped base + wordsIn mode)) base + offset)
     (deep q s (wordsIn mode)) (deep q s (wordsIn mode - 1))
 
-abbrev pub iteratedEffect : Areas → Registers → List ℕ → List ℕ → ℕ → ℕ → Effect
+abbrev pub iteratedEffect : (A : Areas) (q : Registers) (m s : List ℕ) (next distance : ℕ) → Effect
 iteratedEffect A q m s next distance =
     iterates A q m next distance (deep q s 4) (deep q s 3) (deep q s 2) (deep q s 1)
 
-abbrev pub repeatedEffect : Areas → Registers → List ℕ → List ℕ → ℕ → Effect
+abbrev pub repeatedEffect : (A : Areas) (q : Registers) (m s : List ℕ) (next : ℕ) → Effect
 repeatedEffect A q m s next = repeats A q m next (deep q s 5) (deep q s 3) (deep q s 2) (deep q s 1)

@@ -5,7 +5,7 @@ ghost use Prim.Native.Nat.{_≤_, _<_, _+_, _-_};
 ghost use lib.ListN.{length};
 ghost use Rattle.shape.specs.Counts.{popped, needed};
 ghost use Rattle.effect.specs.Memory.{read};
-ghost use Rattle.effect.specs.Data.{baseOf, loadFrom, addressOf, storeTo};
+ghost use Rattle.effect.specs.Data.{baseOf, loadFrom, addressOf};
 ghost use Rattle.control.specs.Control.{iterates, repeats};
 ghost use Rattle.execute.specs.Execute.{execute};
 ghost use Rattle.effect.specs.Memory.{chained};

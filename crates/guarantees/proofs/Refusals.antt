@@ -1,5 +1,5 @@
 -- A refused load or run is the case of its definition that hands memory and stack back; a run's count grows by one a step.
-use mathlib.Core.Path.{_≡_, _∙_, refl, sym, ap}
+use mathlib.Core.Path.{_≡_, refl}
 use mathlib.Core.Bool.{Bool, true, false, cond}
 use mathlib.Core.List.{List}
 use Prim.Native.Nat.{ℕ, zero, suc, _+_, _≤_}
@@ -18,8 +18,8 @@ use Rattle.machine.specs.declared.step.Machine.{Machine}
 use Rattle.machine.specs.declared.step.Outcome.{Outcome}
 use Rattle.machine.specs.declared.step.Outcome.the-variants.{Went, Finished, Trapped}
 use Rattle.machine.specs.Step.{After, stepOf}
-use Rattle.machine.specs.Load.{Loading, loading, loadOf, loadNumber, loadedMemory, startOf}
-use Rattle.machine.specs.Run.{Result, ran, result, endedAt, machine, proceed, runFrom, runNumber, runOf}
+use Rattle.machine.specs.Load.{loading, loadOf, loadNumber, loadedMemory, startOf}
+use Rattle.machine.specs.Run.{Result, ran, endedAt, machine, proceed, runFrom, runNumber, runOf}
 use Rattle.guarantees.specs.Guarantees.{RefusedLoad, RefusedRun, CountWithinBudget}
 
 -- The answer of a run is an end, with at most so many steps.

@@ -1,9 +1,9 @@
 -- A trapped step is a case of the definition that hands everything back; a completed one stores the pushed words alone, which end at the
 -- new height.
-use mathlib.Core.Path.{_≡_, _∙_, refl, sym, ap}
+use mathlib.Core.Path.{_≡_, _∙_, refl}
 use mathlib.Core.Bool.{Bool, true, false, cond}
 use mathlib.Core.List.{List, [], _∷_}
-use Prim.Native.Nat.{ℕ, zero, suc, _+_, _-_, _≤_, _<_}
+use Prim.Native.Nat.{ℕ, suc, _+_, _-_, _≤_}
 use native.Mathlib.Omega.{arith}
 use lib.Dec.{ltb}
 use lib.ListN.{length, getD, set}
@@ -17,12 +17,12 @@ use Rattle.effect.specs.declared.effect.Effect.the-variants.{Trap, Finish, Go}
 use Rattle.effect.specs.declared.effect.Push.{Push}
 use Rattle.effect.specs.declared.effect.Push.the-variants.{NoPush, PushOne, PushTwo}
 use Rattle.effect.specs.Program.{program}
-use Rattle.effect.specs.Words.{pushes, raised}
+use Rattle.effect.specs.Words.{pushes}
 use Rattle.execute.specs.Depth.{top}
 use Rattle.execute.specs.Execute.{execute}
 use Rattle.machine.specs.declared.step.Machine.{Machine}
-use Rattle.machine.specs.declared.step.Outcome.the-variants.{Went, Finished, Trapped}
-use Rattle.machine.specs.Step.{After, after, trapping, advanced, pushed, written, settled, performed, stepOf}
+use Rattle.machine.specs.declared.step.Outcome.the-variants.{Trapped}
+use Rattle.machine.specs.Step.{After, after, trapping, pushed, settled, performed, stepOf}
 use Rattle.machine.proofs.Fitting.{fitting, fitted}
 use Rattle.machine.proofs.Preserved.{step-holds}
 use Rattle.guarantees.specs.Guarantees.{TrappedStep, WritesBelowHeight, StaysFit, KeepsProtected}

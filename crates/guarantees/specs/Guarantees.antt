@@ -10,7 +10,7 @@ use Rattle.machine.specs.declared.load.Loaded.the-variants.{Refused}
 use Rattle.machine.specs.declared.run.Answer.the-variants.{Refused as NotRun, Ended}
 use Rattle.machine.specs.declared.run.Ended.{Ended as Ending}
 use Rattle.machine.specs.declared.step.Machine.{Machine}
-use Rattle.machine.specs.declared.step.Outcome.the-variants.{Went, Trapped}
+use Rattle.machine.specs.declared.step.Outcome.the-variants.{Trapped}
 use Rattle.machine.specs.Step.{after, trapping, stepOf}
 use Rattle.machine.specs.Fits.{fits}
 use Rattle.machine.specs.Load.{loadOf}

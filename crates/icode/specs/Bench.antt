@@ -11,8 +11,8 @@ use Rattle.machine.specs.declared.load.Loaded.the-variants.{Refused, Ready}
 use Rattle.machine.specs.declared.run.Answer.{Answer}
 use Rattle.machine.specs.declared.run.Answer.the-variants.{Refused as NotRun, Ended}
 use Rattle.machine.specs.declared.run.Ended.{Ended as Ending}
-use Rattle.machine.specs.Load.{Loading, loadOf}
-use Rattle.machine.specs.Run.{Result, endNumber, runOf}
+use Rattle.machine.specs.Load.{loadOf}
+use Rattle.machine.specs.Run.{endNumber, runOf}
 
 -- Registers as six words.
 abbrev pub stateWords : Registers → List ℕ

@@ -2,10 +2,10 @@
 use mathlib.Core.Bool.{Bool, true, false, not, _&&_, _||_}
 use mathlib.Core.List.{List, [], _∷_}
 use Prim.Native.Nat.{ℕ, zero, suc, _+_}
-use lib.Dec.{eqb, leb}
+use lib.Dec.{eqb}
 use lib.ListN.{length}
 use Rattle.words.specs.Refusal.{refusal, _when_}
-use Rattle.entries.specs.Entries.{entryAt, entryCount, regionEnd}
+use Rattle.entries.specs.Entries.{entryAt, noCallee, regionEnd}
 use Rattle.opcode.specs.Decode.{decodeAt}
 use Rattle.opcode.specs.declared.Decoded.{Decoded}
 use Rattle.opcode.specs.declared.Decoded.the-variants.{Unserved, Past, At}
@@ -52,7 +52,7 @@ uncallable code p at next (Loop d) = false
 uncallable code p at next Again = false
 uncallable code p at next (Select t n) = false
 uncallable code p at next Exit = false
-uncallable code p at next (Invoke c) = eqb c 0 || leb (entryCount code) c
+uncallable code p at next (Invoke c) = noCallee code c
 uncallable code p at next (Begin par) = false
 uncallable code p at next Return = false
 

@@ -1,5 +1,4 @@
 // The code cut into instructions, and the numbers 10 to 14.
-ghost use mathlib.Core.Path.{_≡_};
 
 pub mod faults;
 pub mod marks;

@@ -1,7 +1,6 @@
 // Where control may go.
 ghost use mathlib.Core.Path.{_≡_};
-ghost use mathlib.Core.Bool.{not};
-ghost use Prim.Native.Nat.{_≤_, _<_, _+_};
+ghost use Prim.Native.Nat.{_<_, _+_};
 ghost use Rattle.opcode.specs.Distance.{placeAt};
 ghost use Rattle.opcode.specs.Switch.{elseDistance};
 ghost use Rattle.layout.specs.Successors.{tableSize, tableTarget, exitLabel};

@@ -1,21 +1,20 @@
 -- Every instruction's effect keeps what a fitting state has of memory and frames: stores pass the protected test, calls add a link,
 -- returns take one away.
-use Prim.Native.Nat.{ℕ, zero, suc, _+_, _-_, _≤_, _<_}
+use Prim.Native.Nat.{ℕ, suc, _+_, _-_, _≤_, _<_}
 use mathlib.Core.Path.{_≡_, _∙_, refl, sym}
 use mathlib.Core.Bool.{Bool, true, false, cond, _&&_, _||_}
 use mathlib.Core.List.{List, [], _∷_}
 use native.Mathlib.Omega.{arith}
-use lib.Dec.{eqb, leb, ltb}
+use lib.Dec.{leb, ltb}
 use lib.ListN.{length, set}
 use lib.Seq.{sets, getD-set-same, getD-set-other}
-use borrow.Author.Tests.{ltb-true, ltb-false, leb-true, leb-false, eqb-false, le-leb}
+use borrow.Author.Tests.{ltb-true, ltb-false, le-leb}
 use Rattle.opcode.specs.declared.instruction.Mode.{Mode}
 use Rattle.opcode.specs.declared.instruction.Mode.the-variants.{Normal, Double}
 use Rattle.shape.specs.Counts.{wordsIn}
 use Rattle.effect.specs.declared.effect.Effect.{Effect}
 use Rattle.effect.specs.declared.effect.Effect.the-variants.{Trap, Finish, Go}
 use Rattle.effect.specs.declared.effect.Push.{Push}
-use Rattle.effect.specs.declared.effect.Write.{Write}
 use Rattle.effect.specs.declared.effect.Write.the-variants.{NoWrite, WriteOne, WriteTwo, WriteGone}
 use Rattle.effect.specs.declared.registers.Areas.{Areas}
 use Rattle.effect.specs.declared.registers.Registers.{Registers}

@@ -1,11 +1,11 @@
 -- What reading a record tells, and the memory that load leaves, word by word.
 use Prim.Native.Nat.{ℕ, zero, suc, _+_, _*_, _-_, _<_, _≤_}
 use mathlib.Core.Path.{_≡_, _∙_, refl, sym, ap}
-use mathlib.Core.Bool.{Bool, true, false, cond, _&&_, false≢true}
+use mathlib.Core.Bool.{Bool, true, false, cond, _&&_}
 use mathlib.Core.List.{List, [], _∷_, _++_}
 use native.Mathlib.Omega.{arith}
-use lib.Dec.{eqb, leb, ltb}
-use lib.ListN.{length, take, drop, replicate, set, length-append, length-replicate, length-take, List·getD-append, List·getD-eq-default}
+use lib.Dec.{eqb, leb}
+use lib.ListN.{length, take, replicate, set, length-append, length-replicate, List·getD-append, List·getD-eq-default}
 use lib.Seq.{getD-append-add, take-suc, take-suc-set, take-all}
 use borrow.Author.Tests.{eqb-true, eqb-false, leb-true, le-leb, lt-leb, eq-eqb, ne-eqb}
 use Rattle.words.specs.Bytes.{wordAt}
@@ -13,7 +13,7 @@ use Rattle.words.proofs.Tests.{both-true}
 use Rattle.record.proofs.Sound.{sound-sizes}
 use Rattle.record.specs.declared.Reading.the-variants.{Sound, Refused as NotRead}
 use Rattle.header.specs.declared.Header.{Header}
-use Rattle.header.specs.Header.{headerOf, sizesFit, constantsAt, codeAt, codeOf}
+use Rattle.header.specs.Header.{headerOf, constantsAt}
 use Rattle.record.specs.Number.{recordNumber, readingOf}
 use Rattle.effect.specs.declared.registers.Areas.{Areas}
 use Rattle.effect.specs.Memory.{read}

@@ -1,13 +1,12 @@
 -- A step leaves a state that fits: each instruction's effect keeps memory and frames, and carrying it out keeps the stack.
-use Prim.Native.Nat.{ℕ, zero, suc, _+_, _-_, _≤_, _<_}
-use mathlib.Core.Path.{_≡_, _∙_, refl, sym}
+use Prim.Native.Nat.{ℕ, _+_, _-_}
+use mathlib.Core.Path.{_≡_, refl}
 use mathlib.Core.Bool.{Bool, true, false, cond, _||_}
 use mathlib.Core.List.{List}
 use native.Mathlib.Omega.{arith}
 use lib.Dec.{eqb, leb, ltb}
 use lib.ListN.{length}
-use lib.Seq.{sets, length-sets}
-use lib.IntN.{ℤ}
+use lib.Seq.{length-sets}
 use mir.Syntax.{w32}
 use mir.Val.{toZ}
 use borrow.Author.Tests.{ltb-false, leb-true, leb-false, eqb-false}
@@ -24,19 +23,18 @@ use Rattle.operate.specs.declared.Value.the-variants.{Word, Trap as Stop}
 use Rattle.shape.specs.Counts.{needed, popped, wordsIn}
 use Rattle.effect.specs.declared.effect.Effect.{Effect}
 use Rattle.effect.specs.declared.effect.Effect.the-variants.{Trap, Finish, Go}
-use Rattle.effect.specs.declared.effect.Push.{Push}
 use Rattle.effect.specs.declared.effect.Push.the-variants.{NoPush, PushOne}
-use Rattle.effect.specs.declared.effect.Write.the-variants.{NoWrite, WriteOne, WriteTwo, WriteGone}
+use Rattle.effect.specs.declared.effect.Write.the-variants.{NoWrite, WriteOne, WriteTwo}
 use Rattle.effect.specs.declared.registers.Areas.{Areas}
 use Rattle.effect.specs.declared.registers.Registers.{Registers}
-use Rattle.effect.specs.Program.{program, framesStart}
+use Rattle.effect.specs.Program.{program}
 use Rattle.effect.specs.Memory.{read, live, protects}
-use Rattle.effect.specs.Words.{pushes, moved, sized, raised, called, returned}
-use Rattle.effect.specs.Data.{baseOf, loaded, stored, loadFrom, addressOf, storeTo, valued, inverted, allocated, freed}
+use Rattle.effect.specs.Words.{pushes, moved, called}
+use Rattle.effect.specs.Data.{baseOf, loaded, loadFrom, addressOf, storeTo, valued, inverted, allocated, freed}
 use Rattle.control.specs.Control.{jumped, jumps, jumpsIfFalse, jumpsKeeping, beyond, iterates, nextSum, wentRound, summed, repeats, switches, searches, calls, enters, returns}
 use Rattle.execute.specs.Depth.{top}
 use Rattle.execute.specs.Execute.{execute}
-use Rattle.machine.specs.Step.{After, after, trapping, advanced, written, pushed, settled, performed, stepOf}
+use Rattle.machine.specs.Step.{After, after, written, pushed, settled, performed, stepOf}
 use Rattle.machine.specs.declared.step.Machine.{Machine}
 use Rattle.machine.specs.declared.step.Outcome.{Outcome}
 use Rattle.machine.proofs.Fitting.{Fitting}

@@ -19,10 +19,10 @@ use Rattle.machine.specs.declared.step.Machine.{Machine}
 use Rattle.machine.specs.declared.step.Stepped.{Stepped}
 use Rattle.machine.specs.declared.step.Outcome.the-variants.{Went, Finished, Trapped}
 use Rattle.machine.specs.declared.run.End.the-variants.{Finished as finish, Spent, Trapped as stop}
-use Rattle.machine.specs.Step.{After, after, stepOf}
+use Rattle.machine.specs.Step.{after, stepOf}
 use Rattle.machine.specs.Fits.{fits}
-use Rattle.machine.specs.Run.{Result, ran, result, machine, proceed, runFrom, runNumber, runOf}
-use Rattle.machine.proofs.Fitting.{Fitting, fitting, fitted}
+use Rattle.machine.specs.Run.{ran, result, machine, proceed, runFrom, runNumber, runOf}
+use Rattle.machine.proofs.Fitting.{fitting, fitted}
 use Rattle.machine.proofs.Preserved.{Holds, step-holds}
 use Rattle.machine.proofs.Loading.{sound-header, refused-number}
 

@@ -1,5 +1,5 @@
 -- Words stored one after the other: past the end nothing, at the end of a list one more, and in the second part of a list.
-use Prim.Native.Nat.{ℕ, zero, suc, _+_, _-_, _≤_, _<_}
+use Prim.Native.Nat.{ℕ, suc, _+_, _-_, _≤_, _<_}
 use mathlib.Core.Path.{_≡_, _∙_, refl, sym, ap}
 use mathlib.Core.List.{List, [], _∷_, _++_, append-nil}
 use native.Mathlib.Nat.{zero-add, suc-add, add-suc, add-zero}
@@ -40,9 +40,9 @@ sets-one-more d s i h =
     rw (add-one i, take-suc s i 0 h, sets-snoc d 0 (take i s) (getD s i 0), e)
 
 -- What stores into the part from a on, lent and given back, make of the list.
-pub sets-lent : (m : List ℕ) (a : ℕ) (vs p : List ℕ) → a ≤ length m → p ≡ sets (take (length m - a) (drop a m)) 0 vs
+pub sets-within : (m : List ℕ) (a : ℕ) (vs p : List ℕ) → a ≤ length m → p ≡ sets (take (length m - a) (drop a m)) 0 vs
     → take a m ++ (p ++ drop (length m - a) (drop a m)) ≡ sets m a vs
-sets-lent m a vs p h e =
+sets-within m a vs p h e =
     let none : drop (length m - a) (drop a m) ≡ [] = drop-of-length-le (drop a m) {i = length m - a} (simp length-drop (omega arith)) in
     let all : take (length m - a) (drop a m) ≡ drop a m = take-all (length m - a) (drop a m) (simp length-drop (omega arith)) in
     rw (none, e, all, append-nil) (sets-part m a vs h)

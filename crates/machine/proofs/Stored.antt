@@ -1,11 +1,11 @@
 -- A store to a word that is no link, at or past address 3, keeps header words and the chain of links.
 use Prim.Native.Nat.{ℕ, zero, suc, _+_, _-_, _≤_, _<_}
-use mathlib.Core.Path.{_≡_, _∙_, refl, sym}
+use mathlib.Core.Path.{_≡_, _∙_, refl}
 use mathlib.Core.Bool.{Bool, true, false, _||_}
 use mathlib.Core.List.{List, [], _∷_}
 use native.Mathlib.Omega.{arith}
 use lib.Dec.{eqb}
-use lib.ListN.{length, getD, set, length-set}
+use lib.ListN.{length, set, length-set}
 use lib.Seq.{sets, getD-set-other}
 use borrow.Author.Tests.{eqb-false}
 use Rattle.effect.specs.Memory.{read, savedFp, isLink, chained}

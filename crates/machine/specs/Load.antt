@@ -6,10 +6,10 @@ use Prim.Native.Nat.{ℕ, zero, suc, _+_, _-_}
 use lib.Dec.{eqb, leb}
 use lib.ListN.{length, replicate}
 use Rattle.words.specs.Bytes.{wordAt}
-use Rattle.words.specs.Refusal.{refusal, _when_}
+use Rattle.words.specs.Refusal.{_when_}
 use Rattle.header.specs.Header.{headerOf, constantsAt}
 use Rattle.entries.specs.Entries.{entryAt}
-use Rattle.record.specs.Number.{recordNumber}
+use Rattle.record.specs.Number.{afterRecord}
 use Rattle.effect.specs.declared.registers.Registers.{Registers}
 use Rattle.machine.specs.declared.load.Loaded.{Loaded}
 use Rattle.machine.specs.declared.load.Loaded.the-variants.{Refused, Ready}
@@ -42,9 +42,7 @@ startOf P =
 -- Numbers 1 to 8.
 unfoldable pub loadNumber : List ℕ → List ℕ → List ℕ → List ℕ → ℕ
 loadNumber r parameters m s =
-    cond (eqb (recordNumber r) 0)
-    (refusal (8 when not (leb (length parameters) (areasOf r .globals) && sizesTaken (areasOf r) m s) ∷ []))
-    (recordNumber r)
+    afterRecord r (8 when not (leb (length parameters) (areasOf r .globals) && sizesTaken (areasOf r) m s) ∷ [])
 
 -- What load answers, and the memory that it leaves. "Refused loads and runs change nothing." (Of the stack words "load writes
 -- none".)

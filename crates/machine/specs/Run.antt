@@ -4,8 +4,8 @@ use mathlib.Core.Bool.{cond, not}
 use mathlib.Core.List.{List, [], _∷_}
 use Prim.Native.Nat.{ℕ, zero, suc, _+_}
 use lib.Dec.{eqb}
-use Rattle.words.specs.Refusal.{refusal, _when_}
-use Rattle.record.specs.Number.{recordNumber}
+use Rattle.words.specs.Refusal.{_when_}
+use Rattle.record.specs.Number.{afterRecord}
 use Rattle.effect.specs.declared.registers.Registers.{Registers}
 use Rattle.machine.specs.declared.step.Machine.{Machine}
 use Rattle.machine.specs.declared.step.Outcome.{Outcome}
@@ -18,7 +18,7 @@ use Rattle.machine.specs.declared.run.Answer.the-variants.{Refused, Ende
 use Rattle.header.specs.Header.{codeOf}
 use Rattle.effect.specs.declared.registers.Areas.{Areas}
 use Rattle.effect.specs.Program.{areasOf}
-use Rattle.machine.specs.Step.{After, stepOf}
+use Rattle.machine.specs.Step.{stepOf}
 use Rattle.machine.specs.Fits.{fits}
 
 -- 01: "End is 0 finished, 1 spent, or the trap."
@@ -44,7 +44,7 @@ ended e m s = ran (Ended e) m s
 abbrev pub endedAt : End → ℕ → Machine → Ending
 endedAt ending steps M = record { ending = ending; steps = steps; registers = M .registers }
 
-abbrev pub result : End → ℕ → Machine → List ℕ → List ℕ → Result
+abbrev pub result : (ending : End) (steps : ℕ) (M : Machine) (m s : List ℕ) → Result
 result ending steps M m s = ended (endedAt ending steps M) m s
 
 abbrev pub machine : Areas → Registers → Machine
@@ -66,9 +66,9 @@ runFrom code (suc left) count M m s =
 -- "run [makes tests] 1 to 7 and then 24": "a state that does not fit".
 unfoldable pub runNumber : List ℕ → Registers → List ℕ → List ℕ → ℕ
 runNumber r q m s =
-    cond (eqb (recordNumber r) 0) (refusal (24 when not (fits (areasOf r) q m s) ∷ [])) (recordNumber r)
+    afterRecord r (24 when not (fits (areasOf r) q m s) ∷ [])
 
-unfoldable pub runOf : List ℕ → ℕ → Registers → List ℕ → List ℕ → Result
+unfoldable pub runOf : (r : List ℕ) (budget : ℕ) (q : Registers) (m s : List ℕ) → Result
 runOf r budget q m s =
     cond (eqb (runNumber r q m s) 0) (runFrom (codeOf r) budget 0 (machine (areasOf r) q) m s)
     (ran (Refused (runNumber r q m s)) m s)

@@ -1,6 +1,6 @@
 // Signed and unsigned arithmetic on words: x and then y were pushed.
 ghost use mathlib.Core.Path.{_≡_};
-ghost use Rattle.operate.specs.Arithmetic.{signedNumber, modZ, signedValue, unsignedValue, negatedValue};
+ghost use Rattle.operate.specs.Arithmetic.{signedValue, unsignedValue, negatedValue};
 ghost use lib.IntN.{pos};
 ghost use Rattle.operate.specs.Value.{unsignedWord};
 use crate::Value;

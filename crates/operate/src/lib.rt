@@ -1,6 +1,5 @@
 // The operations on words: a word, or the trap that stands in its place.
 ghost use mathlib.Core.Path.{_≡_};
-ghost use lib.IntN.{ℤ};
 ghost use Rattle.operate.specs.Value.{signedWord, truthOf};
 
 pub mod arithmetic;

@@ -4,7 +4,7 @@ use mathlib.Core.List.{List, [], _∷_}
 use Prim.Native.Nat.{ℕ}
 use lib.Dec.{ltb, eqb}
 use lib.ListN.{length}
-use Rattle.words.specs.Refusal.{refusal, _when_}
+use Rattle.words.specs.Refusal.{Test, refusal, _when_}
 use Rattle.header.specs.Header.{headerOf, sizesFit, recordLength, codeOf}
 use Rattle.version.specs.Version.{versionSound}
 use Rattle.source.specs.Source.{sourceSound, lineAt}
@@ -28,6 +28,10 @@ recordNumber r =
     ∷ 6 when not (sourceSound r h)
     ∷ 7 when not (entriesSound (codeOf r))
     ∷ [])
+
+-- The tests that a call makes after those of the record.
+abbrev pub afterRecord : List ℕ → List Test → ℕ
+afterRecord r tests = cond (eqb (recordNumber r) 0) (refusal tests) (recordNumber r)
 
 unfoldable pub readingOf : List ℕ → Reading
 readingOf r = cond (eqb (recordNumber r) 0) (Sound (headerOf r)) (Refused (recordNumber r))

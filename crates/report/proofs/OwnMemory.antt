@@ -1,13 +1,13 @@
 -- Over zeros, what the code prints is what the definition does: the part of a larger memory is as many zeros, and a stack of over 1,024
 -- words, which the code does not have, is the load's 8 once the check has accepted.
-use mathlib.Core.Bool.{Bool, true, false, cond, not, _&&_}
+use mathlib.Core.Bool.{Bool, true, false, _&&_}
 use mathlib.Core.List.{List, _∷_}
-use mathlib.Core.Path.{_≡_, refl, sym, _∙_, ap}
-use Prim.Native.Nat.{ℕ, zero, suc, _+_, _≤_, _<_}
+use mathlib.Core.Path.{_≡_, refl, _∙_, ap}
+use Prim.Native.Nat.{ℕ, zero, suc, _≤_, _<_}
 use native.Mathlib.Omega.{arith}
-use borrow.Author.Tests.{eqb-true, leb-true, leb-false, lt-leb}
-use lib.Dec.{eqb, leb, eqb·suc-zero}
-use lib.ListN.{length, take, drop, replicate, length-replicate}
+use borrow.Author.Tests.{leb-true, leb-false, lt-leb}
+use lib.Dec.{leb, eqb·suc-zero}
+use lib.ListN.{length, take, length-replicate}
 use Rattle.record.specs.Number.{recordNumber}
 use Rattle.effect.specs.Program.{areasOf, framesStart}
 use Rattle.machine.specs.Fits.{sizesTaken}

@@ -1,8 +1,8 @@
 -- What check, load and run answer and leave is what the page shows, with the rest of memory and stack beside it: each definition is
 -- opened once, and the rest is projections.
-use mathlib.Core.Bool.{Bool, true, false, _&&_}
+use mathlib.Core.Bool.{true, false, _&&_}
 use mathlib.Core.List.{List, _++_}
-use mathlib.Core.Path.{_≡_, refl, sym, _∙_, ap}
+use mathlib.Core.Path.{_≡_, refl, _∙_, ap}
 use Prim.Native.Nat.{ℕ, _+_, _≤_, _<_}
 use native.Mathlib.Omega.{arith}
 use borrow.Author.Tests.{le-leb, lt-leb, leb-true}
@@ -18,7 +18,7 @@ use Rattle.text.specs.Text.{checkLine}
 use Rattle.run_file.specs.RunFile.{resultsCount, parametersCount, recordAt, named, resultsOf, parametersOf, budgetOf, memoryWords, stackWords, recordOf, wellFormed}
 use Rattle.run_file.proofs.Words.{parameters-part}
 use Rattle.report.specs.Report.{answerText, reported, printed}
-use Rattle.report.specs.Buffers.{Page, ranPage, partPage, pageOf, orEight, Leaving, leaving, delivered, reportOf}
+use Rattle.report.specs.Buffers.{ranPage, partPage, pageOf, orEight, Leaving, leaving, delivered, reportOf}
 use Rattle.report.proofs.Printing.{answer-fits}
 
 pub ran : (f w₀ ps m₀ s₀ out₀ : List ℕ) {r results : List ℕ} {budget n : ℕ} {a : Answer} {w m s out : List ℕ} → r ≡ recordOf f → results ≡ resultsOf f

@@ -22,7 +22,7 @@ abbrev pub page : List ℕ → List ℕ → List ℕ → List ℕ → Page
 page t w m s = record { text = t; workspace = w; memory = m; stack = s }
 
 -- With just the memory and the stack that it asks for, and the parameters that it gives.
-unfoldable pub ranPage : List ℕ → List ℕ → List ℕ → List ℕ → List ℕ → Page
+unfoldable pub ranPage : (f w ps m s : List ℕ) → Page
 ranPage f w ps m s =
     let r = recordOf f in
     let j = joinedOf r (resultsOf f) w ps (budgetOf f) m s in
@@ -59,7 +59,7 @@ pub record Leaving : Type 0 where
   pub memory : List ℕ
   pub stack : List ℕ
 
-abbrev pub leaving : ℕ → List ℕ → List ℕ → List ℕ → List ℕ → Leaving
+abbrev pub leaving : (n : ℕ) (out w m s : List ℕ) → Leaving
 leaving n out w m s = record { answer = n; out = out; workspace = w; memory = m; stack = s }
 
 abbrev pub delivered : Page → List ℕ → Leaving
@@ -67,5 +67,5 @@ delivered p out =
     let r = printed (p .text) out in
     leaving (r .answer) (r .out) (p .workspace) (p .memory) (p .stack)
 
-unfoldable pub reportOf : List ℕ → List ℕ → List ℕ → List ℕ → List ℕ → Leaving
+unfoldable pub reportOf : (f w m s out : List ℕ) → Leaving
 reportOf f w m s out = delivered (pageOf f w m s) out

@@ -1,7 +1,7 @@
 -- The run file. 01: "A run file is "TRK", version 1 in 16 bits, a count byte and the results list, a count byte and parameter words,
 -- budget (32 bits), memory words (16), stack words (16), then the record; 8,192 bytes in all, memory to 4,096 words, all numbers
 -- highest byte first."
-use mathlib.Core.Bool.{Bool, not, _&&_}
+use mathlib.Core.Bool.{Bool, _&&_}
 use mathlib.Core.List.{List}
 use Prim.Native.Nat.{ℕ, _+_, _*_}
 use lib.Dec.{eqb, leb}

@@ -30,7 +30,7 @@ use Rattle.safety.proofs.Below.{step-unread}
 use Rattle.safety.proofs.Effects.{Framing}
 use Rattle.safety.proofs.Frames.{Did, performed-did, frames-kept}
 use Rattle.safety.proofs.Slots.{slots-kept}
-use Rattle.safety.proofs.Pictures.{Checked, Pictured, pictured}
+use Rattle.safety.proofs.Places.{Checked, AtPlace, placed}
 use Rattle.safety.proofs.Suspending.{suspended-kept, Placed, returns-inside, returned-placed, called-placed}
 
 module _ (M : Module) (C : Checked M) (A : Areas) (c : Configuration) (I : Inv M A c) where
@@ -38,8 +38,8 @@ module _ (M : Module) (C : Checked M) (A : Areas) (c : Configuration) (I : Inv M
   q = registersOf c
 
   -- What is about to be done.
-  pub at-place : Pictured M (running (c .calls)) (q .pc) (I .slots)
-  at-place = pictured M C (running (c .calls)) (I .procedure) (q .pc) (I .slots) (I .reached)
+  pub at-place : AtPlace M (running (c .calls)) (q .pc) (I .slots)
+  at-place = placed M C (running (c .calls)) (I .procedure) (q .pc) (I .slots) (I .reached)
 
   abbrev i : Instruction
   i = at-place .instruction

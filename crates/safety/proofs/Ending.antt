@@ -30,7 +30,7 @@ use Rattle.machine.specs.Step.{After, after, settled, performed, stepOf}
 use Rattle.safety.specs.Active.{Configuration, stepOn, advance, Visits, at-first, one-more}
 use Rattle.safety.specs.Demand3.{Proper, finished, spent, data-trap, loadedConfiguration, Ends, Claim}
 use Rattle.safety.proofs.Parts.{Inv, DataTrap, data-trapped, Steps}
-use Rattle.safety.proofs.Pictures.{Checked, checked}
+use Rattle.safety.proofs.Places.{Checked, checked}
 use Rattle.safety.proofs.Advancing.{at-place, steps}
 use Rattle.safety.proofs.Throughout.{keeps, at-load, run-safe}
 

@@ -12,7 +12,7 @@ use Rattle.effect.specs.Program.{areasOf, programOf}
 use Rattle.verifier.proofs.Ranges.{record-range}
 use Rattle.verifier.proofs.Accepting.{check-range}
 use Rattle.verifier.specs.Check.{Checking, checking, checkOf}
-use Rattle.verifier.specs.Exact.{Bytes}
+use Rattle.words.specs.Bytes.{Bytes}
 use Rattle.effect.specs.declared.registers.Registers.{Registers}
 use Rattle.machine.specs.declared.load.Loaded.{Loaded}
 use Rattle.machine.specs.declared.load.Loaded.the-variants.{Refused as NotLoaded, Ready}

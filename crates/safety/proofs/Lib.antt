@@ -14,7 +14,7 @@ pub mod Jumping
 pub mod Tables
 pub mod Labels
 pub mod Slots
-pub mod Pictures
+pub mod Places
 pub mod Loaded
 pub mod Suspending
 pub mod Advancing

@@ -1,7 +1,7 @@
 -- The invariant of a run of accepted code, and the statements that its proof is made of.
 use mathlib.Core.Bool.{true}
 use mathlib.Core.List.{List, [], _∷_}
-use mathlib.Core.Option.{Option, some}
+use mathlib.Core.Option.{some}
 use mathlib.Core.Path.{_≡_}
 use Prim.Native.Nat.{ℕ, _≤_, _<_, _+_, _-_}
 use lib.ListN.{length}
@@ -17,13 +17,13 @@ use Rattle.effect.specs.Memory.{read}
 use Rattle.effect.specs.Program.{framesStart}
 use Rattle.effect.specs.declared.registers.Areas.{Areas}
 use Rattle.effect.specs.declared.registers.Registers.{Registers}
-use Rattle.stackmap.specs.Slots.{Slot, word, pushWords, popWords}
-use Rattle.stackmap.specs.Ways.{Module, Way, parametersOf, resultsOf, isLoop, ways}
+use Rattle.stackmap.specs.Slots.{Slot, pushWords}
+use Rattle.stackmap.specs.Ways.{Module, Way, resultsOf, ways}
 use Rattle.stackmap.specs.StackMap.{Reached, Among}
 use Rattle.machine.specs.declared.step.Outcome.{Outcome}
 use Rattle.machine.specs.declared.step.Outcome.the-variants.{Went, Finished, Trapped}
 use Rattle.machine.specs.Fits.{fits}
-use Rattle.safety.specs.Active.{Call, running, shareOf, Configuration, callsAfter, stepOn, advance}
+use Rattle.safety.specs.Active.{Call, running, shareOf, Configuration, stepOn, advance}
 use Rattle.safety.specs.Demand3.{Holds, SameFrom, Unread}
 
 abbrev pub registersOf : Configuration → Registers

@@ -1,11 +1,11 @@
 -- The words of a share while words go and come on top of it: labels lie below where words are put, so they stay.
 use mathlib.Core.List.{List, [], _∷_}
 use mathlib.Core.Option.{none, some}
-use mathlib.Core.Path.{_≡_, refl, _∙_}
+use mathlib.Core.Path.{_≡_, _∙_}
 use Prim.Native.Nat.{ℕ, zero, suc, _+_, _≤_, _<_}
 use native.Mathlib.Omega.{arith}
-use lib.ListN.{length, getD, set}
-use lib.Seq.{sets, getD-set-other, getD-set-same}
+use lib.ListN.{length, getD}
+use lib.Seq.{sets, getD-set-same}
 use Rattle.stackmap.specs.Slots.{Slot, word, label, pushWords, popWords, dropSlots}
 use Rattle.stackmap.specs.Ways.{labelWord}
 use Rattle.machine.proofs.Stored.{sets-under}

@@ -19,7 +19,7 @@ use Rattle.safety.proofs.Parts.{Framed, no-frame, a-frame, Suspended, n
 use Rattle.stackmap.proofs.Pushing.{pushed-height}
 use Rattle.safety.proofs.Sharing.{nothing, under, popped-drops, holds-words}
 use Rattle.safety.proofs.Moving.{Taken, taken, among-taken}
-use Rattle.safety.proofs.Pictures.{Checked, reached-inside}
+use Rattle.safety.proofs.Places.{Checked, reached-inside}
 
 -- Slots look at the words of their share alone.
 holds-kept : {code s : List ℕ} {bottom : ℕ} {l : List Slot} (s' : List ℕ) → ((i : ℕ) → i < bottom + length l → getD s' i 0 ≡ getD s i 0)

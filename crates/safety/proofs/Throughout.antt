@@ -9,7 +9,8 @@ use Rattle.effect.specs.Memory.{read}
 use Rattle.effect.specs.Program.{areasOf, constantsStart, framesStart}
 use Rattle.stackmap.specs.Ways.{Module}
 use Rattle.verifier.specs.Check.{checkOf}
-use Rattle.verifier.specs.Exact.{Bytes, Ruled, subject}
+use Rattle.words.specs.Bytes.{Bytes}
+use Rattle.verifier.specs.Exact.{Ruled, subject}
 use Rattle.verifier.proofs.Exactly.{shows-reached}
 use Rattle.machine.specs.declared.load.Loaded.the-variants.{Ready}
 use Rattle.machine.specs.Load.{loadOf}
@@ -17,7 +18,7 @@ use Rattle.safety.specs.Active.{Call, running, Configuration, Visits, at
 use Rattle.safety.specs.Demand3.{Linked, no-link, a-link, Safe, loadedConfiguration}
 use Rattle.safety.proofs.Parts.{registersOf, Framed, no-frame, a-frame, Inv}
 use Rattle.safety.proofs.AsLoaded.{header-kept, constants-kept}
-use Rattle.safety.proofs.Pictures.{Checked, checked}
+use Rattle.safety.proofs.Places.{Checked, checked}
 use Rattle.safety.proofs.Loaded.{loaded-holds}
 use Rattle.safety.proofs.Advancing.{unread, advances}
 
@@ -65,7 +66,7 @@ module _ (r results w parameters m s : List ℕ) (q : Registers) (b : Bytes r) (
         procedure = i .procedure;
         active = i .counted;
         slots = i .slots;
-        pictured = i .reached;
+        placed = i .reached;
         height = i .height;
         labels = i .holds;
         shown = shows-reached r results w b accepted R (running (c .calls)) (i .procedure) (registersOf c .pc) (i .slots) (i .reached);

@@ -41,7 +41,7 @@ pub record Configuration : Type 0 where
   pub stack : List ℕ
   pub calls : List Call
 
-abbrev pub begun : Module → Registers → ℕ → ℕ → List Call → List Call
+abbrev pub begun : (M : Module) (q : Registers) (p next : ℕ) (calls : List Call) → List Call
 begun M q p next calls =
     record {
       procedure = p;

@@ -1,5 +1,5 @@
--- Demand 3, as the letter words it: each field of `Ends` and `Safe` is one of its sentences. 01: "Demand 3 is a single claim about all
--- states of a run, from the one loaded to the last".
+-- Demand 3, as the letter words it: each clause of the letter is a field of `Ends` or `Safe`; the other fields say what it is about.
+-- 01: "Demand 3 is a single claim about all states of a run, from the one loaded to the last".
 use mathlib.Core.List.{List, [], _∷_}
 use mathlib.Core.Path.{_≡_}
 use Prim.Native.Nat.{ℕ, _≤_, _<_, _+_}
@@ -12,7 +12,8 @@ use Rattle.stackmap.specs.Slots.{Slot, word, label}
 use Rattle.stackmap.specs.Ways.{Module, labelWord}
 use Rattle.stackmap.specs.StackMap.{Reached}
 use Rattle.verifier.specs.Check.{checkOf}
-use Rattle.verifier.specs.Exact.{Bytes, Ruled, subject, Shows}
+use Rattle.words.specs.Bytes.{Bytes}
+use Rattle.verifier.specs.Exact.{Ruled, subject, Shows}
 use Rattle.machine.specs.declared.load.Loaded.the-variants.{Ready}
 use Rattle.machine.specs.declared.run.End.{End}
 use Rattle.machine.specs.declared.run.End.the-variants.{Finished, Spent, Trapped}
@@ -59,9 +60,10 @@ pub record Safe (r : List ℕ) (M : Module) (w m0 : List ℕ) (c : Configuration
   -- are as many as the machine counts.
   pub procedure : running (c .calls) < entryCount (M .code)
   pub active : length (c .calls) ≡ c .machine .registers .calls
-  -- "the place is one that the running procedure's stack picture has"
+  -- "the place is one that the running procedure's stack picture has": what is reached has one list there (stackmap/specs/Theorems,
+  -- `HasReached`).
   pub slots : List Slot
-  pub pictured : Reached M (running (c .calls)) (c .machine .registers .pc) slots
+  pub placed : Reached M (running (c .calls)) (c .machine .registers .pc) slots
   -- "That procedure's share of the stack has exactly the height and labels of the picture there"
   pub height : c .machine .registers .height ≡ shareOf (c .calls) + length slots
   pub labels : Holds (M .code) (c .stack) (shareOf (c .calls)) slots

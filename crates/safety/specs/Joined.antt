@@ -5,7 +5,7 @@ use mathlib.Core.Path.{_≡_}
 use Prim.Native.Nat.{ℕ, _≤_}
 use lib.Dec.{eqb}
 use Rattle.verifier.specs.Check.{checkOf}
-use Rattle.verifier.specs.Exact.{Bytes}
+use Rattle.words.specs.Bytes.{Bytes}
 use Rattle.machine.specs.declared.load.Loaded.{Loaded}
 use Rattle.machine.specs.declared.load.Loaded.the-variants.{Refused as NotLoaded, Ready}
 use Rattle.machine.specs.declared.run.Answer.{Answer}
@@ -31,7 +31,7 @@ abbrev pub thenLoad : List ℕ → ℕ → List ℕ → List ℕ → Loaded → 
 thenLoad r budget w s (NotLoaded n) m = joined (Refused n) w m s
 thenLoad r budget w s (Ready q) m = thenRun w (runOf r budget q m s)
 
-unfoldable pub joinedOf : List ℕ → List ℕ → List ℕ → List ℕ → ℕ → List ℕ → List ℕ → Joined
+unfoldable pub joinedOf : (r results w parameters : List ℕ) (budget : ℕ) (m s : List ℕ) → Joined
 joinedOf r results w parameters budget m s =
     let c = checkOf r results w in
     let l = loadOf r parameters m s in

@@ -1,7 +1,7 @@
 -- At first the entries wait with their parameter words, and no other offset has a list: marks name one procedure an offset, so that
 -- different procedures have different entries.
-use mathlib.Core.Bool.{Bool, true, false, cond}
-use mathlib.Core.List.{List, []}
+use mathlib.Core.Bool.{Bool, true, false}
+use mathlib.Core.List.{List}
 use mathlib.Core.Option.{some}
 use mathlib.Core.Path.{_≡_, refl, sym, _∙_}
 use Prim.Native.Nat.{ℕ, zero, suc, _+_, _-_, _≤_, _<_}
@@ -12,7 +12,7 @@ use borrow.Author.Tests.{eqb-true, eqb-false}
 use Rattle.words.specs.Bytes.{byteAt}
 use Rattle.entries.specs.Entries.{entryAt, entryCount}
 use Rattle.layout.specs.Cut.{updated}
-use Rattle.stackmap.specs.Slots.{Slot, pushWords}
+use Rattle.stackmap.specs.Slots.{Slot}
 use Rattle.stackmap.specs.Ways.{Module, parametersOf}
 use Rattle.stackmap.specs.StackMap.{firstSlots, entered}
 use Rattle.stackmap.specs.Walk.{blank, waiting, done, States, mapOf, entriesWait}

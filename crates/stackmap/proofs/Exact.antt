@@ -15,7 +15,7 @@ use Rattle.stackmap.specs.Theorems.{Sound, mapIn, FindsMaps, RefutesMaps
 use Rattle.stackmap.proofs.Counts.{undone-most}
 use Rattle.stackmap.proofs.Reaching.{reached-in}
 use Rattle.stackmap.proofs.Placing.{owner, owned, in-given, in-told}
-use Rattle.stackmap.proofs.Handing.{Ends, broken, went, ends-map, ends-some}
+use Rattle.stackmap.proofs.Handing.{Ends, broken, ends-map, ends-some}
 use Rattle.stackmap.proofs.Walking.{Good, Refuted, walking}
 use Rattle.stackmap.proofs.Entering.{atFirst, first-entered, first-has}
 

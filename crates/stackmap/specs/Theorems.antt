@@ -5,7 +5,7 @@ use mathlib.Core.Option.{none, some}
 use mathlib.Core.Path.{_≡_}
 use Prim.Native.Nat.{ℕ, _≤_, _<_}
 use lib.ListN.{length}
-use Rattle.words.specs.Bytes.{byteAt}
+use Rattle.words.specs.Bytes.{Bytes}
 use Rattle.entries.specs.Entries.{entryAt, entryCount}
 use Rattle.layout.specs.Cut.{startsIn}
 use Rattle.stackmap.specs.Slots.{Slot}
@@ -19,7 +19,7 @@ pub record Sound (M : Module) : Type 0 where
   pub entries : (p : ℕ) → p < entryCount (M .code) → startsIn (M .marks) p (entryAt (M .code) p) ≡ true
   pub procedures : (p at : ℕ) → startsIn (M .marks) p at ≡ true → p < entryCount (M .code)
   pub within : (p at : ℕ) → startsIn (M .marks) p at ≡ true → at < length (M .code)
-  pub bytes : (i : ℕ) → byteAt (M .code) i ≤ 255
+  pub bytes : Bytes (M .code)
 
 -- The part of what the walk found that lies in procedure p's region.
 abbrev pub mapIn : Module → ℕ → States → Map

@@ -1,29 +1,18 @@
--- The check accepts exactly what its rules say, and shows what is reached: its verdict is the walk's, which stackmap's theorems tell.
-use mathlib.Core.Bool.{Bool, true, false, cond}
-use mathlib.Core.List.{List, _++_}
+-- The check's answer by cases: a number of 1 to 9, the cut, 12 to 14, the walk; and that it is at most 15.
+use mathlib.Core.List.{List}
 use mathlib.Core.Option.{Option, none, some}
-use mathlib.Core.Path.{_≡_, _∙_, refl, sym, ap}
-use Prim.Native.Nat.{ℕ, zero, suc, _+_, _*_, _<_, _≤_}
+use mathlib.Core.Path.{_≡_, refl}
+use Prim.Native.Nat.{ℕ, zero, suc, _≤_}
 use native.Mathlib.Omega.{arith}
-use lib.Dec.{eqb, eqb·suc-zero}
-use lib.ListN.{length, getD, drop, List·getD-append}
-use borrow.Author.Tests.{eqb-true, eqb-false, eq-eqb}
+use lib.Dec.{eqb·suc-zero}
+use lib.ListN.{length}
 use Rattle.header.specs.Header.{codeOf}
-use Rattle.entries.specs.Entries.{entryCount}
-use Rattle.record.specs.Number.{recordNumber}
-use Rattle.layout.specs.Cut.{Marks, Cut, bad, cut, cutOf, startsIn}
+use Rattle.layout.specs.Cut.{Marks, Cut, bad, cut, cutOf}
 use Rattle.layout.specs.Faults.{codeNumber}
-use Rattle.stackmap.specs.Slots.{Slot}
-use Rattle.stackmap.specs.StackMap.{Map, IsMap, Reached}
-use Rattle.stackmap.specs.Theorems.{Sound, mapIn}
-use Rattle.stackmap.specs.Walk.{State, States, mapOf, slotsIn, blank, waiting, done, walkOf}
-use Rattle.verifier.specs.Check.{resultsSound, listNumber, moduleOf, Verdict, refuted, accepted, walked, examined, verdictOf, checking, concluded, shownState, shownFrom, checkOf}
-use Rattle.verifier.specs.Exact.{Bytes, Ruled, subject, Mapped, Room, AcceptsOnly, AcceptsAll, RefusesOnly, Shows, ShowsReached}
+use Rattle.stackmap.specs.Walk.{States, walkOf}
+use Rattle.verifier.specs.Check.{listNumber, moduleOf, refuted, accepted, verdictOf, checking, concluded, checkOf}
 use Rattle.verifier.proofs.Ranges.{list-range, code-range, cut-range}
-use Rattle.record.proofs.Sound.{numberless}
-use Rattle.verifier.proofs.Records.{Listed, listed, code-bytes}
-use Rattle.verifier.proofs.Concluding.{sound}
-use Rattle.verifier.proofs.Showing.{shown-at, shown-length}
+use Rattle.verifier.proofs.Records.{Listed, listed}
 
 -- What the check answers, by its verdict: a number of 1 to 9, or one from 10 on, or 0 with the lists found.
 pub data Answers (r results w : List ℕ) : Type 0 where

@@ -1,19 +1,17 @@
 -- Height and topmost label stand for a list of slots: what that means, and which workspace shows which lists. A label lies on the list
 -- that its origin found, so that the lists given so far and the two numbers determine a list.
-use mathlib.Core.Bool.{Bool, true, false}
+use mathlib.Core.Bool.{true, false}
 use mathlib.Core.List.{List, [], _∷_}
 use mathlib.Core.Option.{Option, none, some}
 use mathlib.Core.Path.{_≡_}
-use Prim.Native.Nat.{ℕ, _+_, _*_, _<_, _≤_}
+use Prim.Native.Nat.{ℕ, _+_, _*_}
 use lib.ListN.{length, getD}
 use Rattle.shape.specs.declared.Table.{Table}
-use Rattle.layout.specs.Cut.{startsIn}
 use Rattle.layout.specs.Successors.{selectTargets}
-use Rattle.layout.specs.Workspace.{marksIn}
 use Rattle.stackmap.specs.Slots.{Slot, word, label, popWords, topOrigin}
-use Rattle.stackmap.specs.Ways.{Module, Way, _gets_, isLoop, isSelect, toAll}
+use Rattle.stackmap.specs.Ways.{Way, _gets_, isLoop, isSelect, toAll}
 use Rattle.stackmap.specs.StackMap.{Map}
-use Rattle.stackmap.specs.Walk.{State, States, blank, waiting, done, mapOf}
+use Rattle.stackmap.specs.Walk.{State, blank, waiting, done}
 use Rattle.compact.specs.declared.top.Top.{Top}
 use Rattle.compact.specs.declared.ways.Way.{Way as Compact}
 use Rattle.compact.specs.declared.ways.Ways.{Ways}

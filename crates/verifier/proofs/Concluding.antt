@@ -1,6 +1,6 @@
 -- What the code finds for 10 to 15 is the verdict over whole lists: the marks are the cut, the walks go alike, and the workspace shows
 -- what was found.
-use mathlib.Core.Bool.{Bool, true, false, cond}
+use mathlib.Core.Bool.{true, cond}
 use mathlib.Core.List.{List, _++_, append-nil}
 use mathlib.Core.Option.{Option, none, some}
 use mathlib.Core.Path.{_≡_, _∙_, refl, sym, ap}

@@ -1,17 +1,16 @@
 -- The check accepts exactly the records that meet the rules and whose regions all have maps, gives 15 exactly where one has none, and
 -- shows what is reached.
-use mathlib.Core.Bool.{Bool, true, false, cond}
-use mathlib.Core.List.{List, _++_}
+use mathlib.Core.Bool.{Bool, true, false}
+use mathlib.Core.List.{List}
 use mathlib.Core.Logic.{_⊎_, inl, inr}
-use mathlib.Core.Option.{Option, none, some}
+use mathlib.Core.Option.{none, some}
 use mathlib.Core.Path.{_≡_, _∙_, refl, sym, ap, subst}
-use Prim.Native.Nat.{ℕ, zero, suc, _+_, _*_, _<_, _≤_}
+use Prim.Native.Nat.{ℕ, suc, _+_, _*_, _<_}
 use native.Mathlib.Omega.{arith}
-use lib.Dec.{eqb, ltb}
 use lib.ListN.{length, getD, drop, List·getD-append}
-use borrow.Author.Tests.{eq-eqb, le-ltb}
+use borrow.Author.Tests.{le-ltb}
 use Rattle.header.specs.Header.{codeOf}
-use Rattle.entries.specs.Entries.{entryCount, entriesSound}
+use Rattle.entries.specs.Entries.{entryCount}
 use Rattle.record.specs.Number.{recordNumber}
 use Rattle.layout.specs.Cut.{Marks, Cut, bad, cut, cutOf, startsIn}
 use Rattle.layout.specs.Faults.{codeNumber}
@@ -21,10 +20,11 @@ use Rattle.stackmap.specs.StackMap.{Map, IsMap, Reached}
 use Rattle.stackmap.specs.Theorems.{Sound, mapIn}
 use Rattle.stackmap.specs.Walk.{State, States, mapOf, slotsIn, blank, waiting, done, walkOf}
 use Rattle.stackmap.proofs.Exact.{finds-maps, refutes-maps, finds-reached, has-reached}
-use Rattle.verifier.specs.Check.{resultsSound, listNumber, moduleOf, refuted, accepted, verdictOf, checking, Checking, concluded, shownState, shownFrom, checkOf}
-use Rattle.verifier.specs.Exact.{Bytes, Ruled, subject, Mapped, Unmapped, Room, AcceptsOnly, AcceptsAll, RefusesOnly, RefusesAll, Shows, ShowsReached, ShowsNoMore}
+use Rattle.verifier.specs.Check.{listNumber, moduleOf, accepted, verdictOf, Checking, concluded, shownState, shownFrom, checkOf}
+use Rattle.words.specs.Bytes.{Bytes}
+use Rattle.verifier.specs.Exact.{Ruled, subject, Mapped, Unmapped, Room, AcceptsOnly, AcceptsAll, RefusesOnly, RefusesAll, Shows, ShowsReached, ShowsNoMore}
 use Rattle.record.proofs.Sound.{numberless}
-use Rattle.verifier.proofs.Records.{Listed, listed, code-bytes}
+use Rattle.verifier.proofs.Records.{Listed, code-bytes}
 use Rattle.verifier.proofs.Concluding.{sound}
 use Rattle.verifier.proofs.Starting.{not-given}
 use Rattle.verifier.proofs.Showing.{shown-at, shown-length}

@@ -11,7 +11,7 @@ use lib.Dec.{eqb, eqb·suc-zero, eqb·zero-suc, eqb·suc-suc}
 use lib.ListN.{length}
 use borrow.Author.Tests.{eqb-true, eq-eqb, ne-eqb}
 use Rattle.words.specs.Bytes.{byteAt}
-use Rattle.stackmap.specs.Slots.{Slot, word, label, pushWords, popWords, isWords, topOrigin}
+use Rattle.stackmap.specs.Slots.{Slot, word, label, popWords, isWords, topOrigin}
 use Rattle.stackmap.specs.Ways.{isLoop, isSelect}
 use Rattle.stackmap.specs.StackMap.{Map}
 use Rattle.compact.specs.Tops.{labelHeight, originUnder, labelled, lowered}

@@ -19,4 +19,4 @@ pub mod Ranges
 pub mod Exactly
 pub mod Steps
 pub mod Turning
-pub mod Lending
+pub mod Borrowing

@@ -6,7 +6,7 @@ use mathlib.Core.Path.{_≡_, refl, sym, ap}
 use Prim.Native.Nat.{ℕ, _+_, _<_}
 use native.Mathlib.Omega.{arith}
 use lib.ListN.{length}
-use Rattle.stackmap.specs.Slots.{Slot, word, label, topOrigin}
+use Rattle.stackmap.specs.Slots.{Slot, word, topOrigin}
 use Rattle.stackmap.specs.StackMap.{Map}
 use Rattle.stackmap.proofs.Updates.{not-both}
 use Rattle.verifier.proofs.Coherence.{Lies, on-loop, on-select, Coherent, on-nothing, on-word, on-label}

@@ -1,18 +1,16 @@
 -- What the numbers 8 and 9 being absent says, the room and the results list; and that the bytes of the code are bytes.
-use mathlib.Core.Bool.{Bool, true, false, cond, not, _&&_, false≢true}
+use mathlib.Core.Bool.{Bool, true, false, not}
 use mathlib.Core.List.{List, [], _∷_}
-use mathlib.Core.Path.{_≡_, _∙_, refl, sym}
+use mathlib.Core.Path.{_≡_, refl}
 use Prim.Native.Nat.{ℕ, _+_, _*_, _≤_}
 use native.Mathlib.Omega.{arith}
-use lib.Dec.{eqb, leb, ltb}
+use lib.Dec.{eqb, ltb}
 use lib.ListN.{length, getD, take, drop, length-take, List·getD-eq-default}
 use lib.Seq.{getD-take, getD-drop}
-use borrow.Author.Tests.{eqb-true, eqb-false, leb-true, ltb-true, ltb-false}
+use borrow.Author.Tests.{eqb-true, eqb-false, ltb-true, ltb-false}
+use Rattle.words.specs.Bytes.{Bytes}
 use Rattle.words.specs.Refusal.{refusal, _when_}
-use Rattle.header.specs.Header.{headerOf, sizesFit, recordLength, codeAt, codeOf}
-use Rattle.version.specs.Version.{versionSound}
-use Rattle.source.specs.Source.{sourceSound}
-use Rattle.entries.specs.Entries.{entriesSound}
+use Rattle.header.specs.Header.{headerOf, codeAt, codeOf}
 use Rattle.record.specs.Number.{recordNumber}
 use Rattle.record.proofs.Sound.{passes, unless}
 use Rattle.verifier.specs.Check.{resultsSound, listNumber}
@@ -39,7 +37,7 @@ listed r results room e = by (eqb (recordNumber r) 0) refl
     by false q = absurd (eqb-false (recordNumber r) 0 q (rw q at e))
 
 -- The bytes of the code are bytes of the record.
-pub code-bytes : (r : List ℕ) → ((i : ℕ) → getD r i 0 ≤ 255) → (i : ℕ) → getD (codeOf r) i 0 ≤ 255
+pub code-bytes : (r : List ℕ) → Bytes r → Bytes (codeOf r)
 unfolding codeOf
 code-bytes r b i = by (ltb i (headerOf r .code)) refl
   where

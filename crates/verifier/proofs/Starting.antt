@@ -1,16 +1,16 @@
 -- At first the entries wait on both sides: their lists are words, which are coherent whatever else is given.
 use mathlib.Core.List.{List, []}
 use mathlib.Core.Option.{Option, none, some}
-use mathlib.Core.Path.{_≡_, refl}
+use mathlib.Core.Path.{_≡_}
 use Prim.Native.Nat.{ℕ, zero, suc, _+_, _-_, _*_, _<_, _≤_}
 use native.Mathlib.Omega.{arith}
 use lib.ListN.{length, getD}
 use Rattle.entries.specs.Entries.{entryAt, entryCount}
 use Rattle.layout.specs.Cut.{updated}
 use Rattle.layout.specs.Workspace.{marksIn}
-use Rattle.stackmap.specs.Slots.{Slot, pushWords, topOrigin}
+use Rattle.stackmap.specs.Slots.{Slot, pushWords}
 use Rattle.stackmap.specs.Ways.{Module, parametersOf}
-use Rattle.stackmap.specs.StackMap.{Map, firstSlots}
+use Rattle.stackmap.specs.StackMap.{Map}
 use Rattle.stackmap.specs.Walk.{blank, waiting, States, mapOf, entriesWait}
 use Rattle.stackmap.specs.Theorems.{Sound}
 use Rattle.stackmap.proofs.Entering.{entering}

@@ -19,7 +19,7 @@ use Rattle.stackmap.specs.Ways.{parametersIn}
 use Rattle.compact.specs.declared.top.Top.{Top}
 use Rattle.compact.specs.Ways.{way}
 use Rattle.verifier.specs.declared.hand.Handed.{Handed}
-use Rattle.verifier.specs.declared.hand.Handed.the-variants.{Stuck, From}
+use Rattle.verifier.specs.declared.hand.Handed.the-variants.{From}
 use Rattle.verifier.specs.Handing.{handing, thenHanding, handedTop, handedTargets, visitedTop, firstWaiting, walking, thenWalk, walkTop, entryGiven, entriesGiven}
 
 -- A place outside of the code has mark 0, which is no start's.

@@ -7,10 +7,10 @@ use mathlib.Core.Option.{Option, none, some}
 use Prim.Native.Nat.{ℕ, zero, suc, _+_, _*_}
 use lib.Dec.{eqb, leb, ltb}
 use lib.ListN.{length, getD, drop, replicate}
-use Rattle.words.specs.Refusal.{refusal, _when_}
+use Rattle.words.specs.Refusal.{_when_}
 use Rattle.header.specs.Header.{codeOf}
 use Rattle.entries.specs.Entries.{entryCount}
-use Rattle.record.specs.Number.{recordNumber}
+use Rattle.record.specs.Number.{afterRecord}
 use Rattle.layout.specs.Cut.{Marks, Cut, bad, cut, cutOf}
 use Rattle.layout.specs.Faults.{codeNumber}
 use Rattle.stackmap.specs.Slots.{Slot, topOrigin}
@@ -29,9 +29,7 @@ resultsSound code results =
 -- Numbers 1 to 9 for a workspace of so many halfwords; 8: "workspace under four halfwords per code byte".
 unfoldable pub listNumber : List ℕ → List ℕ → ℕ → ℕ
 listNumber r results room =
-    cond (eqb (recordNumber r) 0)
-    (refusal (8 when ltb room (4 * length (codeOf r)) ∷ 9 when not (resultsSound (codeOf r) results) ∷ []))
-    (recordNumber r)
+    afterRecord r (8 when ltb room (4 * length (codeOf r)) ∷ 9 when not (resultsSound (codeOf r) results) ∷ [])
 
 abbrev pub moduleOf : List ℕ → List ℕ → Marks → Module
 moduleOf code results marks = record { code = code; results = results; marks = marks }

@@ -5,6 +5,7 @@ use mathlib.Core.Logic.{_⊎_}
 use mathlib.Core.Path.{_≡_}
 use Prim.Native.Nat.{ℕ, _≤_, _<_, _+_, _*_}
 use lib.ListN.{length, getD}
+use Rattle.words.specs.Bytes.{Bytes}
 use Rattle.header.specs.Header.{codeOf}
 use Rattle.entries.specs.Entries.{entryCount}
 use Rattle.record.specs.Number.{recordNumber}
@@ -14,10 +15,6 @@ use Rattle.stackmap.specs.Slots.{Slot, topOrigin}
 use Rattle.stackmap.specs.Ways.{Module}
 use Rattle.stackmap.specs.StackMap.{Map, IsMap, Reached}
 use Rattle.verifier.specs.Check.{resultsSound, moduleOf, checkOf}
-
--- A list of bytes.
-abbrev pub Bytes : List ℕ → Type 0
-Bytes r = (i : ℕ) → getD r i 0 ≤ 255
 
 -- The rules up to 14: the record is sound, the results list fits, and the code is cut into instructions that are in order.
 pub record Ruled (r results : List ℕ) : Type 0 where

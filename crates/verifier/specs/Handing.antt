@@ -45,7 +45,7 @@ takenTop w a from =
     (cond (eqb (getD w (4 * a .place) 0) (a .height + 1) && eqb (getD w (4 * a .place + 1) 0) (a .origin)) (handing (From from) w)
     (handing Stuck w))
 
-unfoldable pub handedTop : ℕ → ℕ → Way → ℕ → List ℕ → Handing
+unfoldable pub handedTop : (size p : ℕ) (a : Way) (from : ℕ) (w : List ℕ) → Handing
 handedTop size p a from w =
     cond (startsIn (marksIn w size) p (a .place) && leb (a .height) 255) (takenTop w a from) (handing Stuck w)
 
@@ -53,7 +53,7 @@ abbrev pub thenHanding : (ℕ → List ℕ → Handing) → Handed → List ℕ 
 thenHanding go Stuck w = handing Stuck w
 thenHanding go (From from) w = go from w
 
-unfoldable pub handedTwo : ℕ → ℕ → Way → Way → ℕ → List ℕ → Handing
+unfoldable pub handedTwo : (size p : ℕ) (a b : Way) (from : ℕ) (w : List ℕ) → Handing
 handedTwo size p a b from w =
     let h = handedTop size p a from w in
     thenHanding (handedTop size p b) (h .answer) (h .workspace)
@@ -102,7 +102,7 @@ abbrev pub thenWalk : (ℕ → List ℕ → Walking) → Handed → List ℕ →
 thenWalk go Stuck w = walking false w
 thenWalk go (From from) w = go from w
 
-abbrev pub visitFirst : List ℕ → List ℕ → (ℕ → List ℕ → Walking) → ℕ → List ℕ → Walking
+abbrev pub visitFirst : (code results : List ℕ) (go : (ℕ → List ℕ → Walking)) (at : ℕ) (w : List ℕ) → Walking
 visitFirst code results go at w =
     cond (ltb at (length code)) (let h = visitedTop code results at w in thenWalk go (h .answer) (h .workspace)) (walking true w)
 

@@ -8,7 +8,7 @@ use lib.Seq.{take-nil}
 use borrow.Author.Needs.{needs}
 use Rattle.machine.proofs.step.move_words.Statement.{statement}
 use Rattle.words.proofs.Slices.{part-rest}
-use Rattle.machine.proofs.Sets.{sets-out, sets-lent}
+use Rattle.machine.proofs.Sets.{sets-out, sets-within}
 use Rattle.machine.proofs.step.move_words.Tie as tie
 
 returns : tie.Need-returns
@@ -51,7 +51,7 @@ same-length : tie.Need-same-length
 same-length c = search needs
 
 returns-3 : tie.Need-returns-3
-returns-3 c = rw (← part-rest (c .before .before .before .before .before .before .before .before .before .before .args .stack .now) (c .before .before .before .before .before .before .before .before .before .before .args .low) (c .before .before .before .before .before .before .before .before .before .before .args .n) (omega arith)) (sets-lent (c .before .before .before .before .before .before .before .before .before .before .args .memory .now) (c .before .before .before .before .before .before .before .before .before .before .args .a) (take (length (c .before .before .before .before .before .before .before .before .before .before .args .stack .now) - c .before .before .before .before .before .before .before .before .before .before .args .low) (drop (c .before .before .before .before .before .before .before .before .before .before .args .low) (c .before .before .before .before .before .before .before .before .before .before .args .stack .now))) (c .before .before .copy-words .last .0) (omega arith) (c .before .before .copy-words .ensures))
+returns-3 c = rw (← part-rest (c .before .before .before .before .before .before .before .before .before .before .args .stack .now) (c .before .before .before .before .before .before .before .before .before .before .args .low) (c .before .before .before .before .before .before .before .before .before .before .args .n) (omega arith)) (sets-within (c .before .before .before .before .before .before .before .before .before .before .args .memory .now) (c .before .before .before .before .before .before .before .before .before .before .args .a) (take (length (c .before .before .before .before .before .before .before .before .before .before .args .stack .now) - c .before .before .before .before .before .before .before .before .before .before .args .low) (drop (c .before .before .before .before .before .before .before .before .before .before .args .low) (c .before .before .before .before .before .before .before .before .before .before .args .stack .now))) (c .before .before .copy-words .last .0) (omega arith) (c .before .before .copy-words .ensures))
 
 mul-copy-words-3 : tie.Need-mul-copy-words-3
 mul-copy-words-3 c = search needs
@@ -85,7 +85,7 @@ same-length-2 c = search needs
 
 returns-4 : tie.Need-returns-4
 returns-4 c = let e : c .before .before .before .before .before .before .before .before .before .before .args .low + c .before .before .before .before .before .before .before .before .before .before .args .n - c .before .before .before .before .before .before .before .before .before .before .args .low ≡ c .before .before .before .before .before .before .before .before .before .before .args .n = omega arith in
-    rw (← e) (sets-lent (c .before .before .before .before .before .before .before .before .before .before .args .memory .now) (c .before .before .before .before .before .before .before .before .before .before .args .a) (take (c .before .before .before .before .before .before .before .before .before .before .args .low + c .before .before .before .before .before .before .before .before .before .before .args .n - c .before .before .before .before .before .before .before .before .before .before .args .low) (drop (c .before .before .before .before .before .before .before .before .before .before .args .low) (c .before .before .before .before .before .before .before .before .before .before .args .stack .now))) (c .before .before .copy-words2 .last .0) (omega arith) (c .before .before .copy-words2 .ensures))
+    rw (← e) (sets-within (c .before .before .before .before .before .before .before .before .before .before .args .memory .now) (c .before .before .before .before .before .before .before .before .before .before .args .a) (take (c .before .before .before .before .before .before .before .before .before .before .args .low + c .before .before .before .before .before .before .before .before .before .before .args .n - c .before .before .before .before .before .before .before .before .before .before .args .low) (drop (c .before .before .before .before .before .before .before .before .before .before .args .low) (c .before .before .before .before .before .before .before .before .before .before .args .stack .now))) (c .before .before .copy-words2 .last .0) (omega arith) (c .before .before .copy-words2 .ensures))
 
 pub move-words-spec : {M : Type 1} → statement M
 move-words-spec =

@@ -7,7 +7,7 @@ use borrow.Author.Needs.{needs}
 use borrow.Author.Tests.{ne-eqb}
 use Rattle.verifier.proofs.check.check.Statement.{statement}
 use Rattle.verifier.specs.Check.{checkOf}
-use Rattle.verifier.proofs.Lending.{room, small, lends}
+use Rattle.verifier.proofs.Borrowing.{room, small, lends}
 use Rattle.verifier.proofs.check.check.Tie as tie
 
 list-number-requires : tie.Need-list-number-requires

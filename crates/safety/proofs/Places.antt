@@ -26,7 +26,8 @@ use Rattle.stackmap.specs.Ways.{Module, Way, ways}
 use Rattle.stackmap.specs.StackMap.{waysAt, Map, Obeys, IsMap, Among, Reached, stepped}
 use Rattle.stackmap.proofs.Exact.{has-reached}
 use Rattle.verifier.specs.Check.{moduleOf, checkOf}
-use Rattle.verifier.specs.Exact.{Bytes, Ruled, subject}
+use Rattle.words.specs.Bytes.{Bytes}
+use Rattle.verifier.specs.Exact.{Ruled, subject}
 use Rattle.record.proofs.Sound.{numberless}
 use Rattle.verifier.proofs.Exactly.{accepts-only}
 
@@ -84,7 +85,7 @@ callee n d false true e f g = absurd (false≢true (sym g))
 callee n d false false e f g = (omega (arith, eqb-false d 0 e), leb-false n d f)
 
 -- What stands at a place that is reached with a list.
-pub record Pictured (M : Module) (p at : ℕ) (l : List Slot) : Type 0 where
+pub record AtPlace (M : Module) (p at : ℕ) (l : List Slot) : Type 0 where
   pub inside : at < length (M .code)
   pub instruction : Instruction
   pub next : ℕ
@@ -116,9 +117,9 @@ module _ (M : Module) (C : Checked M) (p : ℕ) (h : p < entryCount (M .code)) w
       let (low, high) = callee n d (eqb d 0) (leb n d) refl refl t in
       (low, high, C .cutted .inside d (entryAt (M .code) d) (C .cutted .entered d high))
 
-  pub pictured : (at : ℕ) (l : List Slot) → Reached M p at l → Pictured M p at l
+  pub placed : (at : ℕ) (l : List Slot) → Reached M p at l → AtPlace M p at l
   unfolding waysAt
-  pictured at l r =
+  placed at l r =
       let o = obeyed at l r in
       let (i, next, e) = C .cutted .decoded p at (o .start) in
       record {

@@ -1,15 +1,14 @@
 -- The check examines the code with just its part of the workspace, and what lies past it stays: this is the definition's answer.
 use mathlib.Core.List.{List, [], _++_, append-nil}
-use mathlib.Core.Path.{_≡_, _∙_, refl, sym, ap}
-use Prim.Native.Nat.{ℕ, _+_, _*_, _<_, _≤_, min}
+use mathlib.Core.Path.{_≡_, _∙_, ap}
+use Prim.Native.Nat.{ℕ, _+_, _*_, _<_, _≤_}
 use native.Mathlib.Omega.{arith}
-use lib.Dec.{eqb}
 use lib.ListN.{length, getD, take, drop, replicate, length-take, drop-of-length-le}
 use Rattle.header.specs.Header.{codeOf}
 use Rattle.verifier.specs.Check.{Verdict, refuted, accepted, verdictOf, listNumber, Checking, checking, concluded, shownFrom, checkOf}
 use Rattle.verifier.specs.Examine.{examinedTop}
 use Rattle.record.proofs.Sound.{numberless, sound-code}
-use Rattle.verifier.proofs.Records.{Listed, listed, code-bytes}
+use Rattle.verifier.proofs.Records.{listed, code-bytes}
 use Rattle.verifier.proofs.Concluding.{examined-concludes}
 
 part-length : (w : List ℕ) (n : ℕ) → n ≤ length w → length (take n w) ≡ n
