@@ -7,7 +7,7 @@ use Rattle.opcode.specs.Distance.{placeAt}
 use Rattle.shape.specs.declared.Shape.{Shape}
 use Rattle.shape.specs.declared.Shape.the-variants.{Straight, Drop, Goto, Branch, Keep, Loop, Again, Select, Exit, Invoke, Begin, Return}
 use Rattle.shape.specs.declared.Table.{Table}
-use Rattle.layout.specs.Successors.{exitLabel}
+use Rattle.successors.specs.Successors.{exitLabel}
 use Rattle.stackmap.specs.Ways.{isLoop, isSelect, parametersIn, resultsIn}
 use Rattle.compact.specs.declared.top.Top.{Top}
 use Rattle.compact.specs.declared.ways.Way.{Way}

@@ -5,7 +5,6 @@ ghost use Rattle.stackmap.specs.Ways.{parametersIn, resultsIn};
 ghost use Rattle.compact.specs.Ways.{toward, inOrder, straightWays, dropWays, branchWays, keepWays, loopWays, againWays, exitWays, selectWays, returnWays, waysTop};
 use crate::top;
 use crate::top::Top;
-use layout::targets;
 use shape::Shape;
 use shape::Table;
 
@@ -98,7 +97,7 @@ fn branch_ways(code: &[u8], w: &[u16], at: usize, next: usize, t: Top, distance:
         origin: t.origin,
     };
     let away = Way {
-        place: targets::place_at(at, distance),
+        place: successors::place_at(at, distance),
         height: rest,
         origin: t.origin,
     };
@@ -117,7 +116,7 @@ fn keep_ways(code: &[u8], w: &[u16], at: usize, next: usize, t: Top, distance: u
         height: (t.height - 1) as usize,
         origin: t.origin,
     };
-    in_order(on, way_toward(targets::place_at(at, distance), t))
+    in_order(on, way_toward(successors::place_at(at, distance), t))
 }
 
 fn loop_ways(code: &[u8], w: &[u16], at: usize, next: usize, t: Top, distance: u32) -> Ways
@@ -134,7 +133,7 @@ fn loop_ways(code: &[u8], w: &[u16], at: usize, next: usize, t: Top, distance: u
     };
     let height = (t.height - 4) as usize;
     let away = Way {
-        place: targets::place_at(at, distance),
+        place: successors::place_at(at, distance),
         height: height,
         origin: t.origin,
     };
@@ -185,7 +184,7 @@ fn exit_ways(code: &[u8], w: &[u16], t: Top) -> Ways
     } else {
         (t.height - 1) as usize
     };
-    let label = targets::exit_label(code, origin);
+    let label = successors::exit_label(code, origin);
     Ways::One(Way {
         place: label,
         height: height,
@@ -239,7 +238,7 @@ pub fn ways_of(
     match shape {
         Shape::Straight(pops, pushes) => straight_ways(code, w, next, t, pops, pushes),
         Shape::Drop(n) => drop_ways(code, w, next, t, n),
-        Shape::Goto(distance) => Ways::One(way_toward(targets::place_at(at, distance), t)),
+        Shape::Goto(distance) => Ways::One(way_toward(successors::place_at(at, distance), t)),
         Shape::Branch(distance) => branch_ways(code, w, at, next, t, distance),
         Shape::Keep(distance) => keep_ways(code, w, at, next, t, distance),
         Shape::Loop(distance) => loop_ways(code, w, at, next, t, distance),

@@ -12,7 +12,7 @@ use Rattle.header.specs.Header.{codeOf}
 use Rattle.entries.specs.Entries.{entryCount}
 use Rattle.record.specs.Number.{recordNumber}
 use Rattle.layout.specs.Cut.{Marks, Cut, bad, cut, cutOf, startsIn}
-use Rattle.layout.specs.Faults.{codeNumber}
+use Rattle.faults.specs.Faults.{codeNumber}
 use Rattle.stackmap.specs.Slots.{Slot}
 use Rattle.stackmap.specs.StackMap.{Map, IsMap, Reached}
 use Rattle.stackmap.specs.Theorems.{Sound, mapIn}

@@ -8,7 +8,7 @@ use Prim.Native.Nat.{ℕ, _+_, _*_, _<_, _≤_}
 use lib.ListN.{length, getD}
 use Rattle.shape.specs.declared.Table.{Table}
 use Rattle.layout.specs.Cut.{startsIn}
-use Rattle.layout.specs.Successors.{selectTargets}
+use Rattle.successors.specs.Successors.{selectTargets}
 use Rattle.layout.specs.Workspace.{marksIn}
 use Rattle.stackmap.specs.Slots.{Slot, word, label, popWords, topOrigin}
 use Rattle.stackmap.specs.Ways.{Module, Way, _gets_, isLoop, isSelect, toAll}

@@ -10,7 +10,7 @@ use lib.Dec.{eqb, leb, ltb}
 use lib.ListN.{length, getD}
 use borrow.Author.Tests.{eqb-true, eq-eqb, ne-eqb, ltb-true, ltb-false}
 use Rattle.layout.specs.Cut.{updated, startsIn}
-use Rattle.layout.specs.Successors.{selectTargets}
+use Rattle.successors.specs.Successors.{selectTargets}
 use Rattle.stackmap.specs.Slots.{Slot, sameSlots, topOrigin}
 use Rattle.stackmap.specs.Ways.{Module, Way, _gets_, toAll}
 use Rattle.stackmap.specs.StackMap.{Map}

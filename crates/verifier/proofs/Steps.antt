@@ -13,7 +13,7 @@ use Rattle.entries.specs.Entries.{entryAt, entryCount}
 use Rattle.words.proofs.Left.{one-left}
 use Rattle.shape.specs.declared.Table.{Table}
 use Rattle.layout.specs.Cut.{startsIn}
-use Rattle.layout.specs.Successors.{tableSize, tableTarget, tableFrom}
+use Rattle.successors.specs.Successors.{tableSize, tableTarget, tableFrom}
 use Rattle.layout.specs.Workspace.{marksIn}
 use Rattle.stackmap.specs.Ways.{parametersIn}
 use Rattle.compact.specs.declared.top.Top.{Top}

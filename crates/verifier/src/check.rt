@@ -7,9 +7,7 @@ ghost use Rattle.entries.specs.Entries.{entriesSound};
 ghost use Rattle.verifier.specs.Check.{allAtMost, resultsSound, listNumber, checking, concluded, verdictOf, checkOf};
 ghost use Rattle.verifier.specs.Examine.{zeroed, unmarked, examinedTop};
 use crate::walk;
-use layout::faults;
 use layout::marks;
-use layout::workspace;
 
 fn all_at_most(most: u8, s: &[u8]) -> bool
     ensures { λ b. ⌜ b ≡ allAtMost most (now (s .entry)) ⌝ }

@@ -8,7 +8,6 @@ use crate::hand;
 use crate::hand::Handed;
 use compact::top::Top;
 use compact::ways;
-use layout::workspace;
 use opcode::Decoded;
 
 // A number held as one more; 0 for none reads as 0.
