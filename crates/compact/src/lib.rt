@@ -1,5 +1,4 @@
-// A list of slots as its height and its topmost label, and what instructions give to their successors in that form.
+// A list of slots as its height and its topmost label.
 ghost use mathlib.Core.Path.{_≡_};
 
 pub mod top;
-pub mod ways;

@@ -17,8 +17,8 @@ use Rattle.stackmap.specs.StackMap.{Map}
 use Rattle.stackmap.specs.Walk.{State, blank, waiting, done, States, slotsIn, mapOf, taken, handed, thenHand, handedAll, passed}
 use Rattle.stackmap.specs.Theorems.{Sound}
 use Rattle.stackmap.proofs.Updates.{Change, changed, spared, change, both-true, slots-equal, slots-same, not-both}
-use Rattle.compact.specs.declared.ways.Ways.{Ways}
-use Rattle.compact.specs.Ways.{way}
+use Rattle.compact_ways.specs.declared.Ways.{Ways}
+use Rattle.compact_ways.specs.Ways.{way}
 use Rattle.verifier.specs.declared.hand.Handed.the-variants.{Stuck, From}
 use Rattle.verifier.specs.Handing.{Handing, handing, given, least, takenTop, handedTop, thenHanding, handedTwo, handedTargets, handedWays}
 use Rattle.verifier.proofs.Coherence.{Coherent, Shown, shown-blank, shown-waiting, shown-done, topOf, compactOf, Stands, broken, ended, one, two, many, AllCoherent, no-way, a-way}

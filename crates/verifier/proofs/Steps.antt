@@ -17,7 +17,7 @@ use Rattle.successors.specs.Successors.{tableSize, tableTarget, tableFrom}
 use Rattle.layout.specs.Workspace.{marksIn}
 use Rattle.stackmap.specs.Ways.{parametersIn}
 use Rattle.compact.specs.declared.top.Top.{Top}
-use Rattle.compact.specs.Ways.{way}
+use Rattle.compact_ways.specs.Ways.{way}
 use Rattle.verifier.specs.declared.hand.Handed.{Handed}
 use Rattle.verifier.specs.declared.hand.Handed.the-variants.{Stuck, From}
 use Rattle.verifier.specs.Handing.{handing, thenHanding, handedTop, handedTargets, visitedTop, firstWaiting, walking, thenWalk, walkTop, entryGiven, entriesGiven}

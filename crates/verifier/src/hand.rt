@@ -5,8 +5,8 @@ ghost use lib.ListN.{length};
 ghost use Rattle.successors.specs.Successors.{tableSize, tableFrom, selectTargets};
 ghost use Rattle.verifier.specs.Handing.{handing, given, takenTop, handedTop, handedTwo, handedTargets, handedWays};
 use compact::top::Top;
-use compact::ways::Way;
-use compact::ways::Ways;
+use compact_ways::Way;
+use compact_ways::Ways;
 use layout::marks;
 use shape::Table;
 
