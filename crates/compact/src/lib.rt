@@ -1,4 +1,3 @@
-// A list of slots as its height and its topmost label, and what instructions give to their successors in that form.
+// A list of slots as its height and its topmost label.
 
 pub mod top;
-pub mod ways;

@@ -3,7 +3,6 @@ ghost use mathlib.Core.Path.{_≡_};
 ghost use Prim.Native.Nat.{_≤_, _<_};
 ghost use Rattle.stackmap.specs.Ways.{isLoop, isSelect};
 ghost use Rattle.compact.specs.Tops.{labelHeight, originUnder, poppable, labelled, lowered, loweredBy};
-use layout::workspace;
 
 // `origin` is 1 plus the offset of the topmost label's origin, 0 if there is no label.
 pub struct Top {

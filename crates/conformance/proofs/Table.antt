@@ -13,8 +13,8 @@ use Rattle.opcode.specs.Switch.{exitDistance, elseDistance, branchDistance, ran
 use Rattle.opcode.specs.Table.{rowOf}
 use Rattle.shape.specs.Shape.{shapeOf}
 use Rattle.layout.specs.Cut.{cutOf}
-use Rattle.layout.specs.Successors.{selectTargets}
-use Rattle.layout.specs.Faults.{strays, misplaced, uncallable, anywhere, codeNumber}
+use Rattle.successors.specs.Successors.{selectTargets}
+use Rattle.faults.specs.Faults.{strays, misplaced, uncallable, anywhere, codeNumber}
 use Rattle.stackmap.specs.Ways.{ways}
 use Rattle.stackmap.specs.StackMap.{waysAt}
 use Rattle.stackmap.specs.Walk.{visited, walkOf}

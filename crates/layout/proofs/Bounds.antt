@@ -16,9 +16,6 @@ use Rattle.opcode.specs.declared.Decoded.the-variants.{Unserved, Past, At}
 use Rattle.opcode.specs.declared.instruction.Mode.{Mode}
 use Rattle.opcode.specs.declared.instruction.Mode.the-variants.{Normal, Double}
 use Rattle.opcode.specs.declared.instruction.Instruction.{Instruction}
-use Rattle.shape.specs.declared.Table.{Table}
-use Rattle.shape.specs.declared.Table.the-variants.{Branches, Ranges}
-use Rattle.layout.specs.Successors.{tableSize}
 
 -- A choice of two numbers below a bound is below it.
 module _ (code : List ℕ) (bytes : (k : ℕ) → getD code k 0 < 256) where
@@ -35,10 +32,6 @@ module _ (code : List ℕ) (bytes : (k : ℕ) → getD code k 0 < 256) where
   count-below =
       let b = entry-below 1 in
       either (λ (k : ℕ). k ≤ 32767) (eqb (entryAt code 0) 2) 1 (entryAt code 1 / 2) (omega arith) (omega arith)
-
-pub size-below : (t : Table) (n : ℕ) → tableSize t n ≤ n + 1
-size-below Branches n = omega arith
-size-below Ranges n = omega arith
 
 -- An instruction that is given comes with the place after it.
 told :

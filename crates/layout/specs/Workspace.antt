@@ -1,19 +1,15 @@
 -- How the code holds its marks in the workspace: four halfwords for each code byte, of which the fourth is the mark. The contracts
 -- of the functions that write are equations with these definitions; proofs/Marking joins them with `cutOf`.
 use mathlib.Core.Bool.{cond}
-use mathlib.Core.List.{List, [], _∷_}
+use mathlib.Core.List.{List}
 use Prim.Native.Nat.{ℕ, zero, suc, _+_, _-_, _*_}
-use lib.Dec.{eqb, ltb}
+use lib.Dec.{ltb}
 use lib.ListN.{length, getD, set}
-use Rattle.words.specs.Refusal.{refusal, _when_}
 use Rattle.entries.specs.Entries.{entryAt, entryCount, regionEnd}
 use Rattle.opcode.specs.Decode.{decodeAt}
 use Rattle.opcode.specs.declared.Decoded.{Decoded}
 use Rattle.opcode.specs.declared.Decoded.the-variants.{Unserved, Past, At}
-use Rattle.shape.specs.Shape.{shapeOf}
-use Rattle.shape.specs.declared.Shape.{Shape}
 use Rattle.layout.specs.Cut.{Marks}
-use Rattle.layout.specs.Faults.{strays, misplaced, uncallable}
 
 -- The marks that a workspace holds for so many code bytes.
 abbrev pub marksIn : List ℕ → ℕ → Marks
@@ -52,24 +48,3 @@ markProcedures code p (suc n) w =
 
 unfoldable pub markAll : List ℕ → List ℕ → Numbered
 markAll code w = markProcedures code 1 (entryCount code - 1) w
-
--- The lowest of 12 to 14 that one instruction gives, and the lower of two such numbers, 0 being none: how the code finds
--- `codeNumber` in one pass.
-unfoldable pub faultOf : List ℕ → Marks → ℕ → ℕ → ℕ → Shape → ℕ
-faultOf code marks p at next s =
-    refusal
-    (12 when strays code marks p at next s
-    ∷ 13 when misplaced code p at next s
-    ∷ 14 when uncallable code p at next s
-    ∷ [])
-
-abbrev pub faultIn : List ℕ → Marks → ℕ → ℕ → Decoded → ℕ
-faultIn code marks p at Unserved = 0
-faultIn code marks p at Past = 0
-faultIn code marks p at (At i next) = faultOf code marks p at next (shapeOf i)
-
-unfoldable pub faultAt : List ℕ → Marks → ℕ → ℕ → ℕ
-faultAt code marks p at = faultIn code marks p at (decodeAt code (regionEnd code p) at)
-
-unfoldable pub lower : ℕ → ℕ → ℕ
-lower a b = cond (eqb a 0) b (cond (eqb b 0) a (cond (ltb b a) b a))

@@ -1,6 +1,3 @@
-// The code cut into instructions, and the numbers 10 to 14.
+// The code cut into instructions, and the numbers 10 and 11.
 
-pub mod faults;
 pub mod marks;
-pub mod targets;
-pub mod workspace;

@@ -2,8 +2,8 @@
 ghost use mathlib.Core.Path.{_≡_};
 ghost use Prim.Native.Nat.{_≤_, _<_};
 ghost use lib.ListN.{length};
+ghost use Rattle.layout.specs.Cut.{startsIn};
 ghost use Rattle.layout.specs.Workspace.{marksIn, numbered, markRegion, markAll};
-use crate::workspace;
 use opcode::Decoded;
 
 // The mark of an offset, 0 outside of so many code bytes.
@@ -15,6 +15,15 @@ pub fn mark_at(w: &[u16], size: usize, at: usize) -> u16
         return 0;
     }
     workspace::half_at(w, 4 * at + 3)
+}
+
+// An instruction of procedure `p` starts at an offset.
+pub fn starts_in(w: &[u16], size: usize, p: u32, at: usize) -> bool
+    requires { ⌜ size ≤ 65535 ⌝ }
+    requires { ⌜ p < 65535 ⌝ }
+    ensures { λ b. ⌜ b ≡ startsIn (marksIn (now (w .entry)) size) p at ⌝ }
+{
+    mark_at(w, size, at) as u32 == p + 1
 }
 
 // Procedure `p`'s region is cut end to end: 0, or 10 or 11 for a bad instruction.

@@ -32,7 +32,7 @@ use Rattle.effect.specs.Memory.{read, live, protects}
 use Rattle.effect.specs.Words.{moved}
 use Rattle.control.specs.Control.{jumped, beyond, iterates, nextSum, summed, repeats, branched}
 use Rattle.execute.specs.Depth.{top}
-use Rattle.layout.specs.Successors.{exitLabel, selectTargets}
+use Rattle.successors.specs.Successors.{exitLabel, selectTargets}
 use Rattle.stackmap.specs.Slots.{Slot, word, label, popWords, dropSlots}
 use Rattle.stackmap.specs.Ways.{Module, Way, _gets_, isLoop, isSelect, labelWord, after, both, toAll, again, exit}
 use Rattle.stackmap.specs.StackMap.{here}

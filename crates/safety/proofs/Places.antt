@@ -19,7 +19,7 @@ use Rattle.shape.specs.Shape.{shapeOf}
 use Rattle.shape.specs.declared.Shape.the-variants.{Invoke}
 use Rattle.shape.proofs.Origins.{decoded-wider}
 use Rattle.layout.specs.Cut.{Marks, cut, startsIn}
-use Rattle.layout.specs.Faults.{strays, misplaced, uncallable, testAt, anyFrom, anywhere, codeNumber}
+use Rattle.faults.specs.Faults.{strays, misplaced, uncallable, testAt, anyFrom, anywhere, codeNumber}
 use Rattle.layout.proofs.Cutting.{Cutted, cutting-starts}
 use Rattle.stackmap.specs.Slots.{Slot}
 use Rattle.stackmap.specs.Ways.{Module, Way, ways}

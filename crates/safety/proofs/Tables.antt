@@ -9,7 +9,7 @@ use borrow.Author.Tests.{leb-true}
 use Rattle.opcode.specs.Switch.{elseDistance, branchDistance, rangeDistance, rangeHolds, searchFrom, searchDistance, orElse}
 use Rattle.shape.specs.declared.Table.{Table}
 use Rattle.shape.specs.declared.Table.the-variants.{Branches, Ranges}
-use Rattle.layout.specs.Successors.{tableTarget, tableFrom, selectTargets}
+use Rattle.successors.specs.Successors.{tableTarget, tableFrom, selectTargets}
 use Rattle.stackmap.specs.Slots.{Slot}
 use Rattle.stackmap.specs.Ways.{toAll}
 use Rattle.stackmap.specs.StackMap.{Among, here, there}

@@ -13,7 +13,7 @@ use Rattle.opcode.specs.Distance.{placeAt}
 use Rattle.shape.specs.declared.Shape.{Shape}
 use Rattle.shape.specs.declared.Shape.the-variants.{Straight, Drop, Goto, Branch, Keep, Loop, Again, Select, Exit, Invoke, Begin, Return}
 use Rattle.layout.specs.Cut.{Marks}
-use Rattle.layout.specs.Successors.{exitLabel, selectTargets}
+use Rattle.successors.specs.Successors.{exitLabel, selectTargets}
 use Rattle.stackmap.specs.Slots.{Slot, word, label, pushWords, popWords, dropSlots, isWords}
 
 -- The code under check, its results list, and its starts.

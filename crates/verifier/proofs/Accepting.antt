@@ -8,7 +8,7 @@ use lib.Dec.{eqb·suc-zero}
 use lib.ListN.{length}
 use Rattle.header.specs.Header.{codeOf}
 use Rattle.layout.specs.Cut.{Marks, Cut, bad, cut, cutOf}
-use Rattle.layout.specs.Faults.{codeNumber}
+use Rattle.faults.specs.Faults.{codeNumber}
 use Rattle.stackmap.specs.Walk.{States, walkOf}
 use Rattle.verifier.specs.Check.{listNumber, moduleOf, refuted, accepted, verdictOf, checking, concluded, checkOf}
 use Rattle.verifier.proofs.Ranges.{list-range, code-range, cut-range}

@@ -14,16 +14,16 @@ use Rattle.opcode.specs.Distance.{placeAt}
 use Rattle.shape.specs.declared.Shape.{Shape}
 use Rattle.shape.specs.declared.Shape.the-variants.{Straight, Drop, Goto, Branch, Keep, Loop, Again, Select, Exit, Invoke, Begin, Return}
 use Rattle.shape.specs.declared.Table.{Table}
-use Rattle.layout.specs.Successors.{exitLabel, selectTargets}
+use Rattle.successors.specs.Successors.{exitLabel, selectTargets}
 use Rattle.stackmap.specs.Slots.{Slot, word, label, pushWords, popWords, dropSlots, isWords, topOrigin}
 use Rattle.stackmap.specs.Ways.{Module, Way, _gets_, isLoop, isSelect, after, both, toAll, straight, again, exit, ways, parametersOf, resultsOf}
 use Rattle.stackmap.specs.StackMap.{Map}
 use Rattle.compact.specs.declared.top.Top.{Top}
-use Rattle.compact.specs.declared.ways.Way.{Way as Compact}
-use Rattle.compact.specs.declared.ways.Ways.{Ways}
-use Rattle.compact.specs.declared.ways.Ways.the-variants.{Broken, Ended, One, Two, Many}
+use Rattle.compact_ways.specs.declared.Way.{Way as Compact}
+use Rattle.compact_ways.specs.declared.Ways.{Ways}
+use Rattle.compact_ways.specs.declared.Ways.the-variants.{Broken, Ended, One, Two, Many}
 use Rattle.compact.specs.Tops.{top, originUnder, poppable, labelled, lowered, loweredBy}
-use Rattle.compact.specs.Ways.{way, toward, inOrder, straightWays, dropWays, branchWays, keepWays, loopWays, againFrom, againWays, exitFrom, exitWays, selectWays, returnWays, waysTop}
+use Rattle.compact_ways.specs.Ways.{way, toward, inOrder, straightWays, dropWays, branchWays, keepWays, loopWays, againFrom, againWays, exitFrom, exitWays, selectWays, returnWays, waysTop}
 use Rattle.verifier.proofs.Coherence.{Lies, on-loop, on-select, Coherent, on-nothing, on-word, on-label, ShowsMap, topOf, compactOf, Stands, broken, ended, one, two, many}
 use Rattle.stackmap.proofs.Pushing.{pushed-height, pushed-origin}
 use Rattle.verifier.proofs.Levels.{and-false, level, Popped, stuck, popped, popping, words-test, loop-not-select, lies-origin, at-level, labelled-word, labelled-label, lowered-word, lowered-label}

@@ -7,17 +7,17 @@ use mathlib.Core.Path.{_≡_}
 use Prim.Native.Nat.{ℕ, _+_, _*_}
 use lib.ListN.{length, getD}
 use Rattle.shape.specs.declared.Table.{Table}
-use Rattle.layout.specs.Successors.{selectTargets}
+use Rattle.successors.specs.Successors.{selectTargets}
 use Rattle.stackmap.specs.Slots.{Slot, word, label, popWords, topOrigin}
 use Rattle.stackmap.specs.Ways.{Way, _gets_, isLoop, isSelect, toAll}
 use Rattle.stackmap.specs.StackMap.{Map}
 use Rattle.stackmap.specs.Walk.{State, blank, waiting, done}
 use Rattle.compact.specs.declared.top.Top.{Top}
-use Rattle.compact.specs.declared.ways.Way.{Way as Compact}
-use Rattle.compact.specs.declared.ways.Ways.{Ways}
-use Rattle.compact.specs.declared.ways.Ways.the-variants.{Broken, Ended, One, Two, Many}
+use Rattle.compact_ways.specs.declared.Way.{Way as Compact}
+use Rattle.compact_ways.specs.declared.Ways.{Ways}
+use Rattle.compact_ways.specs.declared.Ways.the-variants.{Broken, Ended, One, Two, Many}
 use Rattle.compact.specs.Tops.{top}
-use Rattle.compact.specs.Ways.{way}
+use Rattle.compact_ways.specs.Ways.{way}
 
 -- The list l lies under the label of an origin: ITER's label on the list that ITER found, four words on top; a switch's in place of
 -- the word that the switch found.

@@ -11,7 +11,7 @@ use lib.ListN.{length, getD, drop, replicate, length-replicate, getD-replicate, 
 use Rattle.words.specs.Bytes.{byteAt}
 use Rattle.entries.specs.Entries.{entriesSound}
 use Rattle.layout.specs.Cut.{Marks, cut, cutOf}
-use Rattle.layout.specs.Faults.{codeNumber}
+use Rattle.faults.specs.Faults.{codeNumber}
 use Rattle.layout.specs.Workspace.{marksIn, markAll}
 use Rattle.layout.proofs.Cutting.{Cutted, cutting-starts}
 use Rattle.layout.proofs.Marking.{marking-cuts, marking-refuses, marking-keeps-length, marking-keeps-others}

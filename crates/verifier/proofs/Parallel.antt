@@ -10,7 +10,7 @@ use lib.Dec.{eqb, leb, ltb}
 use lib.ListN.{length, getD}
 use borrow.Author.Tests.{eqb-true, eq-eqb, ne-eqb, ltb-true, ltb-false}
 use Rattle.layout.specs.Cut.{updated, startsIn}
-use Rattle.layout.specs.Successors.{selectTargets}
+use Rattle.successors.specs.Successors.{selectTargets}
 use Rattle.stackmap.specs.Slots.{Slot, sameSlots, topOrigin}
 use Rattle.stackmap.specs.Ways.{Module, Way, _gets_, toAll}
 use Rattle.stackmap.specs.StackMap.{Map}
@@ -18,8 +18,8 @@ use Rattle.stackmap.specs.Walk.{State, blank, waiting, done, States, slotsIn, m
 use Rattle.stackmap.specs.Theorems.{Sound}
 use Rattle.words.proofs.Tests.{both-true}
 use Rattle.stackmap.proofs.Updates.{Change, changed, spared, change, slots-equal, slots-same, not-both}
-use Rattle.compact.specs.declared.ways.Ways.{Ways}
-use Rattle.compact.specs.Ways.{way}
+use Rattle.compact_ways.specs.declared.Ways.{Ways}
+use Rattle.compact_ways.specs.Ways.{way}
 use Rattle.verifier.specs.declared.hand.Handed.the-variants.{Stuck, From}
 use Rattle.verifier.specs.Handing.{Handing, handing, given, least, takenTop, handedTop, thenHanding, handedTwo, handedTargets, handedWays}
 use Rattle.verifier.proofs.Coherence.{Coherent, Shown, shown-blank, shown-waiting, shown-done, topOf, compactOf, Stands, broken, ended, one, two, many, AllCoherent, no-way, a-way}

@@ -17,7 +17,7 @@ use Rattle.shape.specs.Shape.{shapeOf}
 use Rattle.shape.specs.declared.Shape.{Shape}
 use Rattle.shape.specs.declared.Shape.the-variants.{Straight, Drop, Goto, Branch, Keep, Loop, Again, Select, Exit, Invoke, Begin, Return}
 use Rattle.shape.proofs.Origins.{loop-origin, select-origin}
-use Rattle.layout.specs.Successors.{selectTargets}
+use Rattle.successors.specs.Successors.{selectTargets}
 use Rattle.stackmap.specs.Slots.{Slot, word, label, pushWords, popWords, dropSlots, isWords}
 use Rattle.stackmap.specs.Ways.{Module, Way, _gets_, isLoop, isSelect, labelWord, after, both, toAll, straight, again, exit, ways, parametersOf, resultsOf}
 use Rattle.stackmap.specs.StackMap.{Map}

@@ -15,7 +15,7 @@ use Rattle.opcode.specs.Decode.{decodeAt}
 use Rattle.opcode.specs.declared.Decoded.{Decoded}
 use Rattle.opcode.specs.declared.Decoded.the-variants.{Unserved, Past, At}
 use Rattle.layout.specs.Cut.{Marks, Cut, bad, cut, cutAt, cutFrom, thenCut, cutProcedures, cutOf, updated}
-use Rattle.layout.specs.Faults.{anywhere, strays, misplaced, uncallable, codeNumber}
+use Rattle.faults.specs.Faults.{anywhere, strays, misplaced, uncallable, codeNumber}
 use Rattle.verifier.specs.Check.{resultsSound, listNumber}
 
 at-most : (k n : ℕ) (given : Bool) (rest : ℕ) → n ≤ k → rest ≤ k → cond given n rest ≤ k

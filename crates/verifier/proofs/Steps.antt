@@ -13,11 +13,11 @@ use Rattle.entries.specs.Entries.{entryAt, entryCount}
 use Rattle.words.proofs.Left.{one-left}
 use Rattle.shape.specs.declared.Table.{Table}
 use Rattle.layout.specs.Cut.{startsIn}
-use Rattle.layout.specs.Successors.{tableSize, tableTarget, tableFrom}
+use Rattle.successors.specs.Successors.{tableSize, tableTarget, tableFrom}
 use Rattle.layout.specs.Workspace.{marksIn}
 use Rattle.stackmap.specs.Ways.{parametersIn}
 use Rattle.compact.specs.declared.top.Top.{Top}
-use Rattle.compact.specs.Ways.{way}
+use Rattle.compact_ways.specs.Ways.{way}
 use Rattle.verifier.specs.declared.hand.Handed.{Handed}
 use Rattle.verifier.specs.declared.hand.Handed.the-variants.{From}
 use Rattle.verifier.specs.Handing.{handing, thenHanding, handedTop, handedTargets, visitedTop, firstWaiting, walking, thenWalk, walkTop, entryGiven, entriesGiven}

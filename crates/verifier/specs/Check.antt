@@ -12,7 +12,7 @@ use Rattle.header.specs.Header.{codeOf}
 use Rattle.entries.specs.Entries.{entryCount}
 use Rattle.record.specs.Number.{afterRecord}
 use Rattle.layout.specs.Cut.{Marks, Cut, bad, cut, cutOf}
-use Rattle.layout.specs.Faults.{codeNumber}
+use Rattle.faults.specs.Faults.{codeNumber}
 use Rattle.stackmap.specs.Slots.{Slot, topOrigin}
 use Rattle.stackmap.specs.Ways.{Module}
 use Rattle.stackmap.specs.Walk.{State, States, blank, waiting, done, walkOf}

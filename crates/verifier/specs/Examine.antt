@@ -4,7 +4,7 @@ use mathlib.Core.List.{List}
 use Prim.Native.Nat.{ℕ, zero, suc, _+_, _*_}
 use lib.Dec.{eqb}
 use lib.ListN.{length, set, replicate}
-use Rattle.layout.specs.Faults.{codeNumber}
+use Rattle.faults.specs.Faults.{codeNumber}
 use Rattle.layout.specs.Workspace.{marksIn, markAll}
 use Rattle.verifier.specs.Check.{Checking, checking}
 use Rattle.verifier.specs.Handing.{Walking, walkedTop}

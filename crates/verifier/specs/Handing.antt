@@ -11,15 +11,15 @@ use Rattle.opcode.specs.declared.Decoded.{Decoded}
 use Rattle.opcode.specs.declared.Decoded.the-variants.{Unserved, Past, At}
 use Rattle.shape.specs.Shape.{shapeOf}
 use Rattle.layout.specs.Cut.{startsIn}
-use Rattle.layout.specs.Successors.{selectTargets}
+use Rattle.successors.specs.Successors.{selectTargets}
 use Rattle.layout.specs.Workspace.{marksIn}
 use Rattle.stackmap.specs.Ways.{parametersIn}
 use Rattle.compact.specs.declared.top.Top.{Top}
-use Rattle.compact.specs.declared.ways.Way.{Way}
-use Rattle.compact.specs.declared.ways.Ways.{Ways}
-use Rattle.compact.specs.declared.ways.Ways.the-variants.{Broken, Ended, One, Two, Many}
+use Rattle.compact_ways.specs.declared.Way.{Way}
+use Rattle.compact_ways.specs.declared.Ways.{Ways}
+use Rattle.compact_ways.specs.declared.Ways.the-variants.{Broken, Ended, One, Two, Many}
 use Rattle.compact.specs.Tops.{top}
-use Rattle.compact.specs.Ways.{way, waysTop}
+use Rattle.compact_ways.specs.Ways.{way, waysTop}
 use Rattle.verifier.specs.declared.hand.Handed.{Handed}
 use Rattle.verifier.specs.declared.hand.Handed.the-variants.{Stuck, From}
 

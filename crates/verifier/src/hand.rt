@@ -2,14 +2,12 @@
 ghost use mathlib.Core.Path.{_≡_};
 ghost use Prim.Native.Nat.{_≤_, _<_};
 ghost use lib.ListN.{length};
-ghost use Rattle.layout.specs.Successors.{tableSize, tableFrom, selectTargets};
+ghost use Rattle.successors.specs.Successors.{tableSize, tableFrom, selectTargets};
 ghost use Rattle.verifier.specs.Handing.{handing, given, takenTop, handedTop, handedTwo, handedTargets, handedWays};
 use compact::top::Top;
-use compact::ways::Way;
-use compact::ways::Ways;
-use layout::faults;
-use layout::targets;
-use layout::workspace;
+use compact_ways::Way;
+use compact_ways::Ways;
+use layout::marks;
 use shape::Table;
 
 // It broke; or nothing waits below an offset.
@@ -57,7 +55,7 @@ fn hand(size: usize, w: &mut [u16], p: u32, way: Way, from: usize) -> Handed
     requires { ⌜ p < 65535 ⌝ }
     ensures { λ a. ⌜ handing a (now (w .exit)) ≡ handedTop size p way from (now (w .entry)) ⌝ }
 {
-    if !faults::starts_in(w, size, p, way.place) {
+    if !marks::starts_in(w, size, p, way.place) {
         return Handed::Stuck;
     }
     if 255 < way.height {
@@ -93,10 +91,10 @@ fn hand_table(
     requires { ⌜ at < 65535 ⌝ }
     ensures { λ a. ⌜ handing a (now (w .exit)) ≡ handedTargets (length (now (code .entry))) p t (tableFrom (now (code .entry)) at table 0 (tableSize table n)) from (now (w .entry)) ⌝ }
 {
-    let size = targets::table_size(table, n);
+    let size = successors::table_size(table, n);
     let mut low = from;
     for k in 0..size {
-        let place = targets::table_target(code, at, table, k as u32);
+        let place = successors::table_target(code, at, table, k as u32);
         let way = Way {
             place: place,
             height: t.height as usize,
@@ -131,7 +129,7 @@ fn hand_many(
     ensures { λ a. ⌜ handing a (now (w .exit)) ≡ handedTargets (length (now (code .entry))) p t (selectTargets (now (code .entry)) at table n) from (now (w .entry)) ⌝ }
 {
     let way = Way {
-        place: targets::else_target(code, at),
+        place: successors::else_target(code, at),
         height: t.height as usize,
         origin: t.origin,
     };

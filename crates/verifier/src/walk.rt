@@ -7,8 +7,6 @@ ghost use Rattle.verifier.specs.Handing.{handing, visitedTop, firstWaiti
 use crate::hand;
 use crate::hand::Handed;
 use compact::top::Top;
-use compact::ways;
-use layout::workspace;
 use opcode::Decoded;
 
 // A number held as one more; 0 for none reads as 0.
@@ -37,7 +35,7 @@ fn visit(code: &[u8], results: &[u8], w: &mut [u16], at: usize) -> Handed
                 height: height,
                 origin: workspace::half_at(w, 4 * at + 1),
             };
-            let out = ways::ways_of(code, results, w, p, at, next, shape::shape_of(i), t);
+            let out = compact_ways::ways_of(code, results, w, p, at, next, shape::shape_of(i), t);
             workspace::set_half(w, 4 * at + 2, 0);
             hand::hand_ways(code, w, p, at, out, at + 1)
         }
@@ -85,7 +83,7 @@ fn walk(code: &[u8], results: &[u8], w: &mut [u16]) -> bool
 fn give_entry(code: &[u8], w: &mut [u16], p: u32)
     ensures { λ _. ⌜ now (w .exit) ≡ entryGiven (now (code .entry)) p (now (w .entry)) ⌝ }
 {
-    let parameters = ways::callee_parameters(code, p) as usize;
+    let parameters = compact_ways::callee_parameters(code, p) as usize;
     hand::give(w, entries::entry_at(code, p) as usize, parameters, 0);
 }
 

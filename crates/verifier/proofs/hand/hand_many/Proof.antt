@@ -1,7 +1,7 @@
 -- `hand::hand_many` meets its contract: what the ELSE part answers decides.
 use borrow.Author.Needs.{needs}
 use Rattle.verifier.proofs.hand.hand_many.Statement.{statement}
-use Rattle.layout.specs.Successors.{selectTargets}
+use Rattle.successors.specs.Successors.{selectTargets}
 use Rattle.verifier.proofs.hand.hand_many.Tie as tie
 
 else-target-requires : tie.Need-else-target-requires

@@ -4,7 +4,7 @@ use Prim.Native.Nat.{_-_}
 use native.Mathlib.Omega.{arith}
 use borrow.Author.Needs.{needs}
 use Rattle.verifier.proofs.hand.hand_table.Statement.{statement}
-use Rattle.layout.proofs.Bounds.{size-below}
+use Rattle.successors.proofs.Sizes.{size-below}
 use Rattle.verifier.proofs.Steps.{Branched, branched-start, branched-over, branched-turn, branched-next}
 use Rattle.verifier.proofs.hand.hand_table.Tie as tie
 

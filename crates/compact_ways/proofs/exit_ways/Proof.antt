@@ -1,0 +1,75 @@
+-- `compact_ways::exit_ways` meets its contract: a switch's label on top; to its exit label without it.
+use Prim.Native.Nat.{suc, _-_}
+use mathlib.Core.Logic.{⊎-elim}
+use mathlib.Core.Path.{_≡_}
+use native.Mathlib.Omega.{arith}
+use borrow.Author.Needs.{needs}
+use borrow.Author.Tests.{not-true, not-false}
+use Rattle.compact_ways.proofs.exit_ways.Statement.{statement}
+use Rattle.compact.specs.Tops.{originUnder}
+use Rattle.compact_ways.specs.Ways.{exitWays, exitFrom}
+use Rattle.compact.proofs.Origins.{at-origin}
+use Rattle.compact_ways.proofs.exit_ways.Tie as tie
+
+returns : tie.Need-returns
+unfolding exitWays
+returns c = rw (c .if1 .taken)
+
+-- With a label the definition goes on from its origin.
+at-label : (c : tie.Else1) →
+    let a = c .before .before .before .before .args in
+    exitFrom (a .code .now) (a .w .now) (a .t) (a .t .origin) ≡ exitFrom (a .code .now) (a .w .now) (a .t) (suc (a .t .origin - 1))
+at-label c = at-origin (exitFrom (c .before .before .before .before .args .code .now) (c .before .before .before .before .args .w .now) (c .before .before .before .before .args .t)) (c .before .before .before .before .args .t .origin) (c .if1 .left)
+
+sub-origin : tie.Need-sub-origin
+sub-origin c = search needs
+
+cast-origin : tie.Need-cast-origin
+cast-origin c = search needs
+
+is-select-requires : tie.Need-is-select-requires
+is-select-requires c κs = search needs
+
+returns-2 : tie.Need-returns-2
+unfolding exitWays
+returns-2 c = rw (at-label (c .before .before .before), ← c .before .is-select .ensures, not-true (c .before .is-select .result) (c .if2 .taken))
+
+is-labelled-requires : tie.Need-is-labelled-requires
+is-labelled-requires c κs = search needs
+
+returns-3 : tie.Need-returns-3
+unfolding exitWays
+returns-3 c = rw (at-label (c .before .before .before .before .before), ← c .before .before .before .is-select .ensures, not-false (c .before .before .before .is-select .result) (c .before .before .if2 .left), ← c .before .is-labelled .ensures, not-true (c .before .is-labelled .result) (c .if3 .taken))
+
+cast-height : tie.Need-cast-height
+cast-height c = search needs
+
+exit-label-requires : tie.Need-exit-label-requires
+exit-label-requires c κs = search needs
+
+origin-under-requires : tie.Need-origin-under-requires
+origin-under-requires c κs = search needs
+
+-- The height without the label.
+past : (c : tie.Joined4) → c .if4 .height ≡ c .before .before .before .before .before .before .before .before .before .before .before .args .t .height - 1
+past c = ⊎-elim (λ w. omega arith) (λ w. omega arith) (c .if4 .came)
+
+returns-4 : tie.Need-returns-4
+unfolding exitWays
+returns-4 c = rw (at-label (c .before .before .before .before .before .before .before .before .before), ← c .before .before .before .before .before .before .before .is-select .ensures, not-false (c .before .before .before .before .before .before .before .is-select .result) (c .before .before .before .before .before .before .if2 .left), ← c .before .before .before .before .before .is-labelled .ensures, not-false (c .before .before .before .before .before .is-labelled .result) (c .before .before .before .before .if3 .left), c .before .exit-label .ensures, c .origin-under .ensures, at-origin (originUnder (c .before .before .before .before .before .before .before .before .before .before .before .before .before .args .w .now)) (c .before .before .before .before .before .before .before .before .before .before .before .before .before .args .t .origin) (c .before .before .before .before .before .before .before .before .before .if1 .left), past (c .before .before))
+
+pub exit-ways-spec : {M : Type 1} → statement M
+exit-ways-spec =
+    tie.close
+    (tie.spec
+    returns
+    sub-origin
+    cast-origin
+    is-select-requires
+    returns-2
+    is-labelled-requires
+    returns-3
+    cast-height
+    exit-label-requires
+    origin-under-requires
+    returns-4)

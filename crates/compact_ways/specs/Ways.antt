@@ -1,0 +1,83 @@
+-- What an instruction gives to its successors, over heights and topmost labels: the compact form of stackmap's `ways`.
+use mathlib.Core.Bool.{cond, _&&_}
+use mathlib.Core.List.{List}
+use Prim.Native.Nat.{ℕ, zero, suc, _+_, _-_}
+use lib.Dec.{eqb, leb}
+use Rattle.opcode.specs.Distance.{placeAt}
+use Rattle.shape.specs.declared.Shape.{Shape}
+use Rattle.shape.specs.declared.Shape.the-variants.{Straight, Drop, Goto, Branch, Keep, Loop, Again, Select, Exit, Invoke, Begin, Return}
+use Rattle.shape.specs.declared.Table.{Table}
+use Rattle.successors.specs.Successors.{exitLabel}
+use Rattle.stackmap.specs.Ways.{isLoop, isSelect, parametersIn, resultsIn}
+use Rattle.compact.specs.declared.top.Top.{Top}
+use Rattle.compact_ways.specs.declared.Way.{Way}
+use Rattle.compact_ways.specs.declared.Ways.{Ways}
+use Rattle.compact_ways.specs.declared.Ways.the-variants.{Broken, Ended, One, Two, Many}
+use Rattle.compact.specs.Tops.{top, poppable, labelled, originUnder, loweredBy}
+
+abbrev pub way : ℕ → ℕ → ℕ → Way
+way place height origin = record { place = place; height = height; origin = origin }
+
+abbrev pub toward : ℕ → Top → Way
+toward place t = way place (t .height) (t .origin)
+
+unfoldable pub inOrder : Way → Way → Ways
+inOrder on away = cond (leb (on .place) (away .place)) (Two on away) (Two away on)
+
+unfoldable pub straightWays : List ℕ → List ℕ → ℕ → Top → ℕ → ℕ → Ways
+straightWays code w next t pops pushes =
+    cond (poppable code w t pops) (One (way next (t .height - pops + pushes) (t .origin))) Broken
+
+unfoldable pub dropWays : List ℕ → List ℕ → ℕ → Top → ℕ → Ways
+dropWays code w next t n = cond (leb n (t .height)) (One (toward next (loweredBy code w n t))) Broken
+
+unfoldable pub branchWays : List ℕ → List ℕ → ℕ → ℕ → Top → ℕ → Ways
+branchWays code w at next t d =
+    cond (poppable code w t 1) (inOrder (way next (t .height - 1) (t .origin)) (way (placeAt at d) (t .height - 1) (t .origin))) Broken
+
+unfoldable pub keepWays : List ℕ → List ℕ → ℕ → ℕ → Top → ℕ → Ways
+keepWays code w at next t d =
+    cond (poppable code w t 1) (inOrder (way next (t .height - 1) (t .origin)) (toward (placeAt at d) t)) Broken
+
+unfoldable pub loopWays : List ℕ → List ℕ → ℕ → ℕ → Top → ℕ → Ways
+loopWays code w at next t d =
+    cond (poppable code w t 4) (inOrder (way next (t .height + 1) (at + 1)) (way (placeAt at d) (t .height - 4) (t .origin))) Broken
+
+-- The label on top, and its origin ITER.
+abbrev pub againFrom : List ℕ → List ℕ → ℕ → Top → ℕ → Ways
+againFrom code w next t zero = Broken
+againFrom code w next t (suc m) =
+    cond (isLoop code m && labelled code w t)
+    (inOrder (way next (t .height - 5) (originUnder w (suc m))) (toward (m + 3) t)) Broken
+
+unfoldable pub againWays : List ℕ → List ℕ → ℕ → Top → Ways
+againWays code w next t = againFrom code w next t (t .origin)
+
+-- The label on top, and its origin a switch.
+abbrev pub exitFrom : List ℕ → List ℕ → Top → ℕ → Ways
+exitFrom code w t zero = Broken
+exitFrom code w t (suc m) =
+    cond (isSelect code m && labelled code w t) (One (way (exitLabel code m) (t .height - 1) (originUnder w (suc m)))) Broken
+
+unfoldable pub exitWays : List ℕ → List ℕ → Top → Ways
+exitWays code w t = exitFrom code w t (t .origin)
+
+unfoldable pub selectWays : List ℕ → List ℕ → ℕ → Top → Table → ℕ → Ways
+selectWays code w at t table n = cond (poppable code w t 1) (Many table n (top (t .height) (at + 1))) Broken
+
+unfoldable pub returnWays : Top → ℕ → Ways
+returnWays t results = cond (eqb (t .height) results && eqb (t .origin) 0) Ended Broken
+
+unfoldable pub waysTop : List ℕ → List ℕ → List ℕ → ℕ → ℕ → ℕ → Shape → Top → Ways
+waysTop code results w p at next (Straight pops pushes) t = straightWays code w next t pops pushes
+waysTop code results w p at next (Drop n) t = dropWays code w next t n
+waysTop code results w p at next (Goto d) t = One (toward (placeAt at d) t)
+waysTop code results w p at next (Branch d) t = branchWays code w at next t d
+waysTop code results w p at next (Keep d) t = keepWays code w at next t d
+waysTop code results w p at next (Loop d) t = loopWays code w at next t d
+waysTop code results w p at next Again t = againWays code w next t
+waysTop code results w p at next (Select table n) t = selectWays code w at t table n
+waysTop code results w p at next Exit t = exitWays code w t
+waysTop code results w p at next (Invoke c) t = straightWays code w next t (parametersIn code c) (resultsIn results c)
+waysTop code results w p at next (Begin par) t = straightWays code w next t par 0
+waysTop code results w p at next Return t = returnWays t (resultsIn results p)

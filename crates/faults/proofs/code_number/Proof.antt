@@ -1,0 +1,81 @@
+-- `faults::code_number` meets its contract: `lowest` is the number over the offsets before `at`. The measure is the offsets left.
+use Prim.Native.Nat.{_-_, _≤_}
+use mathlib.Core.Path.{_≡_, _∙_}
+use mathlib.Core.Logic.{⊎-elim}
+use native.Mathlib.Omega.{arith}
+use lib.ListN.{length}
+use borrow.Author.Needs.{needs}
+use Rattle.faults.proofs.code_number.Statement.{statement}
+use Rattle.layout.specs.Workspace.{marksIn}
+use Rattle.faults.proofs.Lowest.{numberTo, number-start, number-marked, number-bare, number-end}
+use Rattle.faults.proofs.code_number.Tie as tie
+
+abbrev Inv-loop : tie.InvT-loop
+Inv-loop code w lowest₀ at₀ at-end lowest at = (at ≤ length code) × (lowest ≡ numberTo code (marksIn w (length code)) at)
+
+abbrev μ-loop : tie.MeasureT-loop
+μ-loop code w lowest₀ at₀ at-end lowest at = length code - at
+
+loop-holds : tie.Need-loop-holds Inv-loop μ-loop
+loop-holds c =
+    let a = c .before .before .args in
+    (omega arith, number-start (a .code .now) (marksIn (a .w .now) (length (a .code .now))))
+
+mark-at-requires : tie.Need-mark-at-requires Inv-loop μ-loop
+mark-at-requires c κs = search needs
+
+cast-fault-at : tie.Need-cast-fault-at Inv-loop μ-loop
+cast-fault-at c = search needs
+
+sub-fault-at : tie.Need-sub-fault-at Inv-loop μ-loop
+sub-fault-at c = search needs
+
+fault-at-requires : tie.Need-fault-at-requires Inv-loop μ-loop
+fault-at-requires c κs = search needs
+
+lower-number-requires : tie.Need-lower-number-requires Inv-loop μ-loop
+lower-number-requires c κs = search needs
+
+add-at : tie.Need-add-at Inv-loop μ-loop
+add-at c = search needs
+
+loop-less : tie.Need-loop-less Inv-loop μ-loop
+loop-less c = search needs
+
+loop-again : tie.Need-loop-again Inv-loop μ-loop
+loop-again c =
+    let a = c .before .before .before .before .before .before .args in
+    let m = marksIn (a .w .now) (length (a .code .now)) in
+    let l = c .before .before .before .loop in
+    let mark = c .before .mark-at in (
+      omega (arith, c .before .before .loop-test .taken),
+      ⊎-elim
+          (λ w. w .3 ∙ w .2 .ensures ∙ rw (w .1 .ensures)
+          (number-marked (a .code .now) m (l .at) (l .lowest) (mark .result) (l .inv .1) (mark .ensures) (w .0 .taken)))
+          (λ w. w .1 ∙ number-bare (a .code .now) m (l .at) (l .lowest) (mark .result) (l .inv .1) (mark .ensures) (w .0 .left))
+          (c .if1 .came),
+    )
+
+returns : tie.Need-returns Inv-loop μ-loop
+returns c =
+    let a = c .before .before .before .before .args in
+    let l = c .before .loop in
+    let e : l .at ≡ length (a .code .now) = omega (arith, l .inv .0, c .loop-test .left) in
+    l .inv .1 ∙ rw e (number-end (a .code .now) (marksIn (a .w .now) (length (a .code .now))))
+
+pub code-number-spec : {M : Type 1} → statement M
+code-number-spec =
+    tie.close
+    (tie.spec
+    Inv-loop
+    μ-loop
+    loop-holds
+    mark-at-requires
+    cast-fault-at
+    sub-fault-at
+    fault-at-requires
+    lower-number-requires
+    add-at
+    loop-less
+    loop-again
+    returns)

@@ -1,0 +1,166 @@
+-- `faults::is_misplaced` meets its contract, arm by arm.
+use borrow.Author.Needs.{needs}
+use Rattle.faults.proofs.is_misplaced.Statement.{statement}
+use Rattle.faults.specs.Faults.{misplaced}
+use Rattle.faults.proofs.is_misplaced.Tie as tie
+
+enum-told : tie.Need-enum-told
+enum-told c = search needs
+
+is-bare-requires : tie.Need-is-bare-requires
+is-bare-requires c κs = search needs
+
+enum-told-2 : tie.Need-enum-told-2
+enum-told-2 c = search needs
+
+is-bare-requires-2 : tie.Need-is-bare-requires-2
+is-bare-requires-2 c κs = search needs
+
+enum-told-3 : tie.Need-enum-told-3
+enum-told-3 c = search needs
+
+is-bare-requires-3 : tie.Need-is-bare-requires-3
+is-bare-requires-3 c κs = search needs
+
+enum-told-4 : tie.Need-enum-told-4
+enum-told-4 c = search needs
+
+is-bare-requires-4 : tie.Need-is-bare-requires-4
+is-bare-requires-4 c κs = search needs
+
+enum-told-5 : tie.Need-enum-told-5
+enum-told-5 c = search needs
+
+is-bare-requires-5 : tie.Need-is-bare-requires-5
+is-bare-requires-5 c κs = search needs
+
+enum-told-6 : tie.Need-enum-told-6
+enum-told-6 c = search needs
+
+is-bare-requires-6 : tie.Need-is-bare-requires-6
+is-bare-requires-6 c κs = search needs
+
+enum-told-7 : tie.Need-enum-told-7
+enum-told-7 c = search needs
+
+is-bare-requires-7 : tie.Need-is-bare-requires-7
+is-bare-requires-7 c κs = search needs
+
+enum-told-8 : tie.Need-enum-told-8
+enum-told-8 c = search needs
+
+is-bare-requires-8 : tie.Need-is-bare-requires-8
+is-bare-requires-8 c κs = search needs
+
+enum-told-9 : tie.Need-enum-told-9
+enum-told-9 c = search needs
+
+is-bare-requires-9 : tie.Need-is-bare-requires-9
+is-bare-requires-9 c κs = search needs
+
+enum-told-10 : tie.Need-enum-told-10
+enum-told-10 c = search needs
+
+is-bare-requires-10 : tie.Need-is-bare-requires-10
+is-bare-requires-10 c κs = search needs
+
+enum-known-shape : tie.Need-enum-known-shape
+enum-known-shape c = search needs
+
+enter-misplaced-requires : tie.Need-enter-misplaced-requires
+enter-misplaced-requires c κs = search needs
+
+enum-told-11 : tie.Need-enum-told-11
+enum-told-11 c = search needs
+
+is-bare-requires-11 : tie.Need-is-bare-requires-11
+is-bare-requires-11 c κs = search needs
+
+returns : tie.Need-returns
+unfolding misplaced
+returns c = rw (c .before .enum-told .given .1) (c .is-bare .ensures)
+
+returns-2 : tie.Need-returns-2
+unfolding misplaced
+returns-2 c = rw (c .before .enum-told2 .given .1) (c .is-bare2 .ensures)
+
+returns-3 : tie.Need-returns-3
+unfolding misplaced
+returns-3 c = rw (c .before .enum-told3 .given .1) (c .is-bare3 .ensures)
+
+returns-4 : tie.Need-returns-4
+unfolding misplaced
+returns-4 c = rw (c .before .enum-told4 .given .1) (c .is-bare4 .ensures)
+
+returns-5 : tie.Need-returns-5
+unfolding misplaced
+returns-5 c = rw (c .before .enum-told5 .given .1) (c .is-bare5 .ensures)
+
+returns-6 : tie.Need-returns-6
+unfolding misplaced
+returns-6 c = rw (c .before .enum-told6 .given .1) (c .is-bare6 .ensures)
+
+returns-7 : tie.Need-returns-7
+unfolding misplaced
+returns-7 c = rw (c .before .enum-told7 .given .1) (c .is-bare7 .ensures)
+
+returns-8 : tie.Need-returns-8
+unfolding misplaced
+returns-8 c = rw (c .before .enum-told8 .given .1) (c .is-bare8 .ensures)
+
+returns-9 : tie.Need-returns-9
+unfolding misplaced
+returns-9 c = rw (c .before .enum-told9 .given .1) (c .is-bare9 .ensures)
+
+returns-10 : tie.Need-returns-10
+unfolding misplaced
+returns-10 c = rw (c .before .enum-told10 .given .1) (c .is-bare10 .ensures)
+
+returns-11 : tie.Need-returns-11
+unfolding misplaced
+returns-11 c = rw (c .before .before .shape .given .1) (c .enter-misplaced .ensures)
+
+returns-12 : tie.Need-returns-12
+unfolding misplaced
+returns-12 c = rw (c .before .enum-told11 .given .1) (c .is-bare11 .ensures)
+
+pub is-misplaced-spec : {M : Type 1} → statement M
+is-misplaced-spec =
+    tie.close
+    (tie.spec
+    enum-told
+    is-bare-requires
+    enum-told-2
+    is-bare-requires-2
+    enum-told-3
+    is-bare-requires-3
+    enum-told-4
+    is-bare-requires-4
+    enum-told-5
+    is-bare-requires-5
+    enum-told-6
+    is-bare-requires-6
+    enum-told-7
+    is-bare-requires-7
+    enum-told-8
+    is-bare-requires-8
+    enum-told-9
+    is-bare-requires-9
+    enum-told-10
+    is-bare-requires-10
+    enum-known-shape
+    enter-misplaced-requires
+    enum-told-11
+    is-bare-requires-11
+    returns
+    returns-2
+    returns-3
+    returns-4
+    returns-5
+    returns-6
+    returns-7
+    returns-8
+    returns-9
+    returns-10
+    returns-11
+    returns-12)

@@ -1,0 +1,95 @@
+-- `faults::table_starts` meets its contract. The loop's invariant: all branches start just if those from `k` on do. The measure is
+-- what is left.
+use Prim.Native.Nat.{_-_}
+use mathlib.Core.Path.{_≡_, _∙_}
+use native.Mathlib.Nat.{sub-eq-zero-of-le}
+use native.Mathlib.Omega.{arith}
+use lib.ListN.{length}
+use borrow.Author.Needs.{needs}
+use borrow.Author.Tests.{not-true, not-false}
+use Rattle.faults.proofs.table_starts.Statement.{statement}
+use Rattle.successors.specs.Successors.{tableFrom}
+use Rattle.faults.specs.Faults.{allStart}
+use Rattle.layout.specs.Workspace.{marksIn}
+use Rattle.words.proofs.Left.{one-left}
+use Rattle.successors.proofs.Sizes.{size-below}
+use Rattle.faults.proofs.table_starts.Tie as tie
+
+abbrev Inv-loop : tie.InvT-loop
+Inv-loop code w p at table n size k₀ k =
+    allStart (marksIn w (length code)) p (tableFrom code at table 0 size)
+    ≡ allStart (marksIn w (length code)) p (tableFrom code at table k (size - k))
+
+abbrev μ-loop : tie.MeasureT-loop
+μ-loop code w p at table n size k₀ k = size - k
+
+table-size-requires : tie.Need-table-size-requires Inv-loop μ-loop
+table-size-requires c κs = search needs
+
+loop-holds : tie.Need-loop-holds Inv-loop μ-loop
+loop-holds c = let e : c .table-size .result - 0 ≡ c .table-size .result = omega arith in rw e
+
+cast-table-target : tie.Need-cast-table-target Inv-loop μ-loop
+cast-table-target c = omega (
+  arith,
+  c .before .before .table-size .ensures,
+  size-below (c .before .before .before .before .before .args .table) (c .before .before .before .before .before .args .n),
+  c .before .before .before .before .before .fits .n,
+  c .loop-test .taken,
+)
+
+table-target-requires : tie.Need-table-target-requires Inv-loop μ-loop
+table-target-requires c κs = search needs
+
+starts-in-requires : tie.Need-starts-in-requires Inv-loop μ-loop
+starts-in-requires c κs = search needs
+
+returns : tie.Need-returns Inv-loop μ-loop
+returns c =
+    let size = c .before .before .before .before .before .table-size in
+    let starts = c .before .starts-in in
+    rw (
+      ← size .ensures,
+      c .before .before .before .before .loop .inv,
+      one-left (c .before .before .before .before .loop .k) (size .result) (c .before .before .before .loop-test .taken),
+      ← c .before .before .table-target .ensures,
+      ← starts .ensures,
+      not-true (starts .result) (c .if1 .taken),
+    )
+
+add-k : tie.Need-add-k Inv-loop μ-loop
+add-k c = search needs
+
+loop-less : tie.Need-loop-less Inv-loop μ-loop
+loop-less c = search needs
+
+loop-again : tie.Need-loop-again Inv-loop μ-loop
+loop-again c =
+    let starts = c .before .starts-in in
+    c .before .before .before .before .loop .inv
+    ∙ rw (
+      one-left (c .before .before .before .before .loop .k) (c .before .before .before .before .before .table-size .result) (c .before .before .before .loop-test .taken),
+      ← c .before .before .table-target .ensures,
+      ← starts .ensures,
+      not-false (starts .result) (c .if1 .left),
+    )
+
+returns-2 : tie.Need-returns-2 Inv-loop μ-loop
+returns-2 c = rw (← c .before .before .table-size .ensures, c .before .loop .inv, sub-eq-zero-of-le (c .loop-test .left))
+
+pub table-starts-spec : {M : Type 1} → statement M
+table-starts-spec =
+    tie.close
+    (tie.spec
+    Inv-loop
+    μ-loop
+    table-size-requires
+    loop-holds
+    cast-table-target
+    table-target-requires
+    starts-in-requires
+    returns
+    add-k
+    loop-less
+    loop-again
+    returns-2)

@@ -1,0 +1,243 @@
+// The numbers 12 to 14, from the marks that the workspace holds.
+ghost use mathlib.Core.Path.{_≡_};
+ghost use mathlib.Core.List.{[], _∷_};
+ghost use mathlib.Core.Bool.{not, _&&_, _||_};
+ghost use lib.Dec.{eqb, leb};
+ghost use Prim.Native.Nat.{_≤_, _<_, _-_};
+ghost use lib.ListN.{length};
+ghost use Rattle.entries.specs.Entries.{entryAt, entryCount};
+ghost use Rattle.successors.specs.Successors.{tableSize, tableFrom, exitLabel, selectTargets};
+ghost use Rattle.faults.specs.Faults.{allStart, bare, strays, misplaced, uncallable, codeNumber};
+ghost use Rattle.layout.specs.Workspace.{marksIn};
+ghost use Rattle.faults.specs.OnePass.{faultOf, faultAt, lower};
+use layout::marks;
+use opcode::Decoded;
+use shape::Shape;
+use shape::Table;
+
+fn both_start(w: &[u16], size: usize, p: u32, at: usize, other: usize) -> bool
+    requires { ⌜ size ≤ 65535 ⌝ }
+    requires { ⌜ p < 65535 ⌝ }
+    ensures { λ b. ⌜ b ≡ allStart (marksIn (now (w .entry)) size) p (at ∷ other ∷ []) ⌝ }
+{
+    if !marks::starts_in(w, size, p, at) {
+        return false;
+    }
+    marks::starts_in(w, size, p, other)
+}
+
+// Every branch of a switch's table starts in the region.
+fn table_starts(code: &[u8], w: &[u16], p: u32, at: usize, table: Table, n: u32) -> bool
+    requires { ⌜ length (now code) ≤ 65535 ⌝ }
+    requires { ⌜ p < 65535 ⌝ }
+    requires { ⌜ at < 65536 ⌝ }
+    ensures { λ b. ⌜ b ≡ allStart (marksIn (now (w .entry)) (length (now (code .entry)))) p (tableFrom (now (code .entry)) at table 0 (tableSize table n)) ⌝ }
+{
+    let size = successors::table_size(table, n);
+    for k in 0..size {
+        if !marks::starts_in(
+            w,
+            code.len(),
+            p,
+            successors::table_target(code, at, table, k as u32),
+        ) {
+            return false;
+        }
+    }
+    true
+}
+
+fn select_starts(code: &[u8], w: &[u16], p: u32, at: usize, table: Table, n: u32) -> bool
+    requires { ⌜ length (now code) ≤ 65535 ⌝ }
+    requires { ⌜ p < 65535 ⌝ }
+    requires { ⌜ at < 65536 ⌝ }
+    ensures { λ b. ⌜ b ≡ allStart (marksIn (now (w .entry)) (length (now (code .entry)))) p (exitLabel (now (code .entry)) at ∷ selectTargets (now (code .entry)) at table n) ⌝ }
+{
+    if !both_start(
+        w,
+        code.len(),
+        p,
+        successors::exit_label(code, at),
+        successors::else_target(code, at),
+    ) {
+        return false;
+    }
+    table_starts(code, w, p, at, table, n)
+}
+
+// 12: a successor or switch label is no start in its region.
+fn is_stray(code: &[u8], w: &[u16], p: u32, at: usize, next: usize, shape: Shape) -> bool
+    requires { ⌜ length (now code) ≤ 65535 ⌝ }
+    requires { ⌜ p < 65535 ⌝ }
+    requires { ⌜ at < 65536 ⌝ }
+    ensures { λ b. ⌜ b ≡ strays (now (code .entry)) (marksIn (now (w .entry)) (length (now (code .entry)))) p at next shape ⌝ }
+{
+    match shape {
+        Shape::Straight(_, _) => !marks::starts_in(w, code.len(), p, next),
+        Shape::Drop(_) => !marks::starts_in(w, code.len(), p, next),
+        Shape::Goto(distance) => !marks::starts_in(
+            w,
+            code.len(),
+            p,
+            successors::place_at(at, distance),
+        ),
+        Shape::Branch(distance) => !both_start(
+            w,
+            code.len(),
+            p,
+            next,
+            successors::place_at(at, distance),
+        ),
+        Shape::Keep(distance) => !both_start(
+            w,
+            code.len(),
+            p,
+            next,
+            successors::place_at(at, distance),
+        ),
+        Shape::Loop(distance) => !both_start(
+            w,
+            code.len(),
+            p,
+            next,
+            successors::place_at(at, distance),
+        ),
+        Shape::Again => !marks::starts_in(w, code.len(), p, next),
+        Shape::Select(table, n) => !select_starts(code, w, p, at, table, n),
+        Shape::Exit => false,
+        Shape::Invoke(_) => !marks::starts_in(w, code.len(), p, next),
+        Shape::Begin(_) => !marks::starts_in(w, code.len(), p, next),
+        Shape::Return => false,
+    }
+}
+
+// 13: an ENTER that is not its procedure's first, or procedure 0's with parameters.
+fn enter_misplaced(code: &[u8], p: u32, at: usize, parameters: u32) -> bool
+    ensures { λ b. ⌜ b ≡ (not (eqb at (entryAt (now (code .entry)) p)) || (eqb p 0 && not (eqb parameters 0))) ⌝ }
+{
+    if at != entries::entry_at(code, p) as usize {
+        return true;
+    }
+    if p != 0 {
+        return false;
+    }
+    parameters != 0
+}
+
+// 13: a procedure from 1 on that begins with another instruction.
+fn is_bare(code: &[u8], p: u32, at: usize) -> bool
+    ensures { λ b. ⌜ b ≡ bare (now (code .entry)) p at ⌝ }
+{
+    if at != entries::entry_at(code, p) as usize {
+        return false;
+    }
+    p != 0
+}
+
+fn is_misplaced(code: &[u8], p: u32, at: usize, next: usize, shape: Shape) -> bool
+    ensures { λ b. ⌜ b ≡ misplaced (now (code .entry)) p at next shape ⌝ }
+{
+    match shape {
+        Shape::Straight(_, _) => is_bare(code, p, at),
+        Shape::Drop(_) => is_bare(code, p, at),
+        Shape::Goto(_) => is_bare(code, p, at),
+        Shape::Branch(_) => is_bare(code, p, at),
+        Shape::Keep(_) => is_bare(code, p, at),
+        Shape::Loop(_) => is_bare(code, p, at),
+        Shape::Again => is_bare(code, p, at),
+        Shape::Select(_, _) => is_bare(code, p, at),
+        Shape::Exit => is_bare(code, p, at),
+        Shape::Invoke(_) => is_bare(code, p, at),
+        Shape::Begin(parameters) => enter_misplaced(code, p, at, parameters),
+        Shape::Return => is_bare(code, p, at),
+    }
+}
+
+fn is_no_callee(code: &[u8], c: u32) -> bool
+    ensures { λ b. ⌜ b ≡ (eqb c 0 || leb (entryCount (now (code .entry))) c) ⌝ }
+{
+    if c == 0 {
+        return true;
+    }
+    entries::entry_count(code) <= c
+}
+
+// 14: callee 0 or not in the entries.
+fn is_uncallable(code: &[u8], p: u32, at: usize, next: usize, shape: Shape) -> bool
+    ensures { λ b. ⌜ b ≡ uncallable (now (code .entry)) p at next shape ⌝ }
+{
+    match shape {
+        Shape::Straight(_, _) => false,
+        Shape::Drop(_) => false,
+        Shape::Goto(_) => false,
+        Shape::Branch(_) => false,
+        Shape::Keep(_) => false,
+        Shape::Loop(_) => false,
+        Shape::Again => false,
+        Shape::Select(_, _) => false,
+        Shape::Exit => false,
+        Shape::Invoke(c) => is_no_callee(code, c),
+        Shape::Begin(_) => false,
+        Shape::Return => false,
+    }
+}
+
+fn fault_of(code: &[u8], w: &[u16], p: u32, at: usize, next: usize, shape: Shape) -> u32
+    requires { ⌜ length (now code) ≤ 65535 ⌝ }
+    requires { ⌜ p < 65535 ⌝ }
+    requires { ⌜ at < 65536 ⌝ }
+    ensures { λ n. ⌜ n ≡ faultOf (now (code .entry)) (marksIn (now (w .entry)) (length (now (code .entry)))) p at next shape ⌝ }
+{
+    if is_stray(code, w, p, at, next, shape) {
+        return 12;
+    }
+    if is_misplaced(code, p, at, next, shape) {
+        return 13;
+    }
+    if is_uncallable(code, p, at, next, shape) {
+        return 14;
+    }
+    0
+}
+
+// The lowest number that the instruction of procedure `p` at an offset gives.
+fn fault_at(code: &[u8], w: &[u16], p: u32, at: usize) -> u32
+    requires { ⌜ length (now code) ≤ 65535 ⌝ }
+    requires { ⌜ p < 65535 ⌝ }
+    requires { ⌜ at < 65536 ⌝ }
+    ensures { λ n. ⌜ n ≡ faultAt (now (code .entry)) (marksIn (now (w .entry)) (length (now (code .entry)))) p at ⌝ }
+{
+    let limit = entries::region_end(code, p);
+    match opcode::decode(code, limit, at) {
+        Decoded::Unserved => 0,
+        Decoded::Past => 0,
+        Decoded::At(i, next) => fault_of(code, w, p, at, next, shape::shape_of(i)),
+    }
+}
+
+fn lower_number(a: u32, b: u32) -> u32
+    ensures { λ n. ⌜ n ≡ lower a b ⌝ }
+{
+    if a == 0 {
+        return b;
+    }
+    if b == 0 {
+        return a;
+    }
+    if b < a { b } else { a }
+}
+
+// 0, or the lowest of 12 to 14 over every instruction cut.
+pub fn code_number(code: &[u8], w: &[u16]) -> u32
+    requires { ⌜ length (now code) ≤ 65535 ⌝ }
+    ensures { λ n. ⌜ n ≡ codeNumber (now (code .entry)) (marksIn (now (w .entry)) (length (now (code .entry)))) ⌝ }
+{
+    let mut lowest = 0;
+    for at in 0..code.len() {
+        let mark = marks::mark_at(w, code.len(), at);
+        if mark != 0 {
+            lowest = lower_number(lowest, fault_at(code, w, (mark as u32) - 1, at));
+        }
+    }
+    lowest
+}

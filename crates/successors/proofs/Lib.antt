@@ -1,0 +1,2 @@
+-- A law about the size of a switch's table.
+pub mod Sizes

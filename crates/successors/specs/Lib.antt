@@ -1,0 +1,2 @@
+-- Where control may go from an instruction.
+pub mod Successors
