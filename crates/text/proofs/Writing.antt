@@ -1,7 +1,6 @@
 -- Text written piece by piece, and how long numbers are. Stores one after the other are the stores of the joined text, whether there is
 -- room for them or not, so a piece behind a piece is the two as one; a loop is told by what is left to write.
 use Prim.Native.Nat.{ℕ, zero, suc, _+_, _*_, _-_, _/_, _%_, _≤_, _<_, zero-le}
-use mathlib.Core.Bool.{Bool, true, false, cond}
 use mathlib.Core.Path.{_≡_, refl, sym, _∙_, ap}
 use mathlib.Core.List.{List, [], _∷_, _++_, append-assoc, append-nil}
 use native.Mathlib.Nat.{add-zero, add-suc, suc-add}
@@ -10,6 +9,7 @@ use native.Mathlib.Omega.{arith}
 use lib.Dec.{ltb}
 use lib.ListN.{length, set, getD, drop, length-append}
 use lib.Seq.{sets, length-sets, drop-cons}
+use Rattle.words.proofs.Tests.{either}
 use Rattle.text.specs.Text.{power, digits, width, decimal, wordsText, Wrote}
 
 sets-then : (l : List ℕ) (i : ℕ) (x y : List ℕ) → sets (sets l i x) (i + length x) y ≡ sets l i (x ++ y)
@@ -83,10 +83,6 @@ power-positive (suc k) = let p : 1 ≤ power k = power-positive k in omega arith
 pub length-digits : (k n : ℕ) → length (digits k n) ≡ k
 length-digits zero n = refl
 length-digits (suc k) n = ap suc (length-digits k n)
-
-either : (P : ℕ → Type 0) (b : Bool) (x y : ℕ) → P x → P y → P (cond b x y)
-either P true x y p q = p
-either P false x y p q = q
 
 abbrev Wide : ℕ → Type 0
 Wide k = (1 ≤ k) × (k ≤ 10)
