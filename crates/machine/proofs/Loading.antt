@@ -1,6 +1,6 @@
 -- What reading a record tells, and the memory that load leaves, word by word.
 use Prim.Native.Nat.{ℕ, zero, suc, _+_, _*_, _-_, _<_, _≤_}
-use mathlib.Core.Path.{_≡_, _∙_, refl, sym, ap}
+use mathlib.Core.Path.{_≡_, _∙_, refl, sym}
 use mathlib.Core.Bool.{Bool, true, false, cond, _&&_}
 use mathlib.Core.List.{List, [], _∷_, _++_}
 use native.Mathlib.Omega.{arith}
@@ -8,8 +8,9 @@ use lib.Dec.{eqb, leb}
 use lib.ListN.{length, take, replicate, set, length-append, length-replicate, List·getD-append, List·getD-eq-default}
 use lib.Seq.{getD-append-add, take-suc, take-suc-set, take-all}
 use borrow.Author.Tests.{eqb-true, eqb-false, leb-true, le-leb, lt-leb, eq-eqb, ne-eqb}
-use Rattle.words.specs.Bytes.{wordAt}
+use Rattle.words.specs.Bytes.{wordAt, wordsFrom}
 use Rattle.words.proofs.Tests.{both-true}
+use Rattle.words.proofs.Words.{words-at, words-count}
 use Rattle.record.proofs.Sound.{sound-sizes}
 use Rattle.record.specs.declared.Reading.the-variants.{Sound, Refused as NotRead}
 use Rattle.header.specs.declared.Header.{Header}
@@ -20,7 +21,7 @@ use Rattle.effect.specs.Memory.{read}
 use Rattle.effect.specs.Program.{areasIn, areasOf, programOf, framesStart}
 use Rattle.machine.specs.declared.load.Loaded.the-variants.{Refused, Ready}
 use Rattle.machine.specs.Fits.{sizesTaken}
-use Rattle.machine.specs.Load.{wordsFrom, constantWords, initialData, loadedMemory, startOf, loadNumber, loading, loadOf}
+use Rattle.machine.specs.Load.{constantWords, initialData, loadedMemory, startOf, loadNumber, loading, loadOf}
 
 apart : (n : ℕ) (h : Header) → NotRead n ≡ Sound h → ⊥
 apart n h e = let z : _≡_ {A = ℕ} 0 1 = cc in omega arith
@@ -53,18 +54,6 @@ taken-sizes A m s t e h =
       leb-true (length m) 16384 (both-true (leb (length m) 16384) (leb (length s) 1024) some .0),
       leb-true (length s) 1024 (both-true (leb (length m) 16384) (leb (length s) 1024) some .1),
     )
-
--- The words of a part, and how many they are.
-words-at : (r : List ℕ) (place n j : ℕ) → j < n → read (wordsFrom r place n) j ≡ wordAt r (place + 4 * j)
-words-at r place zero j h = absurd (omega arith)
-words-at r place (suc n) zero h = let e : place ≡ place + 4 * 0 = omega arith in ap (λ (k : ℕ). wordAt r k) e
-words-at r place (suc n) (suc j) h =
-    let e : place + 4 + 4 * j ≡ place + 4 * suc j = omega arith in
-    words-at r (place + 4) n j (omega arith) ∙ ap (λ (k : ℕ). wordAt r k) e
-
-words-count : (r : List ℕ) (place n : ℕ) → length (wordsFrom r place n) ≡ n
-words-count r place zero = refl
-words-count r place (suc n) = ap suc (words-count r (place + 4) n)
 
 -- An element behind the first part of a list; zeros, and zeros behind a list.
 behind : (xs ys : List ℕ) (k : ℕ) → length xs ≤ k → read (xs ++ ys) k ≡ read ys (k - length xs)

@@ -2,10 +2,10 @@
 -- constants follow; FP and MP start at 3+g+c; the rest is 0."
 use mathlib.Core.Bool.{cond, not, _&&_}
 use mathlib.Core.List.{List, [], _∷_, _++_}
-use Prim.Native.Nat.{ℕ, zero, suc, _+_, _-_}
+use Prim.Native.Nat.{ℕ, _+_, _-_}
 use lib.Dec.{eqb, leb}
 use lib.ListN.{length, replicate}
-use Rattle.words.specs.Bytes.{wordAt}
+use Rattle.words.specs.Bytes.{wordsFrom}
 use Rattle.words.specs.Refusal.{_when_}
 use Rattle.header.specs.Header.{headerOf, constantsAt}
 use Rattle.entries.specs.Entries.{entryAt}
@@ -15,11 +15,6 @@ use Rattle.machine.specs.declared.load.Loaded.{Loaded}
 use Rattle.machine.specs.declared.load.Loaded.the-variants.{Refused, Ready}
 use Rattle.effect.specs.Program.{Program, programOf, areasOf, constantsStart, framesStart}
 use Rattle.machine.specs.Fits.{sizesTaken}
-
--- n words of the record from a place on.
-abbrev pub wordsFrom : List ℕ → ℕ → ℕ → List ℕ
-wordsFrom r place zero = []
-wordsFrom r place (suc n) = wordAt r place ∷ wordsFrom r (place + 4) n
 
 unfoldable pub constantWords : List ℕ → List ℕ
 constantWords r = wordsFrom r (constantsAt (headerOf r)) (headerOf r .constants)

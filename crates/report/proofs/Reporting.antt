@@ -8,15 +8,14 @@ use native.Mathlib.Omega.{arith}
 use borrow.Author.Tests.{le-leb, lt-leb, leb-true}
 use lib.Dec.{eqb, leb}
 use lib.ListN.{length, take, drop, getD}
-use Rattle.words.specs.Bytes.{halfwordAt}
+use Rattle.words.specs.Bytes.{halfwordAt, wordsFrom}
 use Rattle.words.proofs.Tests.{both-true}
-use Rattle.machine.specs.Load.{wordsFrom}
 use Rattle.machine.specs.declared.run.Answer.{Answer}
 use Rattle.safety.specs.Joined.{joined, joinedOf}
 use Rattle.verifier.specs.Check.{checking, checkOf}
 use Rattle.text.specs.Text.{checkLine}
 use Rattle.run_file.specs.RunFile.{resultsCount, parametersCount, recordAt, named, resultsOf, parametersOf, budgetOf, memoryWords, stackWords, recordOf, wellFormed}
-use Rattle.run_file.proofs.Words.{parameters-part}
+use Rattle.words.proofs.Words.{words-part}
 use Rattle.report.specs.Report.{answerText, reported, printed}
 use Rattle.report.specs.Buffers.{ranPage, partPage, pageOf, orEight, Leaving, leaving, delivered, reportOf}
 use Rattle.report.proofs.Printing.{answer-fits}
@@ -32,7 +31,7 @@ pub given-parameters : (f : List ℕ) {arr : List ℕ} (n : ℕ) {k : ℕ} → a
     → take k arr ≡ parametersOf f
 unfolding parametersOf
 given-parameters f n {k} e g h =
-    rw (e) (parameters-part f (7 + resultsCount f) k n h ∙ ap (λ (i : ℕ). wordsFrom f (7 + resultsCount f) i) g)
+    rw (e) (words-part f (7 + resultsCount f) k n h ∙ ap (λ (i : ℕ). wordsFrom f (7 + resultsCount f) i) g)
 
 pub count-small : (f : List ℕ) {k : ℕ} → k ≡ parametersCount f → ((i : ℕ) → getD f i 0 < 256) → k ≤ 255
 count-small f e bytes = let b = bytes (6 + resultsCount f) in omega arith

@@ -6,8 +6,7 @@ use mathlib.Core.List.{List}
 use Prim.Native.Nat.{ℕ, _+_, _*_}
 use lib.Dec.{eqb, leb}
 use lib.ListN.{length, take, drop}
-use Rattle.words.specs.Bytes.{byteAt, halfwordAt, wordAt}
-use Rattle.machine.specs.Load.{wordsFrom}
+use Rattle.words.specs.Bytes.{byteAt, halfwordAt, wordAt, wordsFrom}
 
 abbrev pub resultsCount : List ℕ → ℕ
 resultsCount f = byteAt f 5

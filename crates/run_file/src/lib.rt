@@ -2,7 +2,7 @@
 ghost use mathlib.Core.Path.{_≡_};
 ghost use Prim.Native.Nat.{_+_};
 ghost use lib.ListN.{length};
-ghost use Rattle.machine.specs.Load.{wordsFrom};
+ghost use Rattle.words.specs.Bytes.{wordsFrom};
 ghost use Rattle.run_file.specs.RunFile.{resultsCount, parametersCount, budgetAt, resultsOf, budgetOf, memoryWords, stackWords, recordOf, named, wellFormed};
 
 fn results_count(f: &[u8]) -> usize

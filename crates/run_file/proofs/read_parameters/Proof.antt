@@ -6,8 +6,8 @@ use native.Mathlib.Omega.{arith}
 use lib.ListN.{length, take, length-set}
 use borrow.Author.Needs.{needs}
 use Rattle.run_file.proofs.read_parameters.Statement.{statement}
-use Rattle.machine.specs.Load.{wordsFrom}
-use Rattle.run_file.proofs.Words.{written-next, written-all}
+use Rattle.words.specs.Bytes.{wordsFrom}
+use Rattle.words.proofs.Words.{written-next, written-all}
 use Rattle.run_file.proofs.read_parameters.Tie as tie
 
 abbrev Inv-loop : tie.InvT-loop

@@ -3,7 +3,7 @@ use Prim.Native.Nat.{_+_}
 use native.Mathlib.Omega.{arith}
 use borrow.Author.Needs.{needs}
 use Rattle.run_file.proofs.record_of.Statement.{statement}
-use Rattle.run_file.proofs.Words.{rest, rest-past}
+use Rattle.run_file.proofs.Rest.{rest, rest-past}
 use Rattle.run_file.specs.RunFile.{resultsCount, recordOf}
 use Rattle.run_file.proofs.record_of.Tie as tie
 
