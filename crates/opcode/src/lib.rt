@@ -6,6 +6,7 @@ use crate::instruction::Instruction;
 use crate::instruction::Mode;
 
 mod build;
+mod format;
 pub mod instruction;
 pub mod length;
 pub mod operand;
