@@ -175,7 +175,7 @@ impl Machine {
     {
         let q = self.registers;
         let areas = self.areas;
-        let decoded = opcode::decode(code, code.len(), q.pc as usize);
+        let decoded = opcode::fetch(code, q.pc as usize);
         match decoded {
             Decoded::Unserved => self.trapped(20),
             Decoded::Past => self.trapped(21),
