@@ -7,9 +7,12 @@ ghost use Rattle.shape.specs.Counts.{popped, needed};
 ghost use Rattle.effect.specs.Memory.{read};
 ghost use Rattle.effect.specs.Data.{baseOf, loadFrom, addressOf};
 ghost use Rattle.control.specs.Control.{iterates, repeats};
+ghost use mathlib.Core.List.{List};
+ghost use Prim.Native.Nat.{ℕ};
 ghost use Rattle.execute.specs.Execute.{execute};
+ghost use Rattle.execute.specs.Group.{groupOf};
 ghost use Rattle.effect.specs.Memory.{chained};
-ghost use Rattle.effect.specs.Program.{framesStart, program};
+ghost use Rattle.effect.specs.Program.{Program, framesStart, program};
 ghost use Rattle.execute.specs.Depth.{top, storedEffect, iteratedEffect, repeatedEffect};
 use effect::access;
 use effect::data;
@@ -104,8 +107,222 @@ fn next_effect(areas: Areas, q: Registers, m: &[u32], s: &[u32], next: u32) -> E
     control::repeats(areas, q, m, next, a, last, step, label)
 }
 
-// The effect of an instruction whose stack words are there: y is the top one, x the one below it.
-pub fn effect_of(
+// The two words at the top of the stack.
+fn top_word(s: &[u32], q: Registers) -> u32
+    ensures { λ x. ⌜ x ≡ read (now (s .entry)) (q .height - 1) ⌝ }
+{
+    stack_word(s, q.height, 1)
+}
+
+fn second_word(s: &[u32], q: Registers) -> u32
+    ensures { λ x. ⌜ x ≡ read (now (s .entry)) (q .height - 2) ⌝ }
+{
+    stack_word(s, q.height, 2)
+}
+
+// What a step does for an instruction.
+pub enum Group {
+    // pushes words over those that it finds
+    Gives,
+    // goes to a place
+    Goes,
+    // writes the words that it finds to memory
+    Stores,
+    // anything else
+    Others,
+}
+
+pub fn group_of(i: Instruction) -> Group
+    ensures { λ g. ⌜ g ≡ groupOf i ⌝ }
+{
+    match i {
+        Instruction::LoadConstant(_) => Group::Gives,
+        Instruction::Load(_, _, _) => Group::Gives,
+        Instruction::LoadAddress(_, _) => Group::Gives,
+        Instruction::Store(_, _, _) => Group::Stores,
+        Instruction::Pop(_) => Group::Goes,
+        Instruction::Swap => Group::Gives,
+        Instruction::Nop => Group::Goes,
+        Instruction::Signed(_) => Group::Gives,
+        Instruction::Unsigned(_) => Group::Gives,
+        Instruction::Negate => Group::Gives,
+        Instruction::Equal => Group::Gives,
+        Instruction::NotEqual => Group::Gives,
+        Instruction::CompareSigned(_) => Group::Gives,
+        Instruction::CompareUnsigned(_) => Group::Gives,
+        Instruction::Set(_) => Group::Gives,
+        Instruction::Not => Group::Gives,
+        Instruction::Alloc => Group::Others,
+        Instruction::Free => Group::Others,
+        Instruction::Jump(_) => Group::Goes,
+        Instruction::JumpC(_) => Group::Goes,
+        Instruction::JumpT(_) => Group::Goes,
+        Instruction::JumpF(_) => Group::Goes,
+        Instruction::Iter(_) => Group::Others,
+        Instruction::Next => Group::Others,
+        Instruction::Switch(_) => Group::Others,
+        Instruction::SwitchX(_) => Group::Others,
+        Instruction::Leave => Group::Goes,
+        Instruction::Call(_) => Group::Others,
+        Instruction::Enter(_, _) => Group::Others,
+        Instruction::Rtn => Group::Others,
+    }
+}
+
+// The effects of the instructions of each group, whose stack words are there.
+pub fn given_effect(q: Registers, m: &[u32], s: &[u32], next: u32, i: Instruction) -> Effect
+    requires { ⌜ groupOf i ≡ Group.Gives ⌝ }
+    requires { ⌜ needed i ≤ q .height ⌝ }
+    ensures { λ e. ⌜ ((P : Program) → e ≡ execute P q (now (m .entry)) next (top (needed i) (q .height) (now (s .entry))) i) ⌝ }
+{
+    match i {
+        Instruction::LoadConstant(n) => data::given(q, next, 0, n),
+        Instruction::Load(base, mode, offset) => load_effect(
+            q,
+            m,
+            next,
+            top_word(s, q),
+            base,
+            mode,
+            offset,
+        ),
+        Instruction::LoadAddress(base, offset) => address_effect(
+            q,
+            m,
+            next,
+            top_word(s, q),
+            base,
+            offset,
+        ),
+        Instruction::Swap => Effect::Go(
+            2,
+            Push::PushTwo(top_word(s, q), second_word(s, q)),
+            Write::NoWrite,
+            q.moved(next),
+        ),
+        Instruction::Signed(op) => data::valued(
+            q,
+            next,
+            2,
+            operate::arithmetic::signed_value(op, second_word(s, q), top_word(s, q)),
+        ),
+        Instruction::Unsigned(op) => data::valued(
+            q,
+            next,
+            2,
+            operate::arithmetic::unsigned_value(op, second_word(s, q), top_word(s, q)),
+        ),
+        Instruction::Negate => data::valued(
+            q,
+            next,
+            1,
+            operate::arithmetic::negated_value(top_word(s, q)),
+        ),
+        Instruction::Equal => data::given(
+            q,
+            next,
+            2,
+            operate::truth(second_word(s, q) == top_word(s, q)),
+        ),
+        Instruction::NotEqual => data::given(
+            q,
+            next,
+            2,
+            operate::truth(second_word(s, q) != top_word(s, q)),
+        ),
+        Instruction::CompareSigned(order) => {
+            data::given(
+                q,
+                next,
+                2,
+                operate::truth(operate::compare::signed_test(
+                    order,
+                    second_word(s, q),
+                    top_word(s, q),
+                )),
+            )
+        }
+        Instruction::CompareUnsigned(order) => {
+            data::given(
+                q,
+                next,
+                2,
+                operate::truth(operate::compare::unsigned_test(
+                    order,
+                    second_word(s, q),
+                    top_word(s, q),
+                )),
+            )
+        }
+        Instruction::Set(op) => data::given(
+            q,
+            next,
+            2,
+            operate::sets::set_word(op, second_word(s, q), top_word(s, q)),
+        ),
+        Instruction::Not => data::inverted(q, next, top_word(s, q)),
+        _ => Effect::Finish,
+    }
+}
+
+pub fn gone_effect(q: Registers, s: &[u32], next: u32, i: Instruction) -> Effect
+    requires { ⌜ groupOf i ≡ Group.Goes ⌝ }
+    requires { ⌜ needed i ≤ q .height ⌝ }
+    ensures { λ e. ⌜ ((P : Program) (m : List ℕ) → e ≡ execute P q m next (top (needed i) (q .height) (now (s .entry))) i) ⌝ }
+{
+    match i {
+        Instruction::Pop(n) => control::jump_to(q, n, next),
+        Instruction::Nop => control::jump_to(q, 0, next),
+        Instruction::Jump(distance) => control::jumps(q, distance),
+        Instruction::JumpC(distance) => control::jumps_if_false(q, next, distance, top_word(s, q)),
+        Instruction::JumpT(distance) => control::jumps_keeping(
+            q,
+            next,
+            1,
+            distance,
+            top_word(s, q),
+        ),
+        Instruction::JumpF(distance) => control::jumps_keeping(
+            q,
+            next,
+            0,
+            distance,
+            top_word(s, q),
+        ),
+        Instruction::Leave => control::jump_to(q, 1, top_word(s, q)),
+        _ => Effect::Finish,
+    }
+}
+
+pub fn stored_effect(
+    areas: Areas,
+    q: Registers,
+    m: &[u32],
+    s: &[u32],
+    next: u32,
+    i: Instruction,
+) -> Effect
+    requires { ⌜ chained (now m) (framesStart areas) (q .fp) (q .calls) ≡ true ⌝ }
+    requires { ⌜ groupOf i ≡ Group.Stores ⌝ }
+    requires { ⌜ needed i ≤ q .height ⌝ }
+    ensures { λ e. ⌜ ((code : List ℕ) → e ≡ execute (program code areas) q (now (m .entry)) next (top (needed i) (q .height) (now (s .entry))) i) ⌝ }
+{
+    match i {
+        Instruction::Store(base, mode, offset) => store_effect(
+            areas,
+            q,
+            m,
+            s,
+            next,
+            base,
+            mode,
+            offset,
+        ),
+        _ => Effect::Finish,
+    }
+}
+
+pub fn other_effect(
     code: &[u8],
     areas: Areas,
     q: Registers,
@@ -117,74 +334,20 @@ pub fn effect_of(
     requires { ⌜ chained (now m) (framesStart areas) (q .fp) (q .calls) ≡ true ⌝ }
     requires { ⌜ length (now m) ≤ 16384 ⌝ }
     requires { ⌜ q .pc < 4096 ⌝ }
+    requires { ⌜ groupOf i ≡ Group.Others ⌝ }
     requires { ⌜ needed i ≤ q .height ⌝ }
     ensures { λ e. ⌜ e ≡ execute (program (now (code .entry)) areas) q (now (m .entry)) next (top (needed i) (q .height) (now (s .entry))) i ⌝ }
 {
-    let y = stack_word(s, q.height, 1);
-    let x = stack_word(s, q.height, 2);
     match i {
-        Instruction::LoadConstant(n) => data::given(q, next, 0, n),
-        Instruction::Load(base, mode, offset) => load_effect(q, m, next, y, base, mode, offset),
-        Instruction::LoadAddress(base, offset) => address_effect(q, m, next, y, base, offset),
-        Instruction::Store(base, mode, offset) => store_effect(
-            areas,
-            q,
-            m,
-            s,
-            next,
-            base,
-            mode,
-            offset,
-        ),
-        Instruction::Pop(n) => control::jump_to(q, n, next),
-        Instruction::Swap => Effect::Go(2, Push::PushTwo(y, x), Write::NoWrite, q.moved(next)),
-        Instruction::Nop => control::jump_to(q, 0, next),
-        Instruction::Signed(op) => data::valued(
-            q,
-            next,
-            2,
-            operate::arithmetic::signed_value(op, x, y),
-        ),
-        Instruction::Unsigned(op) => data::valued(
-            q,
-            next,
-            2,
-            operate::arithmetic::unsigned_value(op, x, y),
-        ),
-        Instruction::Negate => data::valued(q, next, 1, operate::arithmetic::negated_value(y)),
-        Instruction::Equal => data::given(q, next, 2, operate::truth(x == y)),
-        Instruction::NotEqual => data::given(q, next, 2, operate::truth(x != y)),
-        Instruction::CompareSigned(order) => {
-            data::given(
-                q,
-                next,
-                2,
-                operate::truth(operate::compare::signed_test(order, x, y)),
-            )
-        }
-        Instruction::CompareUnsigned(order) => {
-            data::given(
-                q,
-                next,
-                2,
-                operate::truth(operate::compare::unsigned_test(order, x, y)),
-            )
-        }
-        Instruction::Set(op) => data::given(q, next, 2, operate::sets::set_word(op, x, y)),
-        Instruction::Not => data::inverted(q, next, y),
-        Instruction::Alloc => data::allocated(q, m, next, y),
-        Instruction::Free => data::freed(q, next, y),
-        Instruction::Jump(distance) => control::jumps(q, distance),
-        Instruction::JumpC(distance) => control::jumps_if_false(q, next, distance, y),
-        Instruction::JumpT(distance) => control::jumps_keeping(q, next, 1, distance, y),
-        Instruction::JumpF(distance) => control::jumps_keeping(q, next, 0, distance, y),
+        Instruction::Alloc => data::allocated(q, m, next, top_word(s, q)),
+        Instruction::Free => data::freed(q, next, top_word(s, q)),
         Instruction::Iter(distance) => iter_effect(areas, q, m, s, next, distance),
         Instruction::Next => next_effect(areas, q, m, s, next),
-        Instruction::Switch(n) => control::switches(code, q, n, y),
-        Instruction::SwitchX(n) => control::searches(code, q, n, y),
-        Instruction::Leave => control::jump_to(q, 1, y),
+        Instruction::Switch(n) => control::switches(code, q, n, top_word(s, q)),
+        Instruction::SwitchX(n) => control::searches(code, q, n, top_word(s, q)),
         Instruction::Call(p) => control::calls(code, q, m, next, p),
         Instruction::Enter(parameters, words) => control::enters(q, m, next, parameters, words),
         Instruction::Rtn => control::returns(areas, q, m),
+        _ => Effect::Finish,
     }
 }

@@ -7,3 +7,4 @@ pub mod Stored
 pub mod Keeping
 pub mod Preserved
 pub mod Running
+pub mod Carrying

@@ -5,14 +5,22 @@ ghost use Prim.Native.Nat.{_≤_, _+_, _-_};
 ghost use lib.ListN.{length, set, take, drop};
 ghost use lib.Seq.{sets};
 ghost use Rattle.machine.specs.Fits.{fits};
-ghost use Rattle.effect.specs.Words.{pushes};
+ghost use Prim.Native.Nat.{_<_};
+ghost use Rattle.shape.specs.Counts.{needed};
+ghost use Rattle.effect.specs.Program.{program};
+ghost use Rattle.execute.specs.Depth.{top};
+ghost use Rattle.execute.specs.Execute.{execute};
+ghost use Rattle.effect.specs.Words.{pushes, moved, raised};
+ghost use Rattle.machine.specs.Carry.{finishing, going, Pushes, Goes, Writes};
 ghost use Rattle.machine.specs.Step.{after, trapping, pushed, written, settled, stepOf};
 use effect::effect::Effect;
 use effect::effect::Push;
 use effect::effect::Write;
 use effect::registers::Areas;
 use effect::registers::Registers;
+use execute::Group;
 use opcode::Decoded;
+use opcode::instruction::Instruction;
 
 // The word at a place set; nothing past the end.
 fn set_word(s: &mut [u32], i: usize, x: u32)
@@ -135,6 +143,27 @@ impl Machine {
         }
     }
 
+    fn finished(self) -> Stepped
+        ensures { λ r. ⌜ r ≡ finishing self ⌝ }
+    {
+        Stepped {
+            outcome: Outcome::Finished,
+            machine: self,
+        }
+    }
+
+    // At another place, with another height.
+    fn arrived(mut self, place: u32, height: u32) -> Stepped
+        ensures { λ r. ⌜ r ≡ going self (raised (moved (self .registers) place) height) ⌝ }
+    {
+        self.registers.pc = place;
+        self.registers.height = height;
+        Stepped {
+            outcome: Outcome::Went,
+            machine: self,
+        }
+    }
+
     // The effect is carried out, the code being so many bytes.
     fn settled(mut self, size: usize, memory: &mut [u32], stack: &mut [u32], e: Effect) -> Stepped
         requires { ⌜ length (now stack) ≤ 1024 ⌝ }
@@ -166,6 +195,109 @@ impl Machine {
         }
     }
 
+    // An effect that pushes words and goes on to `next`.
+    fn gave(mut self, size: usize, stack: &mut [u32], next: u32, e: Effect) -> Stepped
+        requires { ⌜ length (now stack) ≤ 1024 ⌝ }
+        requires { ⌜ Pushes (self .registers) next e ⌝ }
+        ensures { λ r. ⌜ ((m : List ℕ) → after r m (now (stack .exit)) ≡ settled size self m (now (stack .entry)) e) ⌝ }
+    {
+        match e {
+            Effect::Trap(n) => self.trapped(n),
+            Effect::Finish => self.finished(),
+            Effect::Go(gone, push, _, _) => {
+                let low = low_word(self.registers.height, gone);
+                let height = low + push_count(push);
+                if stack.len() < height {
+                    return self.trapped(36);
+                }
+                if size <= (next as usize) {
+                    return self.trapped(21);
+                }
+                push_words(stack, low, push);
+                self.arrived(next, height as u32)
+            }
+        }
+    }
+
+    // An effect that goes to a place.
+    fn went(mut self, size: usize, e: Effect) -> Stepped
+        requires { ⌜ Goes (self .registers) e ⌝ }
+        ensures { λ r. ⌜ ((m s : List ℕ) → self .registers .height ≤ length s → after r m s ≡ settled size self m s e) ⌝ }
+    {
+        match e {
+            Effect::Trap(n) => self.trapped(n),
+            Effect::Finish => self.finished(),
+            Effect::Go(gone, _, _, q) => {
+                let low = low_word(self.registers.height, gone);
+                if size <= (q.pc as usize) {
+                    return self.trapped(21);
+                }
+                self.arrived(q.pc, low as u32)
+            }
+        }
+    }
+
+    // An effect that writes to memory and goes on to `next`.
+    fn put(
+        mut self,
+        size: usize,
+        memory: &mut [u32],
+        stack: &[u32],
+        next: u32,
+        e: Effect,
+    ) -> Stepped
+        requires { ⌜ length (now stack) ≤ 1024 ⌝ }
+        requires { ⌜ self .registers .height ≤ length (now stack) ⌝ }
+        requires { ⌜ Writes (self .registers) next e ⌝ }
+        ensures { λ r. ⌜ after r (now (memory .exit)) (now (stack .entry)) ≡ settled size self (now (memory .entry)) (now (stack .entry)) e ⌝ }
+    {
+        match e {
+            Effect::Trap(n) => self.trapped(n),
+            Effect::Finish => self.finished(),
+            Effect::Go(gone, _, words, _) => {
+                let low = low_word(self.registers.height, gone);
+                if size <= (next as usize) {
+                    return self.trapped(21);
+                }
+                write_words(memory, stack, low, gone, words);
+                self.arrived(next, low as u32)
+            }
+        }
+    }
+
+    // An instruction whose stack words are there.
+    fn performed(
+        mut self,
+        code: &[u8],
+        memory: &mut [u32],
+        stack: &mut [u32],
+        next: u32,
+        i: Instruction,
+    ) -> Stepped
+        requires { ⌜ self .registers .pc < 4096 ⌝ }
+        requires { ⌜ fits (self .areas) (self .registers) (now memory) (now stack) ≡ true ⌝ }
+        requires { ⌜ needed i ≤ self .registers .height ⌝ }
+        ensures { λ r. ⌜ after r (now (memory .exit)) (now (stack .exit)) ≡ settled (length (now (code .entry))) self (now (memory .entry)) (now (stack .entry)) (execute (program (now (code .entry)) (self .areas)) (self .registers) (now (memory .entry)) next (top (needed i) (self .registers .height) (now (stack .entry))) i) ⌝ }
+    {
+        let q = self.registers;
+        let areas = self.areas;
+        match execute::group_of(i) {
+            Group::Gives => {
+                let e = execute::given_effect(q, memory, stack, next, i);
+                self.gave(code.len(), stack, next, e)
+            }
+            Group::Goes => self.went(code.len(), execute::gone_effect(q, stack, next, i)),
+            Group::Stores => {
+                let e = execute::stored_effect(areas, q, memory, stack, next, i);
+                self.put(code.len(), memory, stack, next, e)
+            }
+            Group::Others => {
+                let e = execute::other_effect(code, areas, q, memory, stack, next, i);
+                self.settled(code.len(), memory, stack, e)
+            }
+        }
+    }
+
     // One step; a trap leaves registers, memory and stack as they were.
     pub fn step(mut self, code: &[u8], memory: &mut [u32], stack: &mut [u32]) -> Stepped
         requires { ⌜ length (now code) ≤ 4096 ⌝ }
@@ -173,8 +305,7 @@ impl Machine {
         ensures { λ r. ⌜ after r (now (memory .exit)) (now (stack .exit)) ≡ stepOf (now (code .entry)) self (now (memory .entry)) (now (stack .entry)) ⌝ }
     {
         let q = self.registers;
-        let areas = self.areas;
-        let decoded = opcode::decode(code, code.len(), q.pc as usize);
+        let decoded = opcode::fetch(code, q.pc as usize);
         match decoded {
             Decoded::Unserved => self.trapped(20),
             Decoded::Past => self.trapped(21),
@@ -182,8 +313,7 @@ impl Machine {
                 if q.height < shape::needed_words(i) {
                     return self.trapped(22);
                 }
-                let e = execute::effect_of(code, areas, q, memory, stack, next as u32, i);
-                self.settled(code.len(), memory, stack, e)
+                self.performed(code, memory, stack, next as u32, i)
             }
         }
     }

@@ -2,5 +2,6 @@
 pub mod Extend
 pub mod Rows
 pub mod Formats
+pub mod Short
 pub mod Ranges
 pub mod Present

@@ -1,20 +1,20 @@
--- `machine::step::Machine::step` meets its contract: decoding, the stack words, the effect, and what is done with it.
-use mathlib.Core.Path.{_∙_, sym}
-use native.Mathlib.Omega.{arith}
-use lib.ListN.{length}
-use borrow.Author.Needs.{needs}
-use borrow.Author.Tests.{lt-ltb, le-ltb}
-use Rattle.shape.specs.Counts.{needed}
-use Rattle.machine.proofs.step.Machine.step.Statement.{statement}
+-- `machine::step::Machine::step` meets its contract: decoding, the stack words, and what the instruction does.
+use Rattle.machine.proofs.Fitting.{decoded-within}
 use Rattle.machine.specs.Step.{stepOf, performed}
-use Rattle.machine.proofs.Fitting.{fitting, decoded-within}
+use Rattle.shape.specs.Counts.{needed}
+use borrow.Author.Tests.{lt-ltb, le-ltb}
+use lib.ListN.{length}
+use native.Mathlib.Omega.{arith}
+use mathlib.Core.Path.{_∙_, sym}
+use borrow.Author.Needs.{needs}
+use Rattle.machine.proofs.step.Machine.step.Statement.{statement}
 use Rattle.machine.proofs.step.Machine.step.Tie as tie
 
-cast-decode : tie.Need-cast-decode
-cast-decode c = search needs
+cast-fetch : tie.Need-cast-fetch
+cast-fetch c = search needs
 
-decode-requires : tie.Need-decode-requires
-decode-requires c κs = search needs
+fetch-requires : tie.Need-fetch-requires
+fetch-requires c κs = search needs
 
 enum-told : tie.Need-enum-told
 enum-told c = search needs
@@ -39,25 +39,21 @@ trapped-requires-3 c κs = search needs
 
 returns : tie.Need-returns
 unfolding stepOf performed
-returns c = rw (← c .before .before .before .before .before .before .before .decode .ensures, c .before .before .before .before .before .decoded .given .1, ← c .before .before .before .needed-words .ensures, lt-ltb (c .before .before .before .before .before .before .before .before .before .before .before .before .before .before .args .self .registers .height) (c .before .before .before .needed-words .result) (c .before .if1 .taken), c .trapped3 .ensures)
+returns c = rw (← c .before .before .before .before .before .before .before .fetch .ensures, c .before .before .before .before .before .decoded .given .1, ← c .before .before .before .needed-words .ensures, lt-ltb (c .before .before .before .before .before .before .before .before .before .before .before .before .before .args .self .registers .height) (c .before .before .before .needed-words .result) (c .before .if1 .taken), c .trapped3 .ensures)
 
-cast-effect-of : tie.Need-cast-effect-of
-cast-effect-of c = record { fits = omega (arith, c .before .before .before .before .before .before .before .before .before .before .before .before .before .before .before .pre .0, decoded-within (c .before .before .before .before .before .before .before .before .before .before .before .before .before .before .before .args .code .now) (length (c .before .before .before .before .before .before .before .before .before .before .before .before .before .before .before .args .code .now)) (c .before .before .before .before .before .before .before .before .before .before .before .before .before .before .before .args .self .registers .pc) (c .before .before .before .before .before .before .decoded .given .0 .1 .0) (c .before .before .before .before .before .before .decoded .given .0 .0) (sym (c .before .before .before .before .before .before .before .before .decode .ensures) ∙ c .before .before .before .before .before .before .decoded .given .1)) }
+cast-performed : tie.Need-cast-performed
+cast-performed c = record { fits = omega (arith, c .before .before .before .before .before .before .before .before .before .before .before .before .before .before .pre .0, decoded-within (c .before .before .before .before .before .before .before .before .before .before .before .before .before .before .args .code .now) (length (c .before .before .before .before .before .before .before .before .before .before .before .before .before .before .args .code .now)) (c .before .before .before .before .before .before .before .before .before .before .before .before .before .before .args .self .registers .pc) (c .before .before .before .before .before .before .decoded .given .0 .1 .0) (c .before .before .before .before .before .before .decoded .given .0 .0) (sym (c .before .before .before .before .before .before .before .before .fetch .ensures) ∙ c .before .before .before .before .before .before .decoded .given .1)) }
 
-effect-of-requires : tie.Need-effect-of-requires
-effect-of-requires c κs = let f = fitting (c .before .before .before .before .before .before .before .before .before .before .before .before .before .before .before .args .self .areas) (c .before .before .before .before .before .before .before .before .before .before .before .before .before .before .before .args .self .registers) (c .before .before .before .before .before .before .before .before .before .before .before .before .before .before .before .args .memory .now) (c .before .before .before .before .before .before .before .before .before .before .before .before .before .before .before .args .stack .now) (c .before .before .before .before .before .before .before .before .before .before .before .before .before .before .before .pre .1) in
-    (f .links, (f .room, (omega (arith, c .before .before .before .before .before .before .before .before .before .before .before .before .before .before .before .pre .0, decoded-within (c .before .before .before .before .before .before .before .before .before .before .before .before .before .before .before .args .code .now) (length (c .before .before .before .before .before .before .before .before .before .before .before .before .before .before .before .args .code .now)) (c .before .before .before .before .before .before .before .before .before .before .before .before .before .before .before .args .self .registers .pc) (c .before .before .before .before .before .before .decoded .given .0 .1 .0) (c .before .before .before .before .before .before .decoded .given .0 .0) (sym (c .before .before .before .before .before .before .before .before .decode .ensures) ∙ c .before .before .before .before .before .before .decoded .given .1)), omega (arith, c .before .before .before .before .needed-words .ensures))))
-
-settled-requires : tie.Need-settled-requires
-settled-requires c κs = fitting (c .before .before .before .before .before .before .before .before .before .before .before .before .before .before .before .before .before .before .args .self .areas) (c .before .before .before .before .before .before .before .before .before .before .before .before .before .before .before .before .before .before .args .self .registers) (c .before .before .before .before .before .before .before .before .before .before .before .before .before .before .before .before .before .before .args .memory .now) (c .before .before .before .before .before .before .before .before .before .before .before .before .before .before .before .before .before .before .args .stack .now) (c .before .before .before .before .before .before .before .before .before .before .before .before .before .before .before .before .before .before .pre .1) .deep
+performed-requires : tie.Need-performed-requires
+performed-requires c κs = (omega (arith, c .before .before .before .before .before .before .before .before .before .before .before .before .before .before .pre .0, decoded-within (c .before .before .before .before .before .before .before .before .before .before .before .before .before .before .args .code .now) (length (c .before .before .before .before .before .before .before .before .before .before .before .before .before .before .args .code .now)) (c .before .before .before .before .before .before .before .before .before .before .before .before .before .before .args .self .registers .pc) (c .before .before .before .before .before .before .decoded .given .0 .1 .0) (c .before .before .before .before .before .before .decoded .given .0 .0) (sym (c .before .before .before .before .before .before .before .before .fetch .ensures) ∙ c .before .before .before .before .before .before .decoded .given .1)), (c .before .before .before .before .before .before .before .before .before .before .before .before .before .before .pre .1, omega (arith, c .before .before .before .before .needed-words .ensures)))
 
 returns-2 : tie.Need-returns-2
 unfolding stepOf performed
-returns-2 c = rw (← c .before .before .before .decode .ensures, c .before .enum-told .given .1, c .trapped .ensures)
+returns-2 c = rw (← c .before .before .before .fetch .ensures, c .before .enum-told .given .1, c .trapped .ensures)
 
 returns-3 : tie.Need-returns-3
 unfolding stepOf performed
-returns-3 c = rw (← c .before .before .before .decode .ensures, c .before .enum-told2 .given .1, c .trapped2 .ensures)
+returns-3 c = rw (← c .before .before .before .fetch .ensures, c .before .enum-told2 .given .1, c .trapped2 .ensures)
 
 same-length : tie.Need-same-length
 same-length c = search needs
@@ -67,14 +63,14 @@ same-length-2 c = search needs
 
 returns-4 : tie.Need-returns-4
 unfolding stepOf performed
-returns-4 c = rw (← c .before .before .before .before .before .before .before .before .before .before .before .before .before .before .before .before .decode .ensures, c .before .before .before .before .before .before .before .before .before .before .before .before .before .before .decoded .given .1, le-ltb (c .before .before .before .before .before .before .before .before .before .before .before .before .before .before .before .before .before .before .before .before .before .before .before .args .self .registers .height) (needed (c .before .before .before .before .before .before .before .before .before .before .before .before .before .before .decoded .given .0 .0)) (omega (arith, c .before .before .before .before .before .before .before .before .before .before .before .before .needed-words .ensures)), ← c .before .before .before .before .before .before .before .effect-of .ensures) (c .before .before .before .before .settled .ensures)
+returns-4 c = rw (← c .before .before .before .before .before .before .before .before .before .before .before .before .before .fetch .ensures, c .before .before .before .before .before .before .before .before .before .before .before .decoded .given .1, le-ltb (c .before .before .before .before .before .before .before .before .before .before .before .before .before .before .before .before .before .before .before .args .self .registers .height) (needed (c .before .before .before .before .before .before .before .before .before .before .before .decoded .given .0 .0)) (omega (arith, c .before .before .before .before .before .before .before .before .before .needed-words .ensures))) (c .before .before .before .before .performed .ensures)
 
 pub step-spec : {M : Type 1} → statement M
 step-spec =
     tie.close
     (tie.spec
-    cast-decode
-    decode-requires
+    cast-fetch
+    fetch-requires
     enum-told
     trapped-requires
     enum-told-2
@@ -83,9 +79,8 @@ step-spec =
     needed-words-requires
     trapped-requires-3
     returns
-    cast-effect-of
-    effect-of-requires
-    settled-requires
+    cast-performed
+    performed-requires
     returns-2
     returns-3
     same-length

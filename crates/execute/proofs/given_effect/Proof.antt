@@ -1,0 +1,318 @@
+-- `execute::given_effect` meets its contract: each arm is its instruction's line, and no other instruction is of the group.
+use Rattle.execute.proofs.Groups.{gives-told}
+use Rattle.execute.proofs.Top.{found, base-found}
+use Rattle.execute.specs.Execute.{execute}
+use native.Mathlib.Omega.{arith}
+use Prim.Native.Nat.{ℕ, _≤_}
+use mathlib.Core.Path.{_≡_}
+use borrow.Author.Needs.{needs}
+use Rattle.execute.proofs.given_effect.Statement.{statement}
+use Rattle.execute.proofs.given_effect.Tie as tie
+
+enum-known-i : tie.Need-enum-known-i
+enum-known-i c = search needs
+
+given-requires : tie.Need-given-requires
+given-requires c κs = search needs
+
+enum-known-i-2 : tie.Need-enum-known-i-2
+enum-known-i-2 c = search needs
+
+top-word-requires : tie.Need-top-word-requires
+top-word-requires c κs = search needs
+
+load-effect-requires : tie.Need-load-effect-requires
+load-effect-requires c κs = search needs
+
+enum-known-i-3 : tie.Need-enum-known-i-3
+enum-known-i-3 c = search needs
+
+top-word-requires-2 : tie.Need-top-word-requires-2
+top-word-requires-2 c κs = search needs
+
+address-effect-requires : tie.Need-address-effect-requires
+address-effect-requires c κs = search needs
+
+enum-told : tie.Need-enum-told
+enum-told c = search needs
+
+top-word-requires-3 : tie.Need-top-word-requires-3
+top-word-requires-3 c κs = search needs
+
+second-word-requires : tie.Need-second-word-requires
+second-word-requires c κs = search needs
+
+moved-requires : tie.Need-moved-requires
+moved-requires c κs = search needs
+
+enum-known-i-4 : tie.Need-enum-known-i-4
+enum-known-i-4 c = search needs
+
+second-word-requires-2 : tie.Need-second-word-requires-2
+second-word-requires-2 c κs = search needs
+
+top-word-requires-4 : tie.Need-top-word-requires-4
+top-word-requires-4 c κs = search needs
+
+signed-value-requires : tie.Need-signed-value-requires
+signed-value-requires c κs = search needs
+
+valued-requires : tie.Need-valued-requires
+valued-requires c κs = search needs
+
+enum-known-i-5 : tie.Need-enum-known-i-5
+enum-known-i-5 c = search needs
+
+second-word-requires-3 : tie.Need-second-word-requires-3
+second-word-requires-3 c κs = search needs
+
+top-word-requires-5 : tie.Need-top-word-requires-5
+top-word-requires-5 c κs = search needs
+
+unsigned-value-requires : tie.Need-unsigned-value-requires
+unsigned-value-requires c κs = search needs
+
+valued-requires-2 : tie.Need-valued-requires-2
+valued-requires-2 c κs = search needs
+
+enum-told-2 : tie.Need-enum-told-2
+enum-told-2 c = search needs
+
+top-word-requires-6 : tie.Need-top-word-requires-6
+top-word-requires-6 c κs = search needs
+
+negated-value-requires : tie.Need-negated-value-requires
+negated-value-requires c κs = search needs
+
+valued-requires-3 : tie.Need-valued-requires-3
+valued-requires-3 c κs = search needs
+
+enum-told-3 : tie.Need-enum-told-3
+enum-told-3 c = search needs
+
+second-word-requires-4 : tie.Need-second-word-requires-4
+second-word-requires-4 c κs = search needs
+
+top-word-requires-7 : tie.Need-top-word-requires-7
+top-word-requires-7 c κs = search needs
+
+truth-requires : tie.Need-truth-requires
+truth-requires c κs = search needs
+
+given-requires-2 : tie.Need-given-requires-2
+given-requires-2 c κs = search needs
+
+enum-told-4 : tie.Need-enum-told-4
+enum-told-4 c = search needs
+
+second-word-requires-5 : tie.Need-second-word-requires-5
+second-word-requires-5 c κs = search needs
+
+top-word-requires-8 : tie.Need-top-word-requires-8
+top-word-requires-8 c κs = search needs
+
+truth-requires-2 : tie.Need-truth-requires-2
+truth-requires-2 c κs = search needs
+
+given-requires-3 : tie.Need-given-requires-3
+given-requires-3 c κs = search needs
+
+enum-known-i-6 : tie.Need-enum-known-i-6
+enum-known-i-6 c = search needs
+
+second-word-requires-6 : tie.Need-second-word-requires-6
+second-word-requires-6 c κs = search needs
+
+top-word-requires-9 : tie.Need-top-word-requires-9
+top-word-requires-9 c κs = search needs
+
+signed-test-requires : tie.Need-signed-test-requires
+signed-test-requires c κs = search needs
+
+truth-requires-3 : tie.Need-truth-requires-3
+truth-requires-3 c κs = search needs
+
+given-requires-4 : tie.Need-given-requires-4
+given-requires-4 c κs = search needs
+
+enum-known-i-7 : tie.Need-enum-known-i-7
+enum-known-i-7 c = search needs
+
+second-word-requires-7 : tie.Need-second-word-requires-7
+second-word-requires-7 c κs = search needs
+
+top-word-requires-10 : tie.Need-top-word-requires-10
+top-word-requires-10 c κs = search needs
+
+unsigned-test-requires : tie.Need-unsigned-test-requires
+unsigned-test-requires c κs = search needs
+
+truth-requires-4 : tie.Need-truth-requires-4
+truth-requires-4 c κs = search needs
+
+given-requires-5 : tie.Need-given-requires-5
+given-requires-5 c κs = search needs
+
+enum-known-i-8 : tie.Need-enum-known-i-8
+enum-known-i-8 c = search needs
+
+second-word-requires-8 : tie.Need-second-word-requires-8
+second-word-requires-8 c κs = search needs
+
+top-word-requires-11 : tie.Need-top-word-requires-11
+top-word-requires-11 c κs = search needs
+
+set-word-requires : tie.Need-set-word-requires
+set-word-requires c κs = search needs
+
+given-requires-6 : tie.Need-given-requires-6
+given-requires-6 c κs = search needs
+
+enum-told-5 : tie.Need-enum-told-5
+enum-told-5 c = search needs
+
+top-word-requires-12 : tie.Need-top-word-requires-12
+top-word-requires-12 c κs = search needs
+
+inverted-requires : tie.Need-inverted-requires
+inverted-requires c κs = search needs
+
+returns : tie.Need-returns
+unfolding execute
+returns c = λ P. rw (c .before .before .i .given .1, c .given .ensures)
+
+returns-2 : tie.Need-returns-2
+unfolding execute
+returns-2 c = λ P. rw (c .before .before .before .i2 .given .1, c .load-effect .ensures, c .before .top-word .ensures, base-found (c .before .before .before .before .before .before .before .args .q) (c .before .before .before .before .before .before .before .args .m .now) (c .before .before .before .before .before .before .before .args .s .now) _ (rw (c .before .before .before .i2 .given .1) at (c .before .before .before .before .before .before .before .pre .1)))
+
+returns-3 : tie.Need-returns-3
+unfolding execute
+returns-3 c = λ P. rw (c .before .before .before .i3 .given .1, c .address-effect .ensures, c .before .top-word2 .ensures, base-found (c .before .before .before .before .before .before .before .args .q) (c .before .before .before .before .before .before .before .args .m .now) (c .before .before .before .before .before .before .before .args .s .now) _ (rw (c .before .before .before .i3 .given .1) at (c .before .before .before .before .before .before .before .pre .1)))
+
+returns-4 : tie.Need-returns-4
+unfolding execute
+returns-4 c = let l : 2 ≤ c .before .before .before .before .before .before .before .args .q .height = rw (c .before .before .before .enum-told .given .1) at (c .before .before .before .before .before .before .before .pre .1) in
+    λ P. rw (c .before .before .before .enum-told .given .1, c .moved .ensures, c .before .second-word .ensures, c .before .before .top-word3 .ensures, found (c .before .before .before .before .before .before .before .args .s .now) (c .before .before .before .before .before .before .before .args .q .height) 2 0 l (omega arith), found (c .before .before .before .before .before .before .before .args .s .now) (c .before .before .before .before .before .before .before .args .q .height) 2 1 l (omega arith))
+
+returns-5 : tie.Need-returns-5
+unfolding execute
+returns-5 c = let l : 2 ≤ c .before .before .before .before .before .before .before .before .before .args .q .height = rw (c .before .before .before .before .before .i4 .given .1) at (c .before .before .before .before .before .before .before .before .before .pre .1) in
+    λ P. rw (c .before .before .before .before .before .i4 .given .1, c .valued .ensures, c .before .signed-value .ensures, c .before .before .before .second-word2 .ensures, c .before .before .top-word4 .ensures, found (c .before .before .before .before .before .before .before .before .before .args .s .now) (c .before .before .before .before .before .before .before .before .before .args .q .height) 2 0 l (omega arith), found (c .before .before .before .before .before .before .before .before .before .args .s .now) (c .before .before .before .before .before .before .before .before .before .args .q .height) 2 1 l (omega arith))
+
+returns-6 : tie.Need-returns-6
+unfolding execute
+returns-6 c = let l : 2 ≤ c .before .before .before .before .before .before .before .before .before .args .q .height = rw (c .before .before .before .before .before .i5 .given .1) at (c .before .before .before .before .before .before .before .before .before .pre .1) in
+    λ P. rw (c .before .before .before .before .before .i5 .given .1, c .valued2 .ensures, c .before .unsigned-value .ensures, c .before .before .before .second-word3 .ensures, c .before .before .top-word5 .ensures, found (c .before .before .before .before .before .before .before .before .before .args .s .now) (c .before .before .before .before .before .before .before .before .before .args .q .height) 2 0 l (omega arith), found (c .before .before .before .before .before .before .before .before .before .args .s .now) (c .before .before .before .before .before .before .before .before .before .args .q .height) 2 1 l (omega arith))
+
+returns-7 : tie.Need-returns-7
+unfolding execute
+returns-7 c = let l : 1 ≤ c .before .before .before .before .before .before .before .args .q .height = rw (c .before .before .before .enum-told2 .given .1) at (c .before .before .before .before .before .before .before .pre .1) in
+    λ P. rw (c .before .before .before .enum-told2 .given .1, c .valued3 .ensures, c .before .negated-value .ensures, c .before .before .top-word6 .ensures, found (c .before .before .before .before .before .before .before .args .s .now) (c .before .before .before .before .before .before .before .args .q .height) 1 0 l (omega arith))
+
+returns-8 : tie.Need-returns-8
+unfolding execute
+returns-8 c = let l : 2 ≤ c .before .before .before .before .before .before .before .before .args .q .height = rw (c .before .before .before .before .enum-told3 .given .1) at (c .before .before .before .before .before .before .before .before .pre .1) in
+    λ P. rw (c .before .before .before .before .enum-told3 .given .1, c .given2 .ensures, c .before .truth .ensures, c .before .before .before .second-word4 .ensures, c .before .before .top-word7 .ensures, found (c .before .before .before .before .before .before .before .before .args .s .now) (c .before .before .before .before .before .before .before .before .args .q .height) 2 0 l (omega arith), found (c .before .before .before .before .before .before .before .before .args .s .now) (c .before .before .before .before .before .before .before .before .args .q .height) 2 1 l (omega arith))
+
+returns-9 : tie.Need-returns-9
+unfolding execute
+returns-9 c = let l : 2 ≤ c .before .before .before .before .before .before .before .before .args .q .height = rw (c .before .before .before .before .enum-told4 .given .1) at (c .before .before .before .before .before .before .before .before .pre .1) in
+    λ P. rw (c .before .before .before .before .enum-told4 .given .1, c .given3 .ensures, c .before .truth2 .ensures, c .before .before .before .second-word5 .ensures, c .before .before .top-word8 .ensures, found (c .before .before .before .before .before .before .before .before .args .s .now) (c .before .before .before .before .before .before .before .before .args .q .height) 2 0 l (omega arith), found (c .before .before .before .before .before .before .before .before .args .s .now) (c .before .before .before .before .before .before .before .before .args .q .height) 2 1 l (omega arith))
+
+returns-10 : tie.Need-returns-10
+unfolding execute
+returns-10 c = let l : 2 ≤ c .before .before .before .before .before .before .before .before .before .before .args .q .height = rw (c .before .before .before .before .before .before .i6 .given .1) at (c .before .before .before .before .before .before .before .before .before .before .pre .1) in
+    λ P. rw (c .before .before .before .before .before .before .i6 .given .1, c .given4 .ensures, c .before .truth3 .ensures, c .before .before .signed-test .ensures, c .before .before .before .before .second-word6 .ensures, c .before .before .before .top-word9 .ensures, found (c .before .before .before .before .before .before .before .before .before .before .args .s .now) (c .before .before .before .before .before .before .before .before .before .before .args .q .height) 2 0 l (omega arith), found (c .before .before .before .before .before .before .before .before .before .before .args .s .now) (c .before .before .before .before .before .before .before .before .before .before .args .q .height) 2 1 l (omega arith))
+
+returns-11 : tie.Need-returns-11
+unfolding execute
+returns-11 c = let l : 2 ≤ c .before .before .before .before .before .before .before .before .before .before .args .q .height = rw (c .before .before .before .before .before .before .i7 .given .1) at (c .before .before .before .before .before .before .before .before .before .before .pre .1) in
+    λ P. rw (c .before .before .before .before .before .before .i7 .given .1, c .given5 .ensures, c .before .truth4 .ensures, c .before .before .unsigned-test .ensures, c .before .before .before .before .second-word7 .ensures, c .before .before .before .top-word10 .ensures, found (c .before .before .before .before .before .before .before .before .before .before .args .s .now) (c .before .before .before .before .before .before .before .before .before .before .args .q .height) 2 0 l (omega arith), found (c .before .before .before .before .before .before .before .before .before .before .args .s .now) (c .before .before .before .before .before .before .before .before .before .before .args .q .height) 2 1 l (omega arith))
+
+returns-12 : tie.Need-returns-12
+unfolding execute
+returns-12 c = let l : 2 ≤ c .before .before .before .before .before .before .before .before .before .args .q .height = rw (c .before .before .before .before .before .i8 .given .1) at (c .before .before .before .before .before .before .before .before .before .pre .1) in
+    λ P. rw (c .before .before .before .before .before .i8 .given .1, c .given6 .ensures, c .before .set-word .ensures, c .before .before .before .second-word8 .ensures, c .before .before .top-word11 .ensures, found (c .before .before .before .before .before .before .before .before .before .args .s .now) (c .before .before .before .before .before .before .before .before .before .args .q .height) 2 0 l (omega arith), found (c .before .before .before .before .before .before .before .before .before .args .s .now) (c .before .before .before .before .before .before .before .before .before .args .q .height) 2 1 l (omega arith))
+
+returns-13 : tie.Need-returns-13
+unfolding execute
+returns-13 c = let l : 1 ≤ c .before .before .before .before .before .before .args .q .height = rw (c .before .before .enum-told5 .given .1) at (c .before .before .before .before .before .before .pre .1) in
+    λ P. rw (c .before .before .enum-told5 .given .1, c .inverted .ensures, c .before .top-word12 .ensures, found (c .before .before .before .before .before .before .args .s .now) (c .before .before .before .before .before .before .args .q .height) 1 0 l (omega arith))
+
+returns-14 : tie.Need-returns-14
+returns-14 c = absurd (gives-told (c .before .before .before .args .i) (c .match .keys14) (c .before .before .before .pre .0))
+
+pub given-effect-spec : {M : Type 1} → statement M
+given-effect-spec =
+    tie.close
+    (tie.spec
+    enum-known-i
+    given-requires
+    enum-known-i-2
+    top-word-requires
+    load-effect-requires
+    enum-known-i-3
+    top-word-requires-2
+    address-effect-requires
+    enum-told
+    top-word-requires-3
+    second-word-requires
+    moved-requires
+    enum-known-i-4
+    second-word-requires-2
+    top-word-requires-4
+    signed-value-requires
+    valued-requires
+    enum-known-i-5
+    second-word-requires-3
+    top-word-requires-5
+    unsigned-value-requires
+    valued-requires-2
+    enum-told-2
+    top-word-requires-6
+    negated-value-requires
+    valued-requires-3
+    enum-told-3
+    second-word-requires-4
+    top-word-requires-7
+    truth-requires
+    given-requires-2
+    enum-told-4
+    second-word-requires-5
+    top-word-requires-8
+    truth-requires-2
+    given-requires-3
+    enum-known-i-6
+    second-word-requires-6
+    top-word-requires-9
+    signed-test-requires
+    truth-requires-3
+    given-requires-4
+    enum-known-i-7
+    second-word-requires-7
+    top-word-requires-10
+    unsigned-test-requires
+    truth-requires-4
+    given-requires-5
+    enum-known-i-8
+    second-word-requires-8
+    top-word-requires-11
+    set-word-requires
+    given-requires-6
+    enum-told-5
+    top-word-requires-12
+    inverted-requires
+    returns
+    returns-2
+    returns-3
+    returns-4
+    returns-5
+    returns-6
+    returns-7
+    returns-8
+    returns-9
+    returns-10
+    returns-11
+    returns-12
+    returns-13
+    returns-14)

@@ -1,0 +1,130 @@
+-- `execute::gone_effect` meets its contract: each arm is its instruction's line, and no other instruction is of the group.
+use Rattle.execute.proofs.Groups.{goes-told}
+use Rattle.execute.proofs.Top.{found}
+use Rattle.execute.specs.Execute.{execute}
+use native.Mathlib.Omega.{arith}
+use Prim.Native.Nat.{_≤_}
+use mathlib.Core.Path.{_≡_}
+use borrow.Author.Needs.{needs}
+use Rattle.execute.proofs.gone_effect.Statement.{statement}
+use Rattle.execute.proofs.gone_effect.Tie as tie
+
+enum-known-i : tie.Need-enum-known-i
+enum-known-i c = search needs
+
+jump-to-requires : tie.Need-jump-to-requires
+jump-to-requires c κs = search needs
+
+enum-told : tie.Need-enum-told
+enum-told c = search needs
+
+jump-to-requires-2 : tie.Need-jump-to-requires-2
+jump-to-requires-2 c κs = search needs
+
+enum-known-i-2 : tie.Need-enum-known-i-2
+enum-known-i-2 c = search needs
+
+jumps-requires : tie.Need-jumps-requires
+jumps-requires c κs = search needs
+
+enum-known-i-3 : tie.Need-enum-known-i-3
+enum-known-i-3 c = search needs
+
+top-word-requires : tie.Need-top-word-requires
+top-word-requires c κs = search needs
+
+jumps-if-false-requires : tie.Need-jumps-if-false-requires
+jumps-if-false-requires c κs = search needs
+
+enum-known-i-4 : tie.Need-enum-known-i-4
+enum-known-i-4 c = search needs
+
+top-word-requires-2 : tie.Need-top-word-requires-2
+top-word-requires-2 c κs = search needs
+
+jumps-keeping-requires : tie.Need-jumps-keeping-requires
+jumps-keeping-requires c κs = search needs
+
+enum-known-i-5 : tie.Need-enum-known-i-5
+enum-known-i-5 c = search needs
+
+top-word-requires-3 : tie.Need-top-word-requires-3
+top-word-requires-3 c κs = search needs
+
+jumps-keeping-requires-2 : tie.Need-jumps-keeping-requires-2
+jumps-keeping-requires-2 c κs = search needs
+
+enum-told-2 : tie.Need-enum-told-2
+enum-told-2 c = search needs
+
+top-word-requires-4 : tie.Need-top-word-requires-4
+top-word-requires-4 c κs = search needs
+
+jump-to-requires-3 : tie.Need-jump-to-requires-3
+jump-to-requires-3 c κs = search needs
+
+returns : tie.Need-returns
+unfolding execute
+returns c = λ P. λ m. rw (c .before .before .i .given .1, c .jump-to .ensures)
+
+returns-2 : tie.Need-returns-2
+unfolding execute
+returns-2 c = λ P. λ m. rw (c .before .enum-told .given .1, c .jump-to2 .ensures)
+
+returns-3 : tie.Need-returns-3
+unfolding execute
+returns-3 c = λ P. λ m. rw (c .before .before .i2 .given .1, c .jumps .ensures)
+
+returns-4 : tie.Need-returns-4
+unfolding execute
+returns-4 c = let l : 1 ≤ c .before .before .before .before .before .before .args .q .height = rw (c .before .before .before .i3 .given .1) at (c .before .before .before .before .before .before .pre .1) in
+    λ P. λ m. rw (c .before .before .before .i3 .given .1, c .jumps-if-false .ensures, c .before .top-word .ensures, found (c .before .before .before .before .before .before .args .s .now) (c .before .before .before .before .before .before .args .q .height) 1 0 l (omega arith))
+
+returns-5 : tie.Need-returns-5
+unfolding execute
+returns-5 c = let l : 1 ≤ c .before .before .before .before .before .before .args .q .height = rw (c .before .before .before .i4 .given .1) at (c .before .before .before .before .before .before .pre .1) in
+    λ P. λ m. rw (c .before .before .before .i4 .given .1, c .jumps-keeping .ensures, c .before .top-word2 .ensures, found (c .before .before .before .before .before .before .args .s .now) (c .before .before .before .before .before .before .args .q .height) 1 0 l (omega arith))
+
+returns-6 : tie.Need-returns-6
+unfolding execute
+returns-6 c = let l : 1 ≤ c .before .before .before .before .before .before .args .q .height = rw (c .before .before .before .i5 .given .1) at (c .before .before .before .before .before .before .pre .1) in
+    λ P. λ m. rw (c .before .before .before .i5 .given .1, c .jumps-keeping2 .ensures, c .before .top-word3 .ensures, found (c .before .before .before .before .before .before .args .s .now) (c .before .before .before .before .before .before .args .q .height) 1 0 l (omega arith))
+
+returns-7 : tie.Need-returns-7
+unfolding execute
+returns-7 c = let l : 1 ≤ c .before .before .before .before .before .args .q .height = rw (c .before .before .enum-told2 .given .1) at (c .before .before .before .before .before .pre .1) in
+    λ P. λ m. rw (c .before .before .enum-told2 .given .1, c .jump-to3 .ensures, c .before .top-word4 .ensures, found (c .before .before .before .before .before .args .s .now) (c .before .before .before .before .before .args .q .height) 1 0 l (omega arith))
+
+returns-8 : tie.Need-returns-8
+returns-8 c = absurd (goes-told (c .before .before .args .i) (c .match .keys8) (c .before .before .pre .0))
+
+pub gone-effect-spec : {M : Type 1} → statement M
+gone-effect-spec =
+    tie.close
+    (tie.spec
+    enum-known-i
+    jump-to-requires
+    enum-told
+    jump-to-requires-2
+    enum-known-i-2
+    jumps-requires
+    enum-known-i-3
+    top-word-requires
+    jumps-if-false-requires
+    enum-known-i-4
+    top-word-requires-2
+    jumps-keeping-requires
+    enum-known-i-5
+    top-word-requires-3
+    jumps-keeping-requires-2
+    enum-told-2
+    top-word-requires-4
+    jump-to-requires-3
+    returns
+    returns-2
+    returns-3
+    returns-4
+    returns-5
+    returns-6
+    returns-7
+    returns-8)

@@ -1,0 +1,155 @@
+-- `execute::other_effect` meets its contract: each arm is its instruction's line, and no other instruction is of the group.
+use Rattle.execute.proofs.Groups.{others-told}
+use Rattle.execute.proofs.Top.{found, iter-found, next-found}
+use Rattle.execute.specs.Execute.{execute}
+use Rattle.effect.specs.Program.{program}
+use native.Mathlib.Omega.{arith}
+use Prim.Native.Nat.{_≤_}
+use mathlib.Core.Path.{_≡_, sym}
+use borrow.Author.Needs.{needs}
+use Rattle.execute.proofs.other_effect.Statement.{statement}
+use Rattle.execute.proofs.other_effect.Tie as tie
+
+enum-told : tie.Need-enum-told
+enum-told c = search needs
+
+top-word-requires : tie.Need-top-word-requires
+top-word-requires c κs = search needs
+
+allocated-requires : tie.Need-allocated-requires
+allocated-requires c κs = search needs
+
+enum-told-2 : tie.Need-enum-told-2
+enum-told-2 c = search needs
+
+top-word-requires-2 : tie.Need-top-word-requires-2
+top-word-requires-2 c κs = search needs
+
+freed-requires : tie.Need-freed-requires
+freed-requires c κs = search needs
+
+enum-known-i : tie.Need-enum-known-i
+enum-known-i c = search needs
+
+iter-effect-requires : tie.Need-iter-effect-requires
+iter-effect-requires c κs = search needs
+
+enum-told-3 : tie.Need-enum-told-3
+enum-told-3 c = search needs
+
+next-effect-requires : tie.Need-next-effect-requires
+next-effect-requires c κs = search needs
+
+enum-known-i-2 : tie.Need-enum-known-i-2
+enum-known-i-2 c = search needs
+
+top-word-requires-3 : tie.Need-top-word-requires-3
+top-word-requires-3 c κs = search needs
+
+switches-requires : tie.Need-switches-requires
+switches-requires c κs = search needs
+
+enum-known-i-3 : tie.Need-enum-known-i-3
+enum-known-i-3 c = search needs
+
+top-word-requires-4 : tie.Need-top-word-requires-4
+top-word-requires-4 c κs = search needs
+
+searches-requires : tie.Need-searches-requires
+searches-requires c κs = search needs
+
+enum-known-i-4 : tie.Need-enum-known-i-4
+enum-known-i-4 c = search needs
+
+calls-requires : tie.Need-calls-requires
+calls-requires c κs = search needs
+
+enum-known-i-5 : tie.Need-enum-known-i-5
+enum-known-i-5 c = search needs
+
+enters-requires : tie.Need-enters-requires
+enters-requires c κs = search needs
+
+enum-told-4 : tie.Need-enum-told-4
+enum-told-4 c = search needs
+
+returns-requires : tie.Need-returns-requires
+returns-requires c κs = search needs
+
+returns : tie.Need-returns
+unfolding execute
+returns c = let l : 1 ≤ c .before .before .before .before .before .before .before .args .q .height = rw (c .before .before .enum-told .given .1) at (c .before .before .before .before .before .before .before .pre .1 .1 .1 .1) in
+    rw (c .before .before .enum-told .given .1, c .allocated .ensures, c .before .top-word .ensures, found (c .before .before .before .before .before .before .before .args .s .now) (c .before .before .before .before .before .before .before .args .q .height) 1 0 l (omega arith))
+
+returns-2 : tie.Need-returns-2
+unfolding execute
+returns-2 c = let l : 1 ≤ c .before .before .before .before .before .before .before .args .q .height = rw (c .before .before .enum-told2 .given .1) at (c .before .before .before .before .before .before .before .pre .1 .1 .1 .1) in
+    rw (c .before .before .enum-told2 .given .1, c .freed .ensures, c .before .top-word2 .ensures, found (c .before .before .before .before .before .before .before .args .s .now) (c .before .before .before .before .before .before .before .args .q .height) 1 0 l (omega arith))
+
+returns-3 : tie.Need-returns-3
+returns-3 c = rw (c .before .before .i .given .1, c .iter-effect .ensures) (sym (iter-found (program (c .before .before .before .before .before .before .before .args .code .now) (c .before .before .before .before .before .before .before .args .areas)) (c .before .before .before .before .before .before .before .args .q) (c .before .before .before .before .before .before .before .args .m .now) (c .before .before .before .before .before .before .before .args .s .now) (c .before .before .before .before .before .before .before .args .next) _ (rw (c .before .before .i .given .1) at (c .before .before .before .before .before .before .before .pre .1 .1 .1 .1))))
+
+returns-4 : tie.Need-returns-4
+returns-4 c = rw (c .before .enum-told3 .given .1, c .next-effect .ensures) (sym (next-found (program (c .before .before .before .before .before .before .args .code .now) (c .before .before .before .before .before .before .args .areas)) (c .before .before .before .before .before .before .args .q) (c .before .before .before .before .before .before .args .m .now) (c .before .before .before .before .before .before .args .s .now) (c .before .before .before .before .before .before .args .next) (rw (c .before .enum-told3 .given .1) at (c .before .before .before .before .before .before .pre .1 .1 .1 .1))))
+
+returns-5 : tie.Need-returns-5
+unfolding execute
+returns-5 c = let l : 1 ≤ c .before .before .before .before .before .before .before .before .args .q .height = rw (c .before .before .before .i2 .given .1) at (c .before .before .before .before .before .before .before .before .pre .1 .1 .1 .1) in
+    rw (c .before .before .before .i2 .given .1, c .switches .ensures, c .before .top-word3 .ensures, found (c .before .before .before .before .before .before .before .before .args .s .now) (c .before .before .before .before .before .before .before .before .args .q .height) 1 0 l (omega arith))
+
+returns-6 : tie.Need-returns-6
+unfolding execute
+returns-6 c = let l : 1 ≤ c .before .before .before .before .before .before .before .before .args .q .height = rw (c .before .before .before .i3 .given .1) at (c .before .before .before .before .before .before .before .before .pre .1 .1 .1 .1) in
+    rw (c .before .before .before .i3 .given .1, c .searches .ensures, c .before .top-word4 .ensures, found (c .before .before .before .before .before .before .before .before .args .s .now) (c .before .before .before .before .before .before .before .before .args .q .height) 1 0 l (omega arith))
+
+returns-7 : tie.Need-returns-7
+unfolding execute
+returns-7 c = rw (c .before .before .i4 .given .1, c .calls .ensures)
+
+returns-8 : tie.Need-returns-8
+unfolding execute
+returns-8 c = rw (c .before .before .i5 .given .1, c .enters .ensures)
+
+returns-9 : tie.Need-returns-9
+unfolding execute
+returns-9 c = rw (c .before .enum-told4 .given .1, c .returns .ensures)
+
+returns-10 : tie.Need-returns-10
+returns-10 c = absurd (others-told (c .before .before .before .before .args .i) (c .match .keys10) (c .before .before .before .before .pre .1 .1 .1 .0))
+
+pub other-effect-spec : {M : Type 1} → statement M
+other-effect-spec =
+    tie.close
+    (tie.spec
+    enum-told
+    top-word-requires
+    allocated-requires
+    enum-told-2
+    top-word-requires-2
+    freed-requires
+    enum-known-i
+    iter-effect-requires
+    enum-told-3
+    next-effect-requires
+    enum-known-i-2
+    top-word-requires-3
+    switches-requires
+    enum-known-i-3
+    top-word-requires-4
+    searches-requires
+    enum-known-i-4
+    calls-requires
+    enum-known-i-5
+    enters-requires
+    enum-told-4
+    returns-requires
+    returns
+    returns-2
+    returns-3
+    returns-4
+    returns-5
+    returns-6
+    returns-7
+    returns-8
+    returns-9
+    returns-10)
