@@ -22,7 +22,7 @@ use Rattle.effect.specs.declared.registers.Registers.{Registers}
 use Rattle.effect.specs.Program.{Program}
 use Rattle.effect.specs.Data.{baseOf, valued, loaded, loadFrom, addressOf, stored, storeTo, inverted}
 use Rattle.control.specs.Control.{jumped, jumps, jumpsIfFalse, jumpsKeeping}
-use Rattle.execute.specs.declared.Group.the-variants.{Gives, Goes as goes, Stores, Others}
+use Rattle.execute.specs.declared.Group.the-variants.{Gives, Goes as goes, Stores}
 use Rattle.execute.specs.Group.{groupOf}
 use Rattle.execute.specs.Execute.{execute}
 use Rattle.machine.specs.Carry.{Pushes, Goes, Writes}

@@ -1,6 +1,5 @@
 -- A code below 70 is a short form of one byte.
-use mathlib.Core.Bool.{true, cond}
-use mathlib.Core.Path.{_≡_, refl}
+use mathlib.Core.Path.{_≡_}
 use mathlib.Core.List.{List}
 use Prim.Native.Nat.{ℕ, zero, suc, _+_, _/_, _<_}
 use native.Mathlib.Omega.{arith}
