@@ -1,7 +1,8 @@
 // A step: decode, find the stack words, work out the effect, and carry it out.
 ghost use mathlib.Core.Path.{_≡_};
 ghost use mathlib.Core.Bool.{true};
-ghost use Prim.Native.Nat.{_≤_, _+_, _-_};
+ghost use mathlib.Core.List.{List};
+ghost use Prim.Native.Nat.{ℕ, _≤_, _+_, _-_};
 ghost use lib.ListN.{length, set, take, drop};
 ghost use lib.Seq.{sets};
 ghost use Rattle.machine.specs.Fits.{fits};
