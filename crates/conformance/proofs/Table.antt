@@ -8,8 +8,8 @@ use Rattle.source.specs.Source.{sourceOffsets, sourceSound, lineAt}
 use Rattle.version.specs.Version.{issueAt, versionSound}
 use Rattle.opcode.specs.Decode.{instructionAt, decodeIn, decodeAt}
 use Rattle.opcode.specs.Length.{lengthIn, lengthAt}
-use Rattle.opcode.specs.Operand.{extended}
-use Rattle.opcode.specs.Switch.{exitDistance, elseDistance, branchDistance, rangeDistance, rangeHolds, searchDistance}
+use Rattle.operand.specs.Operand.{extended}
+use Rattle.switch_table.specs.Switch.{exitDistance, elseDistance, branchDistance, rangeDistance, rangeHolds, searchDistance}
 use Rattle.opcode.specs.Table.{rowOf}
 use Rattle.shape.specs.Shape.{shapeOf}
 use Rattle.layout.specs.Cut.{cutOf}

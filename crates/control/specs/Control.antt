@@ -11,7 +11,7 @@ use mir.Syntax.{w32}
 use mir.Val.{toZ}
 use Rattle.entries.specs.Entries.{entryAt, noCallee}
 use Rattle.opcode.specs.Distance.{placeAt}
-use Rattle.opcode.specs.Switch.{exitDistance, elseDistance, branchDistance, searchDistance, orElse}
+use Rattle.switch_table.specs.Switch.{exitDistance, elseDistance, branchDistance, searchDistance, orElse}
 use Rattle.opcode.specs.declared.instruction.Mode.the-variants.{Normal}
 use Rattle.opcode.specs.declared.instruction.Arithmetic.the-variants.{Add}
 use Rattle.operate.specs.Arithmetic.{signedValue}

@@ -160,7 +160,7 @@ fn branched(code: &[u8], q: Registers, distance: u16) -> Effect
     requires { ⌜ q .pc < 4096 ⌝ }
     ensures { λ e. ⌜ e ≡ branched (now (code .entry)) q distance ⌝ }
 {
-    let exit = opcode::switch::exit_distance(code, q.pc as usize) as u32;
+    let exit = switch_table::exit_distance(code, q.pc as usize) as u32;
     Effect::Go(
         1,
         Push::PushOne(q.pc + exit),
@@ -178,10 +178,10 @@ pub fn switches(code: &[u8], q: Registers, n: u32, x: u32) -> Effect
         return branched(
             code,
             q,
-            opcode::switch::branch_distance(code, q.pc as usize, x),
+            switch_table::branch_distance(code, q.pc as usize, x),
         );
     }
-    branched(code, q, opcode::switch::else_distance(code, q.pc as usize))
+    branched(code, q, switch_table::else_distance(code, q.pc as usize))
 }
 
 // SWITCH_X.
@@ -189,9 +189,9 @@ pub fn searches(code: &[u8], q: Registers, n: u32, x: u32) -> Effect
     requires { ⌜ q .pc < 4096 ⌝ }
     ensures { λ e. ⌜ e ≡ searches (now (code .entry)) q n x ⌝ }
 {
-    let distance = opcode::switch::search_distance(code, q.pc as usize, n, x);
+    let distance = switch_table::search_distance(code, q.pc as usize, n, x);
     if distance == 0 {
-        return branched(code, q, opcode::switch::else_distance(code, q.pc as usize));
+        return branched(code, q, switch_table::else_distance(code, q.pc as usize));
     }
     branched(code, q, distance)
 }
