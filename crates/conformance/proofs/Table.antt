@@ -23,7 +23,7 @@ use Rattle.operate.specs.Arithmetic.{modZ, signedValue, unsignedValue, negatedV
 use Rattle.operate.specs.Sets.{setWord}
 use Rattle.operate.specs.Value.{signedWord, unsignedWord}
 use Rattle.effect.specs.Data.{loadFrom, addressOf, storeTo, inverted, allocated, freed}
-use Rattle.effect.specs.Memory.{live, protects}
+use Rattle.registers.specs.Memory.{live, protects}
 use Rattle.control.specs.Control.{jumps, jumpsIfFalse, jumpsKeeping, iterates, nextSum, repeats, switches, searches, calls, enters, returns}
 use Rattle.execute.specs.Execute.{execute}
 use Rattle.machine.specs.Fits.{sizesTaken, headerKept, registersFit, fits}

@@ -6,17 +6,17 @@ ghost use lib.ListN.{length};
 ghost use mir.Syntax.{w32};
 ghost use mir.Val.{toZ};
 ghost use Rattle.control.specs.Control.{jumped, jumps, jumpsIfFalse, jumpsKeeping, beyond, iterates, wentRound, nextSum, repeats, branched, switches, searches, calls, enters, returns};
-ghost use Rattle.effect.specs.Memory.{chained};
-ghost use Rattle.effect.specs.Program.{framesStart};
-ghost use Rattle.effect.specs.Words.{moved};
-use effect::access;
+ghost use Rattle.registers.specs.Memory.{chained};
+ghost use Rattle.registers.specs.Program.{framesStart};
+ghost use Rattle.registers.specs.Words.{moved};
 use effect::effect::Effect;
 use effect::effect::Push;
 use effect::effect::Write;
-use effect::registers::Areas;
-use effect::registers::Registers;
 use opcode::instruction::Arithmetic;
 use operate::Value;
+use registers::Areas;
+use registers::Registers;
+use registers::access;
 
 // The place at a distance, modulo 2^32.
 pub fn jumped(q: Registers, distance: u32) -> u32

@@ -3,7 +3,7 @@ use mathlib.Core.List.{List}
 use Prim.Native.Nat.{ℕ, _+_}
 use Rattle.header.specs.Header.{headerOf, codeOf}
 use Rattle.header.specs.declared.Header.{Header}
-use Rattle.effect.specs.declared.registers.Areas.{Areas}
+use Rattle.registers.specs.declared.Areas.{Areas}
 
 pub record Program : Type 0 where
   pub code : List ℕ

@@ -8,7 +8,7 @@ use native.Mathlib.Omega.{arith}
 use lib.Dec.{eqb, leb}
 use borrow.Author.Tests.{eqb-true, leb-true, eq-eqb, ne-eqb}
 use Rattle.words.proofs.Tests.{both-true}
-use Rattle.effect.specs.Memory.{savedFp, isLink, chained}
+use Rattle.registers.specs.Memory.{savedFp, isLink, chained}
 
 -- A frame of a chain, and the rest of the chain below it.
 pub chain-end : (m : List ℕ) (start fp : ℕ) → chained m start fp zero ≡ true → fp ≡ start

@@ -1,9 +1,9 @@
--- `effect::access::word_at` meets its contract: a place past the end reads as 0.
+-- `crate::access::word_at` meets its contract: a place past the end reads as 0.
 use mathlib.Core.Path.{sym}
 use lib.ListN.{List·getD-eq-default}
 use borrow.Author.Needs.{needs}
-use Rattle.effect.proofs.access.word_at.Statement.{statement}
-use Rattle.effect.proofs.access.word_at.Tie as tie
+use Rattle.registers.proofs.access.word_at.Statement.{statement}
+use Rattle.registers.proofs.access.word_at.Tie as tie
 
 mul-result : tie.Need-mul-result
 mul-result c = search needs

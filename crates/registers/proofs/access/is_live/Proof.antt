@@ -1,12 +1,12 @@
--- `effect::access::is_live` meets its contract: a + n is at most MP where n is, and a is at most the rest.
+-- `crate::access::is_live` meets its contract: a + n is at most MP where n is, and a is at most the rest.
 use Prim.Native.Nat.{_+_}
 use native.Mathlib.Omega.{arith}
 use borrow.Author.Needs.{needs}
 use borrow.Author.Tests.{lt-leb}
-use Rattle.effect.proofs.access.is_live.Statement.{statement}
-use Rattle.effect.specs.Memory.{live}
-use Rattle.effect.proofs.Protected.{at-most-less}
-use Rattle.effect.proofs.access.is_live.Tie as tie
+use Rattle.registers.proofs.access.is_live.Statement.{statement}
+use Rattle.registers.specs.Memory.{live}
+use Rattle.registers.proofs.Protected.{at-most-less}
+use Rattle.registers.proofs.access.is_live.Tie as tie
 
 cast-mp : tie.Need-cast-mp
 cast-mp c = search needs

@@ -1,7 +1,7 @@
--- `effect::registers::Registers::returned` meets its contract: the two link words below FP.
+-- `crate::Registers::returned` meets its contract: the two link words below FP.
 use borrow.Author.Needs.{needs}
-use Rattle.effect.proofs.registers.Registers.returned.Statement.{statement}
-use Rattle.effect.proofs.registers.Registers.returned.Tie as tie
+use Rattle.registers.proofs.Registers.returned.Statement.{statement}
+use Rattle.registers.proofs.Registers.returned.Tie as tie
 
 sub-word-at : tie.Need-sub-word-at
 sub-word-at c = search needs

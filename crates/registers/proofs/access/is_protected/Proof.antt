@@ -1,9 +1,9 @@
--- `effect::access::is_protected` meets its contract: by where the address lies; only among the frames the links are asked.
+-- `crate::access::is_protected` meets its contract: by where the address lies; only among the frames the links are asked.
 use mathlib.Core.Path.{sym, _∙_}
 use borrow.Author.Needs.{needs}
-use Rattle.effect.proofs.access.is_protected.Statement.{statement}
-use Rattle.effect.proofs.Protected.{free-above, header-only, constant, framed}
-use Rattle.effect.proofs.access.is_protected.Tie as tie
+use Rattle.registers.proofs.access.is_protected.Statement.{statement}
+use Rattle.registers.proofs.Protected.{free-above, header-only, constant, framed}
+use Rattle.registers.proofs.access.is_protected.Tie as tie
 
 cast-if1 : tie.Need-cast-if1
 cast-if1 c = search needs

@@ -4,11 +4,9 @@ use mathlib.Core.List.{List}
 use Prim.Native.Nat.{ℕ, zero, suc, _+_, _-_}
 use lib.Dec.{eqb, leb, ltb}
 use lib.ListN.{getD}
-use Rattle.effect.specs.declared.registers.Registers.{Registers}
-use Rattle.effect.specs.declared.registers.Areas.{Areas}
-use Rattle.effect.specs.Program.{constantsStart, framesStart}
-use Rattle.opcode.specs.declared.instruction.Mode.{Mode}
-use Rattle.opcode.specs.declared.instruction.Mode.the-variants.{Normal, Double}
+use Rattle.registers.specs.declared.Registers.{Registers}
+use Rattle.registers.specs.declared.Areas.{Areas}
+use Rattle.registers.specs.Program.{constantsStart, framesStart}
 
 -- The word at a place; 0 past the end.
 abbrev pub read : List ℕ → ℕ → ℕ
@@ -36,8 +34,3 @@ chained m start fp (suc n) = leb (savedFp m fp + 2) fp && chained m start (saved
 -- 01: "Header words, constants and the link words of active calls are protected: read, never stored to."
 unfoldable pub protects : Areas → Registers → List ℕ → ℕ → Bool
 protects A q m a = ltb a 3 || ((leb (constantsStart A) a && ltb a (framesStart A)) || isLink m (q .fp) (q .calls) a)
-
--- "then both unprotected".
-abbrev pub protectsAny : Areas → Registers → List ℕ → ℕ → Mode → Bool
-protectsAny A q m a Normal = protects A q m a
-protectsAny A q m a Double = protects A q m a || protects A q m (a + 1)

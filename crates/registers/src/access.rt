@@ -1,10 +1,10 @@
 // Which addresses are live, and which are protected.
 ghost use mathlib.Core.Path.{_≡_};
 ghost use mathlib.Core.Bool.{true};
-ghost use Rattle.effect.specs.Memory.{read, live, isLink, chained, protects};
-ghost use Rattle.effect.specs.Program.{framesStart};
-use crate::registers::Areas;
-use crate::registers::Registers;
+ghost use Rattle.registers.specs.Memory.{read, live, isLink, chained, protects};
+ghost use Rattle.registers.specs.Program.{framesStart};
+use crate::Areas;
+use crate::Registers;
 
 // The word at a place; 0 past the end.
 pub fn word_at(s: &[u32], i: usize) -> u32

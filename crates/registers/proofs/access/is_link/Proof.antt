@@ -1,11 +1,11 @@
--- `effect::access::is_link` meets its contract: the walk goes down the chain of frames until the address lies at or above one.
+-- `crate::access::is_link` meets its contract: the walk goes down the chain of frames until the address lies at or above one.
 use Prim.Native.Nat.{_-_}
 use mathlib.Core.Path.{sym}
 use native.Mathlib.Omega.{arith}
 use borrow.Author.Needs.{needs}
-use Rattle.effect.proofs.access.is_link.Statement.{statement}
-use Rattle.effect.proofs.Links.{Walked, walked-start, walked-above, walked-near, walked-next, walked-end}
-use Rattle.effect.proofs.access.is_link.Tie as tie
+use Rattle.registers.proofs.access.is_link.Statement.{statement}
+use Rattle.registers.proofs.Links.{Walked, walked-start, walked-above, walked-near, walked-next, walked-end}
+use Rattle.registers.proofs.access.is_link.Tie as tie
 
 abbrev Inv-loop : tie.InvT-loop
 Inv-loop m start fp calls a frame₀ counter₀ frame counter = Walked m start fp calls a frame counter

@@ -1,15 +1,8 @@
--- How many words an effect pushes, and the registers as instructions change them.
+-- The registers as instructions change them.
 use mathlib.Core.List.{List}
 use Prim.Native.Nat.{ℕ, _+_, _-_}
-use Rattle.effect.specs.declared.registers.Registers.{Registers}
-use Rattle.effect.specs.declared.effect.Push.{Push}
-use Rattle.effect.specs.declared.effect.Push.the-variants.{NoPush, PushOne, PushTwo}
-use Rattle.effect.specs.Memory.{read, savedFp}
-
-abbrev pub pushes : Push → ℕ
-pushes NoPush = 0
-pushes (PushOne a) = 1
-pushes (PushTwo a b) = 2
+use Rattle.registers.specs.declared.Registers.{Registers}
+use Rattle.registers.specs.Memory.{read, savedFp}
 
 -- The registers with another place.
 abbrev pub moved : Registers → ℕ → Registers
