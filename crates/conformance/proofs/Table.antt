@@ -8,8 +8,8 @@ use Rattle.source.specs.Source.{sourceOffsets, sourceSound, lineAt}
 use Rattle.version.specs.Version.{issueAt, versionSound}
 use Rattle.opcode.specs.Decode.{instructionAt, decodeIn, decodeAt}
 use Rattle.opcode.specs.Length.{lengthIn, lengthAt}
-use Rattle.opcode.specs.Operand.{extended}
-use Rattle.opcode.specs.Switch.{exitDistance, elseDistance, branchDistance, rangeDistance, rangeHolds, searchDistance}
+use Rattle.operand.specs.Operand.{extended}
+use Rattle.switch_table.specs.Switch.{exitDistance, elseDistance, branchDistance, rangeDistance, rangeHolds, searchDistance}
 use Rattle.opcode.specs.Table.{rowOf}
 use Rattle.shape.specs.Shape.{shapeOf}
 use Rattle.layout.specs.Cut.{cutOf}
@@ -23,7 +23,7 @@ use Rattle.operate.specs.Arithmetic.{modZ, signedValue, unsignedValue, negatedV
 use Rattle.operate.specs.Sets.{setWord}
 use Rattle.operate.specs.Value.{signedWord, unsignedWord}
 use Rattle.effect.specs.Data.{loadFrom, addressOf, storeTo, inverted, allocated, freed}
-use Rattle.effect.specs.Memory.{live, protects}
+use Rattle.registers.specs.Memory.{live, protects}
 use Rattle.control.specs.Control.{jumps, jumpsIfFalse, jumpsKeeping, iterates, nextSum, repeats, switches, searches, calls, enters, returns}
 use Rattle.execute.specs.Execute.{execute}
 use Rattle.machine.specs.Fits.{sizesTaken, headerKept, registersFit, fits}

@@ -7,8 +7,8 @@ use native.Mathlib.Omega.{arith}
 use lib.IntN.{ℤ, pos, negsuc}
 use lib.Signed.{ltZ}
 use borrow.Author.Tests.{le-ltb}
-use Rattle.effect.specs.Memory.{chained}
-use Rattle.effect.proofs.Links.{chain-lower}
+use Rattle.registers.specs.Memory.{chained}
+use Rattle.registers.proofs.Links.{chain-lower}
 
 pub rising : (s : ℤ) (b c : Bool) → ltZ (pos 0) s ≡ true → b ≡ (ltZ (pos 0) s && b) || (ltZ s (pos 0) && c)
 rising (pos n) b c h = rw (h, le-ltb n 0 (omega arith), or-false)

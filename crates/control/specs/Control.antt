@@ -11,20 +11,20 @@ use mir.Syntax.{w32}
 use mir.Val.{toZ}
 use Rattle.entries.specs.Entries.{entryAt, noCallee}
 use Rattle.opcode.specs.Distance.{placeAt}
-use Rattle.opcode.specs.Switch.{exitDistance, elseDistance, branchDistance, searchDistance, orElse}
+use Rattle.switch_table.specs.Switch.{exitDistance, elseDistance, branchDistance, searchDistance, orElse}
 use Rattle.opcode.specs.declared.instruction.Mode.the-variants.{Normal}
 use Rattle.opcode.specs.declared.instruction.Arithmetic.the-variants.{Add}
 use Rattle.operate.specs.Arithmetic.{signedValue}
 use Rattle.operate.specs.declared.Value.{Value}
 use Rattle.operate.specs.declared.Value.the-variants.{Word, Trap}
-use Rattle.effect.specs.declared.registers.Registers.{Registers}
+use Rattle.registers.specs.declared.Registers.{Registers}
 use Rattle.effect.specs.declared.effect.Push.the-variants.{NoPush, PushOne}
 use Rattle.effect.specs.declared.effect.Write.the-variants.{NoWrite, WriteOne, WriteTwo, WriteGone}
 use Rattle.effect.specs.declared.effect.Effect.{Effect}
 use Rattle.effect.specs.declared.effect.Effect.the-variants.{Trap as trap, Finish, Go}
-use Rattle.effect.specs.declared.registers.Areas.{Areas}
-use Rattle.effect.specs.Memory.{read, live, protects}
-use Rattle.effect.specs.Words.{moved, sized, called, returned}
+use Rattle.registers.specs.declared.Areas.{Areas}
+use Rattle.registers.specs.Memory.{read, live, protects}
+use Rattle.registers.specs.Words.{moved, sized, called, returned}
 use Rattle.effect.specs.Data.{boolean, storable}
 
 abbrev pub jumped : Registers → ℕ → ℕ

@@ -6,17 +6,17 @@ ghost use lib.ListN.{length};
 ghost use mir.Syntax.{w32};
 ghost use mir.Val.{toZ};
 ghost use Rattle.control.specs.Control.{jumped, jumps, jumpsIfFalse, jumpsKeeping, beyond, iterates, wentRound, nextSum, repeats, branched, switches, searches, calls, enters, returns};
-ghost use Rattle.effect.specs.Memory.{chained};
-ghost use Rattle.effect.specs.Program.{framesStart};
-ghost use Rattle.effect.specs.Words.{moved};
-use effect::access;
+ghost use Rattle.registers.specs.Memory.{chained};
+ghost use Rattle.registers.specs.Program.{framesStart};
+ghost use Rattle.registers.specs.Words.{moved};
 use effect::effect::Effect;
 use effect::effect::Push;
 use effect::effect::Write;
-use effect::registers::Areas;
-use effect::registers::Registers;
 use opcode::instruction::Arithmetic;
 use operate::Value;
+use registers::Areas;
+use registers::Registers;
+use registers::access;
 
 // The place at a distance, modulo 2^32.
 pub fn jumped(q: Registers, distance: u32) -> u32
@@ -160,7 +160,7 @@ fn branched(code: &[u8], q: Registers, distance: u16) -> Effect
     requires { ⌜ q .pc < 4096 ⌝ }
     ensures { λ e. ⌜ e ≡ branched (now (code .entry)) q distance ⌝ }
 {
-    let exit = opcode::switch::exit_distance(code, q.pc as usize) as u32;
+    let exit = switch_table::exit_distance(code, q.pc as usize) as u32;
     Effect::Go(
         1,
         Push::PushOne(q.pc + exit),
@@ -178,10 +178,10 @@ pub fn switches(code: &[u8], q: Registers, n: u32, x: u32) -> Effect
         return branched(
             code,
             q,
-            opcode::switch::branch_distance(code, q.pc as usize, x),
+            switch_table::branch_distance(code, q.pc as usize, x),
         );
     }
-    branched(code, q, opcode::switch::else_distance(code, q.pc as usize))
+    branched(code, q, switch_table::else_distance(code, q.pc as usize))
 }
 
 // SWITCH_X.
@@ -189,9 +189,9 @@ pub fn searches(code: &[u8], q: Registers, n: u32, x: u32) -> Effect
     requires { ⌜ q .pc < 4096 ⌝ }
     ensures { λ e. ⌜ e ≡ searches (now (code .entry)) q n x ⌝ }
 {
-    let distance = opcode::switch::search_distance(code, q.pc as usize, n, x);
+    let distance = switch_table::search_distance(code, q.pc as usize, n, x);
     if distance == 0 {
-        return branched(code, q, opcode::switch::else_distance(code, q.pc as usize));
+        return branched(code, q, switch_table::else_distance(code, q.pc as usize));
     }
     branched(code, q, distance)
 }

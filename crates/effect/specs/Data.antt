@@ -1,6 +1,6 @@
 -- Loads, stores, stack and operations (5.2.4.2 to 5.2.4.10): q are the registers, m is the memory, and `next` is the place after
 -- the instruction.
-use mathlib.Core.Bool.{cond}
+use mathlib.Core.Bool.{Bool, cond, _||_}
 use mathlib.Core.List.{List}
 use Prim.Native.Nat.{ℕ, _+_, _-_}
 use lib.Dec.{leb, ltb}
@@ -12,16 +12,22 @@ use Rattle.opcode.specs.declared.instruction.Base.the-variants.{Local, Global, 
 use Rattle.operate.specs.declared.Value.{Value}
 use Rattle.operate.specs.declared.Value.the-variants.{Word, Trap}
 use Rattle.shape.specs.Counts.{wordsIn}
-use Rattle.effect.specs.declared.registers.Registers.{Registers}
+use Rattle.registers.specs.declared.Registers.{Registers}
 use Rattle.effect.specs.declared.effect.Push.{Push}
 use Rattle.effect.specs.declared.effect.Push.the-variants.{NoPush, PushOne, PushTwo}
 use Rattle.effect.specs.declared.effect.Write.{Write}
 use Rattle.effect.specs.declared.effect.Write.the-variants.{NoWrite, WriteOne, WriteTwo}
 use Rattle.effect.specs.declared.effect.Effect.{Effect}
 use Rattle.effect.specs.declared.effect.Effect.the-variants.{Trap as trap, Go}
-use Rattle.effect.specs.declared.registers.Areas.{Areas}
-use Rattle.effect.specs.Memory.{read, live, protectsAny}
-use Rattle.effect.specs.Words.{moved, sized}
+use Rattle.registers.specs.declared.Areas.{Areas}
+use Rattle.registers.specs.Memory.{read, live, protects}
+use Rattle.registers.specs.Words.{moved, sized}
+
+-- How many words an effect pushes.
+abbrev pub pushes : Push → ℕ
+pushes NoPush = 0
+pushes (PushOne a) = 1
+pushes (PushTwo a b) = 2
 
 -- What an offset is counted from: FP; GP; CONST_ADR, "MEMORY(GP-1)"; or the address a of POP (A).
 abbrev pub baseOf : Registers → List ℕ → ℕ → Base → ℕ
@@ -45,6 +51,11 @@ addressOf q next gone a = cond (ltb a 0x1_0000_0000) (Go gone (PushOne a) NoWrit
 abbrev pub stored : ℕ → Mode → ℕ → ℕ → Write
 stored a Normal x y = WriteOne a x
 stored a Double x y = WriteTwo a x y
+
+-- One word is protected, or one of two.
+abbrev pub protectsAny : Areas → Registers → List ℕ → ℕ → Mode → Bool
+protectsAny A q m a Normal = protects A q m a
+protectsAny A q m a Double = protects A q m a || protects A q m (a + 1)
 
 -- A store: 01, "For two words both must be live, then both unprotected."
 abbrev pub storable : (A : Areas) (q : Registers) (m : List ℕ) (a : ℕ) (mode : Mode) (e : Effect) → Effect

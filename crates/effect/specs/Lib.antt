@@ -1,5 +1,2 @@
--- Program and registers, live and protected addresses, and what the instructions on data do.
-pub mod Program
-pub mod Memory
-pub mod Words
+-- What the instructions on data do.
 pub mod Data

@@ -4,17 +4,17 @@ ghost use mathlib.Core.Bool.{true};
 ghost use Prim.Native.Nat.{_≤_};
 ghost use lib.ListN.{length};
 ghost use Rattle.effect.specs.Data.{baseOf, loadFrom, addressOf, storeTo, gives, valued, inverted, allocated, freed};
-ghost use Rattle.effect.specs.Memory.{chained};
-ghost use Rattle.effect.specs.Program.{framesStart};
-use crate::access;
+ghost use Rattle.registers.specs.Memory.{chained};
+ghost use Rattle.registers.specs.Program.{framesStart};
 use crate::effect::Effect;
 use crate::effect::Push;
 use crate::effect::Write;
-use crate::registers::Areas;
-use crate::registers::Registers;
 use opcode::instruction::Base;
 use opcode::instruction::Mode;
 use operate::Value;
+use registers::Areas;
+use registers::Registers;
+use registers::access;
 
 // What an offset is counted from; `popped` is the word that the stack gives for an address.
 pub fn base_of(q: Registers, m: &[u32], popped: u32, base: Base) -> u32

@@ -1,6 +1,6 @@
 // What an instruction does, before any of it is done.
 
-use crate::registers::Registers;
+use registers::Registers;
 
 // The words that it pushes, the first one lower.
 pub enum Push {

@@ -1,5 +1,3 @@
-// What the instructions on data do: registers, addresses, loads, stores and operations, as effects that nothing has carried out yet.
-pub mod access;
+// What the instructions on data do: loads, stores and operations, as effects that nothing has carried out yet.
 pub mod data;
 pub mod effect;
-pub mod registers;

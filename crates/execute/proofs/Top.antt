@@ -11,9 +11,9 @@ use Rattle.opcode.specs.declared.instruction.Base.{Base}
 use Rattle.opcode.specs.declared.instruction.Base.the-variants.{Local, Global, Constant, Popped}
 use Rattle.opcode.specs.declared.instruction.Instruction.the-variants.{Store, Iter, Next}
 use Rattle.shape.specs.Counts.{popped, wordsIn}
-use Rattle.effect.specs.declared.registers.Registers.{Registers}
-use Rattle.effect.specs.Program.{Program}
-use Rattle.effect.specs.Memory.{read}
+use Rattle.registers.specs.declared.Registers.{Registers}
+use Rattle.registers.specs.Program.{Program}
+use Rattle.registers.specs.Memory.{read}
 use Rattle.effect.specs.Data.{baseOf, storeTo}
 use Rattle.execute.specs.Depth.{top, storedEffect, iteratedEffect, repeatedEffect}
 use Rattle.execute.specs.Execute.{execute}

@@ -6,10 +6,10 @@ use lib.ListN.{take, drop}
 use Rattle.opcode.specs.declared.instruction.Mode.{Mode}
 use Rattle.opcode.specs.declared.instruction.Base.{Base}
 use Rattle.shape.specs.Counts.{popped, wordsIn}
-use Rattle.effect.specs.declared.registers.Registers.{Registers}
-use Rattle.effect.specs.declared.registers.Areas.{Areas}
+use Rattle.registers.specs.declared.Registers.{Registers}
+use Rattle.registers.specs.declared.Areas.{Areas}
 use Rattle.effect.specs.declared.effect.Effect.{Effect}
-use Rattle.effect.specs.Memory.{read}
+use Rattle.registers.specs.Memory.{read}
 use Rattle.effect.specs.Data.{baseOf, storeTo}
 use Rattle.control.specs.Control.{iterates, repeats}
 

@@ -11,14 +11,14 @@ use Rattle.operate.specs.Arithmetic.{signedValue, unsignedValue, negatedValue}
 use Rattle.operate.specs.Compare.{signedTest, unsignedTest}
 use Rattle.operate.specs.Sets.{setWord}
 use Rattle.shape.specs.Counts.{popped, wordsIn}
-use Rattle.effect.specs.declared.registers.Registers.{Registers}
+use Rattle.registers.specs.declared.Registers.{Registers}
 use Rattle.effect.specs.declared.effect.Push.the-variants.{NoPush, PushTwo}
 use Rattle.effect.specs.declared.effect.Write.the-variants.{NoWrite}
 use Rattle.effect.specs.declared.effect.Effect.{Effect}
 use Rattle.effect.specs.declared.effect.Effect.the-variants.{Go}
-use Rattle.effect.specs.Program.{Program}
-use Rattle.effect.specs.Memory.{read}
-use Rattle.effect.specs.Words.{moved}
+use Rattle.registers.specs.Program.{Program}
+use Rattle.registers.specs.Memory.{read}
+use Rattle.registers.specs.Words.{moved}
 use Rattle.effect.specs.Data.{baseOf, loadFrom, addressOf, storeTo, gives, valued, inverted, allocated, freed}
 use Rattle.control.specs.Control.{jumps, jumpsIfFalse, jumpsKeeping, iterates, repeats, switches, searches, calls, enters, returns}
 

@@ -4,26 +4,25 @@ ghost use mathlib.Core.Bool.{true};
 ghost use Prim.Native.Nat.{_≤_, _<_, _+_, _-_};
 ghost use lib.ListN.{length};
 ghost use Rattle.shape.specs.Counts.{popped, needed};
-ghost use Rattle.effect.specs.Memory.{read};
+ghost use Rattle.registers.specs.Memory.{read, chained};
 ghost use Rattle.effect.specs.Data.{baseOf, loadFrom, addressOf};
 ghost use Rattle.control.specs.Control.{iterates, repeats};
 ghost use mathlib.Core.List.{List};
 ghost use Prim.Native.Nat.{ℕ};
 ghost use Rattle.execute.specs.Execute.{execute};
 ghost use Rattle.execute.specs.Group.{groupOf};
-ghost use Rattle.effect.specs.Memory.{chained};
-ghost use Rattle.effect.specs.Program.{Program, framesStart, program};
+ghost use Rattle.registers.specs.Program.{Program, framesStart, program};
 ghost use Rattle.execute.specs.Depth.{top, storedEffect, iteratedEffect, repeatedEffect};
-use effect::access;
 use effect::data;
 use effect::effect::Effect;
 use effect::effect::Push;
 use effect::effect::Write;
-use effect::registers::Areas;
-use effect::registers::Registers;
 use opcode::instruction::Base;
 use opcode::instruction::Instruction;
 use opcode::instruction::Mode;
+use registers::Areas;
+use registers::Registers;
+use registers::access;
 
 // The stack word at a depth, 1 being the top.
 fn stack_word(s: &[u32], height: u32, depth: u32) -> u32

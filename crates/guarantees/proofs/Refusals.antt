@@ -7,8 +7,8 @@ use native.Mathlib.Omega.{arith}
 use lib.Dec.{eqb}
 use lib.ListN.{length}
 use Rattle.header.specs.Header.{codeOf}
-use Rattle.effect.specs.declared.registers.Registers.{Registers}
-use Rattle.effect.specs.Program.{areasOf, programOf}
+use Rattle.registers.specs.declared.Registers.{Registers}
+use Rattle.registers.specs.Program.{areasOf, programOf}
 use Rattle.machine.specs.declared.load.Loaded.the-variants.{Refused, Ready}
 use Rattle.machine.specs.declared.run.Answer.{Answer}
 use Rattle.machine.specs.declared.run.Answer.the-variants.{Refused as NotRun, Ended}

@@ -16,8 +16,8 @@ use Rattle.effect.specs.declared.effect.Effect.{Effect}
 use Rattle.effect.specs.declared.effect.Effect.the-variants.{Trap, Finish, Go}
 use Rattle.effect.specs.declared.effect.Push.{Push}
 use Rattle.effect.specs.declared.effect.Push.the-variants.{NoPush, PushOne, PushTwo}
-use Rattle.effect.specs.Program.{program}
-use Rattle.effect.specs.Words.{pushes}
+use Rattle.registers.specs.Program.{program}
+use Rattle.effect.specs.Data.{pushes}
 use Rattle.execute.specs.Depth.{top}
 use Rattle.execute.specs.Execute.{execute}
 use Rattle.machine.specs.declared.step.Machine.{Machine}

@@ -2,10 +2,10 @@
 ghost use mathlib.Core.Path.{_≡_};
 ghost use lib.ListN.{length};
 ghost use Rattle.icode.specs.Bench.{stateWords, registersIn, outcomeWords, loadedAs, benchLoad, ranAs, benchRun};
-use effect::registers::Registers;
 use machine::load::Loaded;
 use machine::run::Answer;
 use machine::run::Ended;
+use registers::Registers;
 
 fn write_state(state: &mut [u32], q: Registers)
     requires { ⌜ length (now state) ≡ 6 ⌝ }
@@ -23,12 +23,12 @@ fn read_state(state: &[u32]) -> Registers
     ensures { λ q. ⌜ q ≡ registersIn (now (state .entry)) ⌝ }
 {
     Registers {
-        pc: effect::access::word_at(state, 0),
-        fp: effect::access::word_at(state, 1),
-        mp: effect::access::word_at(state, 2),
-        gp: effect::access::word_at(state, 3),
-        height: effect::access::word_at(state, 4),
-        calls: effect::access::word_at(state, 5),
+        pc: registers::access::word_at(state, 0),
+        fp: registers::access::word_at(state, 1),
+        mp: registers::access::word_at(state, 2),
+        gp: registers::access::word_at(state, 3),
+        height: registers::access::word_at(state, 4),
+        calls: registers::access::word_at(state, 5),
     }
 }
 

@@ -16,11 +16,11 @@ use Rattle.effect.specs.declared.effect.Push.the-variants.{NoPush, PushOne}
 use Rattle.effect.specs.declared.effect.Write.{Write}
 use Rattle.effect.specs.declared.effect.Write.the-variants.{NoWrite}
 use Rattle.effect.specs.declared.effect.Effect.the-variants.{Trap as trap, Go}
-use Rattle.effect.specs.Memory.{read, live, protectsAny}
-use Rattle.effect.specs.Words.{moved}
-use Rattle.effect.specs.declared.registers.Registers.{Registers}
-use Rattle.effect.specs.Program.{Program}
-use Rattle.effect.specs.Data.{baseOf, valued, loaded, loadFrom, addressOf, stored, storeTo, inverted}
+use Rattle.registers.specs.Memory.{read, live}
+use Rattle.effect.specs.Data.{protectsAny, baseOf, valued, loaded, loadFrom, addressOf, stored, storeTo, inverted}
+use Rattle.registers.specs.Words.{moved}
+use Rattle.registers.specs.declared.Registers.{Registers}
+use Rattle.registers.specs.Program.{Program}
 use Rattle.control.specs.Control.{jumped, jumps, jumpsIfFalse, jumpsKeeping}
 use Rattle.execute.specs.declared.Group.the-variants.{Gives, Goes as goes, Stores}
 use Rattle.execute.specs.Group.{groupOf}

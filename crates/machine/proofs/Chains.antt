@@ -7,7 +7,7 @@ use native.Mathlib.Omega.{arith}
 use lib.Dec.{eqb}
 use borrow.Author.Tests.{le-leb, lt-leb}
 use Rattle.words.proofs.Left.{one-left}
-use Rattle.effect.specs.Memory.{savedFp, chained}
+use Rattle.registers.specs.Memory.{savedFp, chained}
 
 pub record Followed (m : List ℕ) (start fp calls frame counter : ℕ) : Type 0 where
   pub count : counter ≤ calls

@@ -14,10 +14,10 @@ use Rattle.opcode.specs.declared.Decoded.the-variants.{Unserved, Past, At}
 use Rattle.opcode.specs.declared.instruction.Mode.{Mode}
 use Rattle.opcode.specs.declared.instruction.Mode.the-variants.{Normal, Double}
 use Rattle.opcode.specs.declared.instruction.Instruction.{Instruction}
-use Rattle.effect.specs.declared.registers.Areas.{Areas}
-use Rattle.effect.specs.declared.registers.Registers.{Registers}
-use Rattle.effect.specs.Program.{constantsStart, framesStart}
-use Rattle.effect.specs.Memory.{read, chained}
+use Rattle.registers.specs.declared.Areas.{Areas}
+use Rattle.registers.specs.declared.Registers.{Registers}
+use Rattle.registers.specs.Program.{constantsStart, framesStart}
+use Rattle.registers.specs.Memory.{read, chained}
 use Rattle.machine.specs.Fits.{sizesTaken, headerKept, registersFit, fits}
 
 pub record Fitting (A : Areas) (q : Registers) (m s : List ℕ) : Type 0 where

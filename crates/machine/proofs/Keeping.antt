@@ -16,14 +16,14 @@ use Rattle.effect.specs.declared.effect.Effect.{Effect}
 use Rattle.effect.specs.declared.effect.Effect.the-variants.{Trap, Finish, Go}
 use Rattle.effect.specs.declared.effect.Push.{Push}
 use Rattle.effect.specs.declared.effect.Write.the-variants.{NoWrite, WriteOne, WriteTwo, WriteGone}
-use Rattle.effect.specs.declared.registers.Areas.{Areas}
-use Rattle.effect.specs.declared.registers.Registers.{Registers}
-use Rattle.effect.specs.Program.{constantsStart, framesStart}
-use Rattle.effect.specs.Memory.{read, savedFp, isLink, chained, live, protects, protectsAny}
-use Rattle.effect.specs.Words.{moved, sized, called, returned}
-use Rattle.effect.specs.Data.{storable, stored}
-use Rattle.effect.proofs.Links.{chain-lower, chain-rest}
-use Rattle.effect.proofs.Protected.{free-above}
+use Rattle.registers.specs.declared.Areas.{Areas}
+use Rattle.registers.specs.declared.Registers.{Registers}
+use Rattle.registers.specs.Program.{constantsStart, framesStart}
+use Rattle.registers.specs.Memory.{read, savedFp, isLink, chained, live, protects}
+use Rattle.effect.specs.Data.{protectsAny, storable, stored}
+use Rattle.registers.specs.Words.{moved, sized, called, returned}
+use Rattle.registers.proofs.Links.{chain-lower, chain-rest}
+use Rattle.registers.proofs.Protected.{free-above}
 use Rattle.machine.specs.Step.{written}
 use Rattle.machine.proofs.Fitting.{Fitting}
 use Rattle.machine.proofs.Stored.{apart, Intact, intact-none, intact-then, stored-above, sets-under}

@@ -16,9 +16,9 @@ use Rattle.record.specs.declared.Reading.the-variants.{Sound, Refused as NotRea
 use Rattle.header.specs.declared.Header.{Header}
 use Rattle.header.specs.Header.{headerOf, constantsAt}
 use Rattle.record.specs.Number.{recordNumber, readingOf}
-use Rattle.effect.specs.declared.registers.Areas.{Areas}
-use Rattle.effect.specs.Memory.{read}
-use Rattle.effect.specs.Program.{areasIn, areasOf, programOf, framesStart}
+use Rattle.registers.specs.declared.Areas.{Areas}
+use Rattle.registers.specs.Memory.{read}
+use Rattle.registers.specs.Program.{areasIn, areasOf, programOf, framesStart}
 use Rattle.machine.specs.declared.load.Loaded.the-variants.{Refused, Ready}
 use Rattle.machine.specs.Fits.{sizesTaken}
 use Rattle.machine.specs.Load.{constantWords, initialData, loadedMemory, startOf, loadNumber, loading, loadOf}

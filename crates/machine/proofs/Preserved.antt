@@ -25,12 +25,12 @@ use Rattle.effect.specs.declared.effect.Effect.{Effect}
 use Rattle.effect.specs.declared.effect.Effect.the-variants.{Trap, Finish, Go}
 use Rattle.effect.specs.declared.effect.Push.the-variants.{NoPush, PushOne}
 use Rattle.effect.specs.declared.effect.Write.the-variants.{NoWrite, WriteOne, WriteTwo}
-use Rattle.effect.specs.declared.registers.Areas.{Areas}
-use Rattle.effect.specs.declared.registers.Registers.{Registers}
-use Rattle.effect.specs.Program.{program}
-use Rattle.effect.specs.Memory.{read, live, protects}
-use Rattle.effect.specs.Words.{pushes, moved, called}
-use Rattle.effect.specs.Data.{baseOf, loaded, loadFrom, addressOf, storeTo, valued, inverted, allocated, freed}
+use Rattle.registers.specs.declared.Areas.{Areas}
+use Rattle.registers.specs.declared.Registers.{Registers}
+use Rattle.registers.specs.Program.{program}
+use Rattle.registers.specs.Memory.{read, live, protects}
+use Rattle.effect.specs.Data.{pushes, baseOf, loaded, loadFrom, addressOf, storeTo, valued, inverted, allocated, freed}
+use Rattle.registers.specs.Words.{moved, called}
 use Rattle.control.specs.Control.{jumped, jumps, jumpsIfFalse, jumpsKeeping, beyond, iterates, nextSum, wentRound, summed, repeats, switches, searches, calls, enters, returns}
 use Rattle.execute.specs.Depth.{top}
 use Rattle.execute.specs.Execute.{execute}

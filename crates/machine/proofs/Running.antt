@@ -10,9 +10,9 @@ use Rattle.header.specs.declared.Header.{Header}
 use Rattle.record.specs.declared.Reading.the-variants.{Refused as NotRead, Sound}
 use Rattle.header.specs.Header.{codeOf}
 use Rattle.record.specs.Number.{recordNumber, readingOf}
-use Rattle.effect.specs.declared.registers.Areas.{Areas}
-use Rattle.effect.specs.declared.registers.Registers.{Registers}
-use Rattle.effect.specs.Program.{areasIn, areasOf}
+use Rattle.registers.specs.declared.Areas.{Areas}
+use Rattle.registers.specs.declared.Registers.{Registers}
+use Rattle.registers.specs.Program.{areasIn, areasOf}
 use Rattle.record.proofs.Sound.{sound-code}
 use Rattle.machine.specs.declared.run.Answer.the-variants.{Refused}
 use Rattle.machine.specs.declared.step.Machine.{Machine}

@@ -9,7 +9,7 @@ use lib.ListN.{length, getD, take, drop, set, length-drop, take-append-drop, dro
 use lib.Seq.{sets, set-out, take-all, take-suc, length-take-le}
 use Rattle.effect.specs.declared.effect.Push.{Push}
 use Rattle.effect.specs.declared.effect.Push.the-variants.{NoPush, PushOne, PushTwo}
-use Rattle.effect.specs.Words.{pushes}
+use Rattle.effect.specs.Data.{pushes}
 
 pub sets-out : (l : List ℕ) (i : ℕ) (vs : List ℕ) → length l ≤ i → sets l i vs ≡ l
 sets-out l i [] h = refl

@@ -8,8 +8,8 @@ use lib.Dec.{eqb}
 use lib.ListN.{length, set, length-set}
 use lib.Seq.{sets, getD-set-other}
 use borrow.Author.Tests.{eqb-false}
-use Rattle.effect.specs.Memory.{read, savedFp, isLink, chained}
-use Rattle.effect.proofs.Links.{chain-lower, chain-rest, chain-start, link-above}
+use Rattle.registers.specs.Memory.{read, savedFp, isLink, chained}
+use Rattle.registers.proofs.Links.{chain-lower, chain-rest, chain-start, link-above}
 
 pub record Intact (m n : List ℕ) (start fp calls : ℕ) : Type 0 where
   pub size : length n ≡ length m

@@ -5,8 +5,8 @@ use Rattle.effect.specs.declared.effect.Push.the-variants.{NoPush}
 use Rattle.effect.specs.declared.effect.Write.the-variants.{NoWrite}
 use Rattle.effect.specs.declared.effect.Effect.{Effect}
 use Rattle.effect.specs.declared.effect.Effect.the-variants.{Trap, Finish, Go}
-use Rattle.effect.specs.declared.registers.Registers.{Registers}
-use Rattle.effect.specs.Words.{moved}
+use Rattle.registers.specs.declared.Registers.{Registers}
+use Rattle.registers.specs.Words.{moved}
 use Rattle.machine.specs.declared.step.Machine.{Machine}
 use Rattle.machine.specs.declared.step.Stepped.{Stepped}
 use Rattle.machine.specs.declared.step.Outcome.the-variants.{Went, Finished}

@@ -4,10 +4,10 @@ use mathlib.Core.List.{List}
 use Prim.Native.Nat.{ℕ}
 use lib.Dec.{eqb, leb}
 use lib.ListN.{length}
-use Rattle.effect.specs.declared.registers.Registers.{Registers}
-use Rattle.effect.specs.declared.registers.Areas.{Areas}
-use Rattle.effect.specs.Program.{constantsStart, framesStart}
-use Rattle.effect.specs.Memory.{read, chained}
+use Rattle.registers.specs.declared.Registers.{Registers}
+use Rattle.registers.specs.declared.Areas.{Areas}
+use Rattle.registers.specs.Program.{constantsStart, framesStart}
+use Rattle.registers.specs.Memory.{read, chained}
 
 -- 01, number 8: "memory under 3+g+c or over 16,384, stack over 1,024".
 unfoldable pub sizesTaken : Areas → List ℕ → List ℕ → Bool

@@ -10,10 +10,10 @@ use Rattle.words.specs.Refusal.{_when_}
 use Rattle.header.specs.Header.{headerOf, constantsAt}
 use Rattle.entries.specs.Entries.{entryAt}
 use Rattle.record.specs.Number.{afterRecord}
-use Rattle.effect.specs.declared.registers.Registers.{Registers}
+use Rattle.registers.specs.declared.Registers.{Registers}
 use Rattle.machine.specs.declared.load.Loaded.{Loaded}
 use Rattle.machine.specs.declared.load.Loaded.the-variants.{Refused, Ready}
-use Rattle.effect.specs.Program.{Program, programOf, areasOf, constantsStart, framesStart}
+use Rattle.registers.specs.Program.{Program, programOf, areasOf, constantsStart, framesStart}
 use Rattle.machine.specs.Fits.{sizesTaken}
 
 unfoldable pub constantWords : List ℕ → List ℕ

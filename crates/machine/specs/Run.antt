@@ -6,7 +6,7 @@ use Prim.Native.Nat.{ℕ, zero, suc, _+_}
 use lib.Dec.{eqb}
 use Rattle.words.specs.Refusal.{_when_}
 use Rattle.record.specs.Number.{afterRecord}
-use Rattle.effect.specs.declared.registers.Registers.{Registers}
+use Rattle.registers.specs.declared.Registers.{Registers}
 use Rattle.machine.specs.declared.step.Machine.{Machine}
 use Rattle.machine.specs.declared.step.Outcome.{Outcome}
 use Rattle.machine.specs.declared.step.Outcome.the-variants.{Went, Finished, Trapped}
@@ -16,8 +16,8 @@ use Rattle.machine.specs.declared.run.Ended.{Ended as Ending}
 use Rattle.machine.specs.declared.run.Answer.{Answer}
 use Rattle.machine.specs.declared.run.Answer.the-variants.{Refused, Ended}
 use Rattle.header.specs.Header.{codeOf}
-use Rattle.effect.specs.declared.registers.Areas.{Areas}
-use Rattle.effect.specs.Program.{areasOf}
+use Rattle.registers.specs.declared.Areas.{Areas}
+use Rattle.registers.specs.Program.{areasOf}
 use Rattle.machine.specs.Step.{stepOf}
 use Rattle.machine.specs.Fits.{fits}
 

@@ -17,9 +17,10 @@ use Rattle.effect.specs.declared.effect.Write.{Write}
 use Rattle.effect.specs.declared.effect.Write.the-variants.{NoWrite, WriteOne, WriteTwo, WriteGone}
 use Rattle.effect.specs.declared.effect.Effect.{Effect}
 use Rattle.effect.specs.declared.effect.Effect.the-variants.{Trap, Finish, Go}
-use Rattle.effect.specs.declared.registers.Registers.{Registers}
-use Rattle.effect.specs.Program.{program}
-use Rattle.effect.specs.Words.{pushes, raised}
+use Rattle.registers.specs.declared.Registers.{Registers}
+use Rattle.registers.specs.Program.{program}
+use Rattle.effect.specs.Data.{pushes}
+use Rattle.registers.specs.Words.{raised}
 use Rattle.execute.specs.Depth.{top}
 use Rattle.execute.specs.Execute.{execute}
 use Rattle.machine.specs.declared.step.Machine.{Machine}

@@ -1,10 +1,10 @@
 // Which states a run takes.
 ghost use mathlib.Core.Path.{_≡_};
 ghost use Rattle.machine.specs.Fits.{sizesTaken, headerKept, registersFit, fits};
-ghost use Rattle.effect.specs.Memory.{chained};
-use effect::access;
-use effect::registers::Areas;
-use effect::registers::Registers;
+ghost use Rattle.registers.specs.Memory.{chained};
+use registers::Areas;
+use registers::Registers;
+use registers::access;
 
 // Whether memory and stack have sizes that load takes.
 pub fn sizes_taken(areas: Areas, memory: &[u32], stack: &[u32]) -> bool

@@ -3,14 +3,14 @@ ghost use mathlib.Core.Path.{_≡_};
 ghost use Prim.Native.Nat.{_≤_};
 ghost use lib.ListN.{length};
 ghost use Rattle.header.specs.Header.{headerOf};
-ghost use Rattle.effect.specs.Memory.{read};
-ghost use Rattle.effect.specs.Program.{areasIn, areasOf, framesStart, program};
+ghost use Rattle.registers.specs.Memory.{read};
+ghost use Rattle.registers.specs.Program.{areasIn, areasOf, framesStart, program};
 ghost use Rattle.machine.specs.Load.{initialData, loadedMemory, startOf, loading, loadOf};
 use crate::fits;
-use effect::registers::Areas;
-use effect::registers::Registers;
 use header::Header;
 use record::Reading;
+use registers::Areas;
+use registers::Registers;
 
 pub enum Loaded {
     Refused(u32),

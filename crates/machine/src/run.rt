@@ -9,8 +9,8 @@ use crate::fits;
 use crate::load;
 use crate::step::Machine;
 use crate::step::Outcome;
-use effect::registers::Registers;
 use record::Reading;
+use registers::Registers;
 
 // How a run ended.
 pub enum End {

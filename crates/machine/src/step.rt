@@ -8,20 +8,21 @@ ghost use lib.Seq.{sets};
 ghost use Rattle.machine.specs.Fits.{fits};
 ghost use Prim.Native.Nat.{_<_};
 ghost use Rattle.shape.specs.Counts.{needed};
-ghost use Rattle.effect.specs.Program.{program};
+ghost use Rattle.registers.specs.Program.{program};
 ghost use Rattle.execute.specs.Depth.{top};
 ghost use Rattle.execute.specs.Execute.{execute};
-ghost use Rattle.effect.specs.Words.{pushes, moved, raised};
+ghost use Rattle.effect.specs.Data.{pushes};
+ghost use Rattle.registers.specs.Words.{moved, raised};
 ghost use Rattle.machine.specs.Carry.{finishing, going, Pushes, Goes, Writes};
 ghost use Rattle.machine.specs.Step.{after, trapping, pushed, written, settled, stepOf};
 use effect::effect::Effect;
 use effect::effect::Push;
 use effect::effect::Write;
-use effect::registers::Areas;
-use effect::registers::Registers;
 use execute::Group;
 use opcode::Decoded;
 use opcode::instruction::Instruction;
+use registers::Areas;
+use registers::Registers;
 
 // The word at a place set; nothing past the end.
 fn set_word(s: &mut [u32], i: usize, x: u32)

@@ -6,7 +6,7 @@ use native.Mathlib.Nat.{le-of-suc-le-suc, mul-le-mul}
 use native.Mathlib.Omega.{arith}
 use lib.ListN.{getD}
 use Rattle.words.specs.Bytes.{byteAt, halfwordAt}
-use Rattle.opcode.specs.Operand.{fixedOf, eachOf}
+use Rattle.operand.specs.Operand.{fixedOf, eachOf}
 use Rattle.opcode.specs.Table.{Row, row, unserved, normal, both, rowOf}
 use Rattle.opcode.specs.Length.{lengthOf, lengthIn, formatOf}
 use Rattle.opcode.specs.declared.instruction.Mode.{Mode}

@@ -7,7 +7,7 @@ use native.Mathlib.Nat.{add-zero, add-suc, suc-add}
 use native.Mathlib.Omega.{arith}
 use borrow.Author.Tests.{ne-eqb}
 use lib.Dec.{eqb, ltb}
-use Rattle.opcode.specs.Operand.{none, fixedOf, eachOf}
+use Rattle.operand.specs.Operand.{none, fixedOf, eachOf}
 use Rattle.opcode.specs.Decode.{made}
 use Rattle.opcode.specs.declared.instruction.Mode.{Mode}
 use Rattle.opcode.specs.declared.instruction.Instruction.the-variants.{Nop}

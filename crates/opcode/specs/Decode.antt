@@ -5,7 +5,7 @@ use mathlib.Core.List.{List}
 use Prim.Native.Nat.{ℕ, _+_}
 use lib.Dec.{eqb, ltb, leb}
 use Rattle.words.specs.Bytes.{byteAt}
-use Rattle.opcode.specs.Operand.{operand, operand2}
+use Rattle.operand.specs.Operand.{operand, operand2}
 use Rattle.opcode.specs.Table.{Row, row, unserved, rowOf}
 use Rattle.opcode.specs.Length.{lengthIn}
 use Rattle.opcode.specs.declared.Decoded.{Decoded}

@@ -4,7 +4,7 @@ use mathlib.Core.Bool.{Bool, true, false, cond}
 use mathlib.Core.List.{List, [], _∷_}
 use Prim.Native.Nat.{ℕ, _/_}
 use lib.Dec.{eqb, ltb}
-use Rattle.opcode.specs.Operand.{Operands, none, digit, unsigned, signed, bytes, table, b, h, w}
+use Rattle.operand.specs.Operand.{Operands, none, digit, unsigned, signed, bytes, table, b, h, w}
 use Rattle.opcode.specs.declared.instruction.Mode.{Mode}
 use Rattle.opcode.specs.declared.instruction.Mode.the-variants.{Normal, Double}
 use Rattle.opcode.specs.declared.instruction.Base.the-variants.{Local, Global, Constant, Popped}

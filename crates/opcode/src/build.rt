@@ -10,7 +10,6 @@ use crate::instruction::Instruction;
 use crate::instruction::Mode;
 use crate::instruction::Order;
 use crate::instruction::SetOperation;
-use crate::operand;
 
 // 5.2.4.1: the operand is the last digit of the code.
 pub fn short_form(mode: Mode, code: &[u8], at: usize) -> Instruction

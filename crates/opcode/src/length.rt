@@ -17,7 +17,7 @@ pub fn length_in(mode: Mode, code: &[u8], at: usize) -> usize
     if format < 32 {
         return fixed;
     }
-    fixed + ((format / 32) as usize) * (crate::operand::unsigned_halfword(code, at) as usize)
+    fixed + ((format / 32) as usize) * (operand::unsigned_halfword(code, at) as usize)
 }
 
 // The bytes of the instruction at `at`, a prefix counted in; 0 where it is not served.

@@ -10,8 +10,6 @@ mod build;
 mod format;
 pub mod instruction;
 pub mod length;
-pub mod operand;
-pub mod switch;
 
 // An unserved instruction; one that runs past the limit; or the instruction and the place after it.
 pub enum Decoded {

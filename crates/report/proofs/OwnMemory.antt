@@ -9,7 +9,7 @@ use borrow.Author.Tests.{leb-true, leb-false, lt-leb}
 use lib.Dec.{leb, eqb·suc-zero}
 use lib.ListN.{length, take, length-replicate}
 use Rattle.record.specs.Number.{recordNumber}
-use Rattle.effect.specs.Program.{areasOf, framesStart}
+use Rattle.registers.specs.Program.{areasOf, framesStart}
 use Rattle.machine.specs.Fits.{sizesTaken}
 use Rattle.machine.specs.Load.{loadNumber, loadOf}
 use Rattle.machine.specs.declared.load.Loaded.the-variants.{Refused as NotLoaded}

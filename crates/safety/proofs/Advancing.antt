@@ -12,9 +12,9 @@ use Rattle.shape.specs.Counts.{needed}
 use Rattle.shape.specs.Shape.{shapeOf}
 use Rattle.shape.specs.declared.Shape.{Shape}
 use Rattle.shape.specs.declared.Shape.the-variants.{Straight, Drop, Goto, Branch, Keep, Loop, Again, Select, Exit, Invoke, Begin, Return}
-use Rattle.effect.specs.declared.registers.Areas.{Areas}
-use Rattle.effect.specs.declared.registers.Registers.{Registers}
-use Rattle.effect.specs.Program.{framesStart}
+use Rattle.registers.specs.declared.Areas.{Areas}
+use Rattle.registers.specs.declared.Registers.{Registers}
+use Rattle.registers.specs.Program.{framesStart}
 use Rattle.stackmap.specs.Ways.{Module, ways}
 use Rattle.stackmap.specs.StackMap.{stepped}
 use Rattle.machine.specs.declared.step.Outcome.{Outcome}

@@ -5,11 +5,11 @@ use mathlib.Core.Path.{_≡_, refl}
 use Prim.Native.Nat.{ℕ, _≤_, _<_}
 use lib.Dec.{leb, ltb}
 use borrow.Author.Tests.{lt-ltb}
-use Rattle.effect.specs.declared.registers.Areas.{Areas}
-use Rattle.effect.specs.declared.registers.Registers.{Registers}
-use Rattle.effect.specs.Memory.{read, isLink, protects}
-use Rattle.effect.specs.Program.{constantsStart, framesStart}
-use Rattle.effect.proofs.Protected.{constant}
+use Rattle.registers.specs.declared.Areas.{Areas}
+use Rattle.registers.specs.declared.Registers.{Registers}
+use Rattle.registers.specs.Memory.{read, isLink, protects}
+use Rattle.registers.specs.Program.{constantsStart, framesStart}
+use Rattle.registers.proofs.Protected.{constant}
 use Rattle.stackmap.specs.Ways.{Module}
 use Rattle.machine.specs.Fits.{fits}
 use Rattle.machine.proofs.Fitting.{fitting}

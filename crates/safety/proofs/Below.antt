@@ -15,9 +15,9 @@ use Rattle.shape.specs.Counts.{needed}
 use Rattle.effect.specs.declared.effect.Effect.{Effect}
 use Rattle.effect.specs.declared.effect.Effect.the-variants.{Trap, Finish, Go}
 use Rattle.effect.specs.declared.effect.Write.{Write}
-use Rattle.effect.specs.declared.registers.Registers.{Registers}
-use Rattle.effect.specs.Program.{program}
-use Rattle.effect.specs.Words.{pushes}
+use Rattle.registers.specs.declared.Registers.{Registers}
+use Rattle.registers.specs.Program.{program}
+use Rattle.effect.specs.Data.{pushes}
 use Rattle.execute.specs.Depth.{top}
 use Rattle.machine.specs.declared.step.Machine.{Machine}
 use Rattle.machine.specs.declared.step.Stepped.{Stepped}

@@ -26,12 +26,12 @@ use Rattle.effect.specs.declared.effect.Effect.the-variants.{Trap, Finish, Go}
 use Rattle.effect.specs.declared.effect.Push.{Push}
 use Rattle.effect.specs.declared.effect.Write.{Write}
 use Rattle.effect.specs.declared.effect.Write.the-variants.{NoWrite, WriteTwo}
-use Rattle.effect.specs.declared.registers.Areas.{Areas}
-use Rattle.effect.specs.declared.registers.Registers.{Registers}
-use Rattle.effect.specs.Program.{Program}
-use Rattle.effect.specs.Memory.{read, savedFp, live, protects, protectsAny}
-use Rattle.effect.specs.Words.{moved, sized}
-use Rattle.effect.specs.Data.{baseOf, loadFrom, addressOf, storable, storeTo, valued, inverted, allocated, freed}
+use Rattle.registers.specs.declared.Areas.{Areas}
+use Rattle.registers.specs.declared.Registers.{Registers}
+use Rattle.registers.specs.Program.{Program}
+use Rattle.registers.specs.Memory.{read, savedFp, live, protects}
+use Rattle.effect.specs.Data.{protectsAny, baseOf, loadFrom, addressOf, storable, storeTo, valued, inverted, allocated, freed}
+use Rattle.registers.specs.Words.{moved, sized}
 use Rattle.control.specs.Control.{jumps, jumpsIfFalse, jumpsKeeping, beyond, iterates, nextSum, summed, repeats, switches, searches, calls, enters, returns}
 use Rattle.execute.specs.Execute.{execute}
 

@@ -14,9 +14,9 @@ use Rattle.shape.specs.Counts.{needed}
 use Rattle.shape.specs.Shape.{shapeOf}
 use Rattle.effect.specs.declared.effect.Effect.{Effect}
 use Rattle.effect.specs.declared.effect.Effect.the-variants.{Trap, Finish, Go}
-use Rattle.effect.specs.declared.registers.Areas.{Areas}
-use Rattle.effect.specs.Program.{areasOf}
-use Rattle.effect.specs.Words.{pushes}
+use Rattle.registers.specs.declared.Areas.{Areas}
+use Rattle.registers.specs.Program.{areasOf}
+use Rattle.effect.specs.Data.{pushes}
 use Rattle.stackmap.specs.Ways.{Module}
 use Rattle.verifier.specs.Exact.{subject}
 use Rattle.verifier.proofs.Exactly.{accepts-only}

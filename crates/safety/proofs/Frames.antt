@@ -17,11 +17,11 @@ use Rattle.shape.specs.declared.Shape.the-variants.{Straight, Drop, Goto, Branc
 use Rattle.effect.specs.declared.effect.Effect.{Effect}
 use Rattle.effect.specs.declared.effect.Effect.the-variants.{Trap, Finish, Go}
 use Rattle.effect.specs.declared.effect.Write.{Write}
-use Rattle.effect.specs.declared.registers.Registers.{Registers}
-use Rattle.effect.specs.Memory.{read, savedFp, isLink}
-use Rattle.effect.specs.Program.{program, framesStart}
-use Rattle.effect.specs.Words.{pushes}
-use Rattle.effect.proofs.Links.{link-near}
+use Rattle.registers.specs.declared.Registers.{Registers}
+use Rattle.registers.specs.Memory.{read, savedFp, isLink}
+use Rattle.registers.specs.Program.{program, framesStart}
+use Rattle.effect.specs.Data.{pushes}
+use Rattle.registers.proofs.Links.{link-near}
 use Rattle.execute.specs.Depth.{top}
 use Rattle.stackmap.specs.Ways.{Module}
 use Rattle.machine.specs.declared.step.Machine.{Machine}

@@ -8,12 +8,12 @@ use native.Mathlib.Omega.{arith}
 use lib.Dec.{eqb, eqb·suc-zero, leb}
 use lib.ListN.{length}
 use Rattle.record.specs.Number.{recordNumber}
-use Rattle.effect.specs.Program.{areasOf, programOf}
+use Rattle.registers.specs.Program.{areasOf, programOf}
 use Rattle.verifier.proofs.Ranges.{record-range}
 use Rattle.verifier.proofs.Accepting.{check-range}
 use Rattle.verifier.specs.Check.{Checking, checking, checkOf}
 use Rattle.words.specs.Bytes.{Bytes}
-use Rattle.effect.specs.declared.registers.Registers.{Registers}
+use Rattle.registers.specs.declared.Registers.{Registers}
 use Rattle.machine.specs.declared.load.Loaded.{Loaded}
 use Rattle.machine.specs.declared.load.Loaded.the-variants.{Refused as NotLoaded, Ready}
 use Rattle.machine.specs.declared.run.Answer.{Answer}

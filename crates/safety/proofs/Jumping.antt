@@ -9,7 +9,7 @@ use Rattle.opcode.specs.Distance.{placeAt}
 use Rattle.effect.specs.declared.effect.Effect.the-variants.{Go}
 use Rattle.effect.specs.declared.effect.Push.the-variants.{NoPush}
 use Rattle.effect.specs.declared.effect.Write.the-variants.{NoWrite}
-use Rattle.effect.specs.Words.{moved}
+use Rattle.registers.specs.Words.{moved}
 use Rattle.control.specs.Control.{jumped, jumps, jumpsIfFalse, jumpsKeeping}
 use Rattle.stackmap.specs.Slots.{Slot, popWords, dropSlots}
 use Rattle.stackmap.specs.Ways.{Way, _gets_, after, both}

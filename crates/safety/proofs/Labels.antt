@@ -26,10 +26,10 @@ use Rattle.effect.specs.declared.effect.Effect.the-variants.{Go}
 use Rattle.effect.specs.declared.effect.Push.the-variants.{NoPush}
 use Rattle.effect.specs.declared.effect.Write.{Write}
 use Rattle.effect.specs.declared.effect.Write.the-variants.{NoWrite, WriteOne}
-use Rattle.effect.specs.declared.registers.Areas.{Areas}
-use Rattle.effect.specs.declared.registers.Registers.{Registers}
-use Rattle.effect.specs.Memory.{read, live, protects}
-use Rattle.effect.specs.Words.{moved}
+use Rattle.registers.specs.declared.Areas.{Areas}
+use Rattle.registers.specs.declared.Registers.{Registers}
+use Rattle.registers.specs.Memory.{read, live, protects}
+use Rattle.registers.specs.Words.{moved}
 use Rattle.control.specs.Control.{jumped, beyond, iterates, nextSum, summed, repeats, branched}
 use Rattle.execute.specs.Depth.{top}
 use Rattle.successors.specs.Successors.{exitLabel, selectTargets}

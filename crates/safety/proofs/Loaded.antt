@@ -12,8 +12,8 @@ use Rattle.words.specs.Refusal.{refusal, _when_}
 use Rattle.header.specs.Header.{headerOf, codeOf}
 use Rattle.entries.specs.Entries.{entryCount}
 use Rattle.record.specs.Number.{recordNumber}
-use Rattle.effect.specs.declared.registers.Registers.{Registers}
-use Rattle.effect.specs.Program.{areasOf, programOf, framesStart}
+use Rattle.registers.specs.declared.Registers.{Registers}
+use Rattle.registers.specs.Program.{areasOf, programOf, framesStart}
 use Rattle.machine.specs.declared.load.Loaded.the-variants.{Refused, Ready}
 use Rattle.machine.specs.Fits.{sizesTaken}
 use Rattle.machine.specs.Load.{loading, loadedMemory, startOf, loadNumber, loadOf}

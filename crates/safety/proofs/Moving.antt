@@ -10,8 +10,8 @@ use Rattle.effect.specs.declared.effect.Effect.the-variants.{Go}
 use Rattle.effect.specs.declared.effect.Push.{Push}
 use Rattle.effect.specs.declared.effect.Push.the-variants.{PushOne}
 use Rattle.effect.specs.declared.effect.Write.{Write}
-use Rattle.effect.specs.declared.registers.Registers.{Registers}
-use Rattle.effect.specs.Words.{pushes}
+use Rattle.registers.specs.declared.Registers.{Registers}
+use Rattle.effect.specs.Data.{pushes}
 use Rattle.stackmap.specs.Slots.{Slot, label, pushWords, popWords, dropSlots}
 use Rattle.stackmap.specs.Ways.{Way, _gets_, after, straight, labelWord}
 use Rattle.stackmap.specs.StackMap.{Among, here}

@@ -13,10 +13,10 @@ use Rattle.shape.specs.Counts.{needed}
 use Rattle.shape.specs.Shape.{shapeOf}
 use Rattle.shape.specs.declared.Shape.{Shape}
 use Rattle.shape.specs.declared.Shape.the-variants.{Straight, Drop, Goto, Branch, Keep, Loop, Again, Select, Exit, Invoke, Begin, Return}
-use Rattle.effect.specs.Memory.{read}
-use Rattle.effect.specs.Program.{framesStart}
-use Rattle.effect.specs.declared.registers.Areas.{Areas}
-use Rattle.effect.specs.declared.registers.Registers.{Registers}
+use Rattle.registers.specs.Memory.{read}
+use Rattle.registers.specs.Program.{framesStart}
+use Rattle.registers.specs.declared.Areas.{Areas}
+use Rattle.registers.specs.declared.Registers.{Registers}
 use Rattle.stackmap.specs.Slots.{Slot, pushWords}
 use Rattle.stackmap.specs.Ways.{Module, Way, resultsOf, ways}
 use Rattle.stackmap.specs.StackMap.{Reached, Among}

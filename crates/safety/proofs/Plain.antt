@@ -14,11 +14,10 @@ use Rattle.effect.specs.declared.effect.Effect.{Effect}
 use Rattle.effect.specs.declared.effect.Effect.the-variants.{Trap, Go}
 use Rattle.effect.specs.declared.effect.Push.{Push}
 use Rattle.effect.specs.declared.effect.Write.{Write}
-use Rattle.effect.specs.declared.registers.Areas.{Areas}
-use Rattle.effect.specs.declared.registers.Registers.{Registers}
-use Rattle.effect.specs.Memory.{live, protectsAny}
-use Rattle.effect.specs.Words.{pushes}
-use Rattle.effect.specs.Data.{loaded, loadFrom, addressOf, storeTo, valued, inverted, allocated, freed}
+use Rattle.registers.specs.declared.Areas.{Areas}
+use Rattle.registers.specs.declared.Registers.{Registers}
+use Rattle.registers.specs.Memory.{live}
+use Rattle.effect.specs.Data.{protectsAny, pushes, loaded, loadFrom, addressOf, storeTo, valued, inverted, allocated, freed}
 use Rattle.control.specs.Control.{enters}
 use Rattle.safety.proofs.Parts.{DataTrap}
 use Rattle.safety.proofs.Traps.{data-number, Valued, a-trap}

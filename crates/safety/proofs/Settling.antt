@@ -19,12 +19,12 @@ use Rattle.effect.specs.declared.effect.Effect.{Effect}
 use Rattle.effect.specs.declared.effect.Effect.the-variants.{Trap, Finish, Go}
 use Rattle.effect.specs.declared.effect.Push.{Push}
 use Rattle.effect.specs.declared.effect.Write.{Write}
-use Rattle.effect.specs.declared.registers.Areas.{Areas}
-use Rattle.effect.specs.declared.registers.Registers.{Registers}
-use Rattle.effect.specs.Memory.{live, protectsAny}
-use Rattle.effect.specs.Program.{program}
-use Rattle.effect.specs.Words.{pushes, raised}
-use Rattle.effect.specs.Data.{storable, boolean}
+use Rattle.registers.specs.declared.Areas.{Areas}
+use Rattle.registers.specs.declared.Registers.{Registers}
+use Rattle.registers.specs.Memory.{live}
+use Rattle.effect.specs.Data.{protectsAny, pushes, storable, boolean}
+use Rattle.registers.specs.Program.{program}
+use Rattle.registers.specs.Words.{raised}
 use Rattle.execute.specs.Depth.{top}
 use Rattle.execute.specs.Execute.{execute}
 use Rattle.stackmap.specs.Ways.{Module, Way}

@@ -15,8 +15,8 @@ use Rattle.shape.specs.Counts.{needed, popped, wordsIn}
 use Rattle.shape.specs.Shape.{shapeOf}
 use Rattle.shape.specs.declared.Shape.the-variants.{Invoke, Return}
 use Rattle.shape.specs.declared.Table.the-variants.{Branches, Ranges}
-use Rattle.effect.specs.Memory.{read}
-use Rattle.effect.specs.Program.{program}
+use Rattle.registers.specs.Memory.{read}
+use Rattle.registers.specs.Program.{program}
 use Rattle.control.specs.Control.{switches, searches, calls, returns}
 use Rattle.execute.specs.Depth.{top}
 use Rattle.execute.specs.Execute.{execute}

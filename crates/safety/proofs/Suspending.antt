@@ -8,8 +8,8 @@ use Prim.Native.Nat.{ℕ, zero, suc, _+_, _-_, _<_}
 use native.Mathlib.Omega.{arith}
 use lib.ListN.{length, getD}
 use Rattle.entries.specs.Entries.{entryAt, entryCount}
-use Rattle.effect.specs.declared.registers.Registers.{Registers}
-use Rattle.effect.specs.Memory.{read}
+use Rattle.registers.specs.declared.Registers.{Registers}
+use Rattle.registers.specs.Memory.{read}
 use Rattle.stackmap.specs.Slots.{Slot, word, label, pushWords, popWords, isWords}
 use Rattle.stackmap.specs.Ways.{Module, Way, _gets_, parametersOf, resultsOf, straight}
 use Rattle.stackmap.specs.StackMap.{Among, here, Reached, entered}

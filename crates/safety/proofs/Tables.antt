@@ -6,7 +6,7 @@ use Prim.Native.Nat.{ℕ, zero, suc, _+_, _<_}
 use native.Mathlib.Omega.{arith}
 use lib.Dec.{leb}
 use borrow.Author.Tests.{leb-true}
-use Rattle.opcode.specs.Switch.{elseDistance, branchDistance, rangeDistance, rangeHolds, searchFrom, searchDistance, orElse}
+use Rattle.switch_table.specs.Switch.{elseDistance, branchDistance, rangeDistance, rangeHolds, searchFrom, searchDistance, orElse}
 use Rattle.shape.specs.declared.Table.{Table}
 use Rattle.shape.specs.declared.Table.the-variants.{Branches, Ranges}
 use Rattle.successors.specs.Successors.{tableTarget, tableFrom, selectTargets}

@@ -3,10 +3,10 @@
 use mathlib.Core.List.{List, [], _∷_}
 use mathlib.Core.Path.{_≡_, _∙_, refl}
 use Prim.Native.Nat.{ℕ, _≤_, _<_}
-use Rattle.effect.specs.declared.registers.Areas.{Areas}
-use Rattle.effect.specs.declared.registers.Registers.{Registers}
-use Rattle.effect.specs.Memory.{read}
-use Rattle.effect.specs.Program.{areasOf, constantsStart, framesStart}
+use Rattle.registers.specs.declared.Areas.{Areas}
+use Rattle.registers.specs.declared.Registers.{Registers}
+use Rattle.registers.specs.Memory.{read}
+use Rattle.registers.specs.Program.{areasOf, constantsStart, framesStart}
 use Rattle.stackmap.specs.Ways.{Module}
 use Rattle.verifier.specs.Check.{checkOf}
 use Rattle.words.specs.Bytes.{Bytes}

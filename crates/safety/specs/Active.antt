@@ -10,7 +10,7 @@ use Rattle.opcode.specs.declared.Decoded.the-variants.{Unserved, Past, At}
 use Rattle.shape.specs.Shape.{shapeOf}
 use Rattle.shape.specs.declared.Shape.{Shape}
 use Rattle.shape.specs.declared.Shape.the-variants.{Straight, Drop, Goto, Branch, Keep, Loop, Again, Select, Exit, Invoke, Begin, Return}
-use Rattle.effect.specs.declared.registers.Registers.{Registers}
+use Rattle.registers.specs.declared.Registers.{Registers}
 use Rattle.stackmap.specs.Ways.{Module, parametersOf}
 use Rattle.machine.specs.declared.step.Machine.{Machine}
 use Rattle.machine.specs.declared.step.Outcome.the-variants.{Went}

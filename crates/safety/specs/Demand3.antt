@@ -5,9 +5,9 @@ use mathlib.Core.Path.{_≡_}
 use Prim.Native.Nat.{ℕ, _≤_, _<_, _+_}
 use lib.ListN.{length, getD}
 use Rattle.entries.specs.Entries.{entryCount}
-use Rattle.effect.specs.Memory.{read}
-use Rattle.effect.specs.Program.{areasOf, constantsStart, framesStart}
-use Rattle.effect.specs.declared.registers.Registers.{Registers}
+use Rattle.registers.specs.Memory.{read}
+use Rattle.registers.specs.Program.{areasOf, constantsStart, framesStart}
+use Rattle.registers.specs.declared.Registers.{Registers}
 use Rattle.stackmap.specs.Slots.{Slot, word, label}
 use Rattle.stackmap.specs.Ways.{Module, labelWord}
 use Rattle.stackmap.specs.StackMap.{Reached}

@@ -9,7 +9,7 @@ use borrow.Author.Tests.{lt-ltb, le-leb, leb-true, eq-eqb, ne-eqb, eqb-true, eqb
 use lib.Dec.{eqb, ltb, leb}
 use Rattle.words.specs.Bytes.{byteAt}
 use Rattle.words.proofs.Tests.{both-true, either}
-use Rattle.opcode.specs.Operand.{operand, operand2}
+use Rattle.operand.specs.Operand.{operand, operand2}
 use Rattle.opcode.specs.Table.{Row, row, unserved, allows, Entry, entry, find, rowOf}
 use Rattle.opcode.specs.Table.{shortTable, dataTable, operationTable, controlTable}
 use Rattle.opcode.specs.Length.{lengthOf, lengthIn}

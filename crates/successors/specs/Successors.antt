@@ -2,7 +2,7 @@
 use mathlib.Core.List.{List, [], _∷_}
 use Prim.Native.Nat.{ℕ, zero, suc, _+_}
 use Rattle.opcode.specs.Distance.{placeAt}
-use Rattle.opcode.specs.Switch.{exitDistance, elseDistance, branchDistance, rangeDistance, orElse}
+use Rattle.switch_table.specs.Switch.{exitDistance, elseDistance, branchDistance, rangeDistance, orElse}
 use Rattle.shape.specs.declared.Shape.{Shape}
 use Rattle.shape.specs.declared.Shape.the-variants.{Straight, Drop, Goto, Branch, Keep, Loop, Again, Select, Exit, Invoke, Begin, Return}
 use Rattle.shape.specs.declared.Table.{Table}

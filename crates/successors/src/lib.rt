@@ -2,9 +2,8 @@
 ghost use mathlib.Core.Path.{_≡_};
 ghost use Prim.Native.Nat.{_<_, _+_};
 ghost use Rattle.opcode.specs.Distance.{placeAt};
-ghost use Rattle.opcode.specs.Switch.{elseDistance};
+ghost use Rattle.switch_table.specs.Switch.{elseDistance};
 ghost use Rattle.successors.specs.Successors.{tableSize, tableTarget, exitLabel};
-use opcode::switch;
 use shape::Table;
 
 // The place at a distance from an offset of the code.
@@ -19,14 +18,14 @@ pub fn exit_label(code: &[u8], at: usize) -> usize
     requires { ⌜ at < 65536 ⌝ }
     ensures { λ r. ⌜ r ≡ exitLabel (now (code .entry)) at ⌝ }
 {
-    at + (switch::exit_distance(code, at) as usize)
+    at + (switch_table::exit_distance(code, at) as usize)
 }
 
 pub fn else_target(code: &[u8], at: usize) -> usize
     requires { ⌜ at < 65536 ⌝ }
     ensures { λ r. ⌜ r ≡ at + elseDistance (now (code .entry)) at ⌝ }
 {
-    at + (switch::else_distance(code, at) as usize)
+    at + (switch_table::else_distance(code, at) as usize)
 }
 
 // How many branches a switch's table has.
@@ -45,9 +44,9 @@ pub fn table_target(code: &[u8], at: usize, table: Table, k: u32) -> usize
     ensures { λ r. ⌜ r ≡ tableTarget (now (code .entry)) at table k ⌝ }
 {
     match table {
-        Table::Branches => at + (switch::branch_distance(code, at, k) as usize),
+        Table::Branches => at + (switch_table::branch_distance(code, at, k) as usize),
         Table::Ranges => {
-            let distance = switch::range_distance(code, at, k);
+            let distance = switch_table::range_distance(code, at, k);
             if distance == 0 {
                 return else_target(code, at);
             }

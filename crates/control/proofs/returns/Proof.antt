@@ -2,7 +2,7 @@
 use native.Mathlib.Omega.{arith}
 use borrow.Author.Tests.{eq-eqb, ne-eqb}
 use Rattle.control.proofs.returns.Statement.{statement}
-use Rattle.effect.specs.Program.{framesStart}
+use Rattle.registers.specs.Program.{framesStart}
 use Rattle.control.specs.Control.{returns as returnsOf}
 use Rattle.control.proofs.Laws.{framed}
 use Rattle.control.proofs.returns.Tie as tie

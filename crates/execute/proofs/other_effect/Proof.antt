@@ -2,7 +2,7 @@
 use Rattle.execute.proofs.Groups.{others-told}
 use Rattle.execute.proofs.Top.{found, iter-found, next-found}
 use Rattle.execute.specs.Execute.{execute}
-use Rattle.effect.specs.Program.{program}
+use Rattle.registers.specs.Program.{program}
 use native.Mathlib.Omega.{arith}
 use Prim.Native.Nat.{_≤_}
 use mathlib.Core.Path.{_≡_, sym}

@@ -1,7 +1,7 @@
 -- `execute::stored_effect` meets its contract: no instruction but STOR is of the group.
 use Rattle.execute.proofs.Groups.{stores-told}
 use Rattle.execute.proofs.Top.{store-found}
-use Rattle.effect.specs.Program.{program}
+use Rattle.registers.specs.Program.{program}
 use mathlib.Core.Path.{sym}
 use borrow.Author.Needs.{needs}
 use Rattle.execute.proofs.stored_effect.Statement.{statement}

@@ -4,7 +4,7 @@ use borrow.Author.Needs.{needs}
 use borrow.Author.Tests.{not-true, not-false}
 use Rattle.effect.proofs.data.load_from.Statement.{statement}
 use Rattle.effect.specs.Data.{loadFrom}
-use Rattle.effect.proofs.Protected.{live-below}
+use Rattle.registers.proofs.Protected.{live-below}
 use Rattle.effect.proofs.data.load_from.Tie as tie
 
 enum-told : tie.Need-enum-told

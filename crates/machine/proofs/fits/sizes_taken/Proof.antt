@@ -3,7 +3,7 @@ use lib.ListN.{length}
 use borrow.Author.Needs.{needs}
 use borrow.Author.Tests.{le-leb, lt-leb}
 use Rattle.machine.proofs.fits.sizes_taken.Statement.{statement}
-use Rattle.effect.specs.Program.{framesStart}
+use Rattle.registers.specs.Program.{framesStart}
 use Rattle.machine.specs.Fits.{sizesTaken}
 use Rattle.machine.proofs.fits.sizes_taken.Tie as tie
 

@@ -4,7 +4,7 @@ use borrow.Author.Needs.{needs}
 use Rattle.opcode.proofs.build.data_form.Statement.{statement}
 use Rattle.opcode.proofs.Rows.{find-rest}
 use Rattle.opcode.specs.Table.{dataTable}
-use Rattle.opcode.proofs.Extend.{extended-word}
+use Rattle.operand.proofs.Extend.{extended-word}
 use Rattle.opcode.proofs.build.data_form.Tie as tie
 
 byte-at-requires : tie.Need-byte-at-requires

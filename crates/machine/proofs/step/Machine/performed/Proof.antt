@@ -2,7 +2,7 @@
 use Rattle.machine.proofs.Carrying.{gives-pushes, goes-goes, stores-writes}
 use Rattle.machine.proofs.Fitting.{fitting}
 use Rattle.execute.specs.Depth.{top}
-use Rattle.effect.specs.Program.{program}
+use Rattle.registers.specs.Program.{program}
 use Rattle.shape.specs.Counts.{needed}
 use mathlib.Core.Path.{_≡_, _∙_, sym}
 use borrow.Author.Needs.{needs}

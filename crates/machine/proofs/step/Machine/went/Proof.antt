@@ -1,6 +1,6 @@
 -- `machine::step::Machine::went` meets its contract: nothing is pushed, so there is room, and the place is tested.
 use Rattle.machine.specs.Step.{settled as settledOf}
-use Rattle.effect.specs.Words.{pushes}
+use Rattle.effect.specs.Data.{pushes}
 use borrow.Author.Tests.{lt-ltb, le-ltb}
 use lib.ListN.{length}
 use native.Mathlib.Omega.{arith}

@@ -1,0 +1,2 @@
+-- Laws about widened numbers.
+pub mod Extend

@@ -1,0 +1,2 @@
+-- The operands of an instruction.
+pub mod Operand

@@ -1,0 +1,81 @@
+// The operands behind a code byte at `at`, each as a word.
+ghost use mathlib.Core.Path.{_≡_};
+ghost use Prim.Native.Nat.{_+_};
+ghost use mir.Syntax.{w8, w16};
+ghost use Rattle.words.specs.Bytes.{byteAt, halfwordAt, wordAt};
+ghost use Rattle.operand.specs.Operand.{extended};
+
+// The word that holds a signed byte.
+fn extend_byte(b: u8) -> u32
+    ensures { λ r. ⌜ r ≡ extended w8 b ⌝ }
+{
+    if b < 128 {
+        return b as u32;
+    }
+    (b as u32) + 0xFFFF_FF00
+}
+
+// The word that holds a signed halfword.
+fn extend_halfword(h: u16) -> u32
+    ensures { λ r. ⌜ r ≡ extended w16 h ⌝ }
+{
+    if h < 32768 {
+        return h as u32;
+    }
+    (h as u32) + 0xFFFF_0000
+}
+
+pub fn unsigned_byte(code: &[u8], at: usize) -> u32
+    ensures { λ r. ⌜ r ≡ byteAt (now (code .entry)) (at + 1) ⌝ }
+{
+    if code.len() <= at {
+        return 0;
+    }
+    words::byte_at(code, at + 1) as u32
+}
+
+// The second of two bytes.
+pub fn second_byte(code: &[u8], at: usize) -> u32
+    ensures { λ r. ⌜ r ≡ byteAt (now (code .entry)) (at + 2) ⌝ }
+{
+    if code.len() <= at {
+        return 0;
+    }
+    words::byte_at(code, at + 2) as u32
+}
+
+pub fn unsigned_halfword(code: &[u8], at: usize) -> u32
+    ensures { λ r. ⌜ r ≡ halfwordAt (now (code .entry)) (at + 1) ⌝ }
+{
+    if code.len() <= at {
+        return 0;
+    }
+    words::halfword_at(code, at + 1) as u32
+}
+
+pub fn signed_byte(code: &[u8], at: usize) -> u32
+    ensures { λ r. ⌜ r ≡ extended w8 (byteAt (now (code .entry)) (at + 1)) ⌝ }
+{
+    if code.len() <= at {
+        return 0;
+    }
+    extend_byte(words::byte_at(code, at + 1))
+}
+
+pub fn signed_halfword(code: &[u8], at: usize) -> u32
+    ensures { λ r. ⌜ r ≡ extended w16 (halfwordAt (now (code .entry)) (at + 1)) ⌝ }
+{
+    if code.len() <= at {
+        return 0;
+    }
+    extend_halfword(words::halfword_at(code, at + 1))
+}
+
+pub fn word(code: &[u8], at: usize) -> u32
+    ensures { λ r. ⌜ r ≡ wordAt (now (code .entry)) (at + 1) ⌝ }
+{
+    if code.len() <= at {
+        return 0;
+    }
+    words::word_at(code, at + 1)
+}

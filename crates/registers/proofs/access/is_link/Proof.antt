@@ -1,0 +1,65 @@
+-- `crate::access::is_link` meets its contract: the walk goes down the chain of frames until the address lies at or above one.
+use Prim.Native.Nat.{_-_}
+use mathlib.Core.Path.{sym}
+use native.Mathlib.Omega.{arith}
+use borrow.Author.Needs.{needs}
+use Rattle.registers.proofs.access.is_link.Statement.{statement}
+use Rattle.registers.proofs.Links.{Walked, walked-start, walked-above, walked-near, walked-next, walked-end}
+use Rattle.registers.proofs.access.is_link.Tie as tie
+
+abbrev Inv-loop : tie.InvT-loop
+Inv-loop m start fp calls a frame₀ counter₀ frame counter = Walked m start fp calls a frame counter
+
+abbrev μ-loop : tie.MeasureT-loop
+μ-loop m start fp calls a frame₀ counter₀ frame counter = calls - counter
+
+loop-holds : tie.Need-loop-holds Inv-loop μ-loop
+loop-holds c = walked-start (c .before .args .m .now) (c .before .args .start) (c .before .args .fp) (c .before .args .calls) (c .before .args .a) (c .before .pre)
+
+returns : tie.Need-returns Inv-loop μ-loop
+returns c = sym (walked-above (c .before .before .before .before .args .m .now) (c .before .before .before .before .args .start) (c .before .before .before .before .args .fp) (c .before .before .before .before .args .calls) (c .before .before .before .before .args .a) (c .before .before .loop .frame) (c .before .before .loop .counter) (c .before .before .loop .inv) (c .if1 .taken))
+
+sub-if2 : tie.Need-sub-if2 Inv-loop μ-loop
+sub-if2 c = search needs
+
+returns-2 : tie.Need-returns-2 Inv-loop μ-loop
+returns-2 c = sym (walked-near (c .before .before .before .before .before .args .m .now) (c .before .before .before .before .before .args .start) (c .before .before .before .before .before .args .fp) (c .before .before .before .before .before .args .calls) (c .before .before .before .before .before .args .a) (c .before .before .before .loop .frame) (c .before .before .before .loop .counter) (c .before .before .before .loop .inv) (c .before .before .loop-test .taken) (c .before .if1 .left) (omega arith))
+
+sub-word-at : tie.Need-sub-word-at Inv-loop μ-loop
+sub-word-at c = search needs
+
+word-at-requires : tie.Need-word-at-requires Inv-loop μ-loop
+word-at-requires c κs = search needs
+
+cast-frame : tie.Need-cast-frame Inv-loop μ-loop
+cast-frame c = search needs
+
+add-counter : tie.Need-add-counter Inv-loop μ-loop
+add-counter c = search needs
+
+loop-less : tie.Need-loop-less Inv-loop μ-loop
+loop-less c = search needs
+
+loop-again : tie.Need-loop-again Inv-loop μ-loop
+loop-again c = rw (c .word-at .ensures) (walked-next (c .before .before .before .before .before .before .args .m .now) (c .before .before .before .before .before .before .args .start) (c .before .before .before .before .before .before .args .fp) (c .before .before .before .before .before .before .args .calls) (c .before .before .before .before .before .before .args .a) (c .before .before .before .before .loop .frame) (c .before .before .before .before .loop .counter) (c .before .before .before .before .loop .inv) (c .before .before .before .loop-test .taken) (omega arith))
+
+returns-3 : tie.Need-returns-3 Inv-loop μ-loop
+returns-3 c = sym (walked-end (c .before .before .before .args .m .now) (c .before .before .before .args .start) (c .before .before .before .args .fp) (c .before .before .before .args .calls) (c .before .before .before .args .a) (c .before .loop .frame) (c .before .loop .counter) (c .before .loop .inv) (c .loop-test .left))
+
+pub is-link-spec : {M : Type 1} → statement M
+is-link-spec =
+    tie.close
+    (tie.spec
+    Inv-loop
+    μ-loop
+    loop-holds
+    returns
+    sub-if2
+    returns-2
+    sub-word-at
+    word-at-requires
+    cast-frame
+    add-counter
+    loop-less
+    loop-again
+    returns-3)

@@ -1,0 +1,2 @@
+-- Laws about the ranges of a SWITCH_X.
+pub mod Ranges

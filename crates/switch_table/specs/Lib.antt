@@ -1,0 +1,2 @@
+-- The tables behind SWITCH and SWITCH_X.
+pub mod Switch
