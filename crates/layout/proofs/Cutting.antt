@@ -14,7 +14,7 @@ use Rattle.opcode.specs.declared.Decoded.{Decoded}
 use Rattle.opcode.specs.declared.Decoded.the-variants.{Unserved, Past, At}
 use Rattle.opcode.specs.declared.instruction.Instruction.{Instruction}
 use Rattle.layout.specs.Cut.{Marks, updated, Cut, bad, cut, cutAt, cutFrom, thenCut, cutProcedures, cutOf, startsIn}
-use Rattle.layout.proofs.Bounds.{ends}
+use Rattle.opcode.proofs.Found.{ends}
 use Rattle.layout.proofs.Ordered.{firstOf, Rises, rises-first, rises-rest, Ordered, ordered}
 
 -- An instruction of procedure p stands at an offset of its region.

@@ -13,7 +13,7 @@ use Rattle.opcode.specs.declared.Decoded.{Decoded}
 use Rattle.opcode.specs.declared.Decoded.the-variants.{At}
 use Rattle.opcode.specs.declared.instruction.Instruction.{Instruction}
 use Rattle.layout.specs.Workspace.{Numbered, numbered, markAt, markFrom, markRegion, thenMark, markProcedures, markAll}
-use Rattle.layout.proofs.Bounds.{ends}
+use Rattle.opcode.proofs.Found.{ends}
 
 -- In a region, k instructions are marked and `at` is reached.
 pub record Region (code : List ℕ) (p : ℕ) (before w : List ℕ) (at k : ℕ) : Type 0 where

@@ -1,18 +1,15 @@
 -- What a state that fits keeps, fact by fact, and where decoding ends.
-use Prim.Native.Nat.{ℕ, _+_, _≤_, _<_}
+use Prim.Native.Nat.{ℕ, _≤_, _<_}
 use mathlib.Core.Path.{_≡_, refl}
-use mathlib.Core.Bool.{Bool, true, false, cond, _&&_}
+use mathlib.Core.Bool.{Bool, true, false, _&&_}
 use mathlib.Core.List.{List}
 use native.Mathlib.Omega.{arith}
-use lib.Dec.{eqb, leb, ltb}
+use lib.Dec.{eqb, leb}
 use lib.ListN.{length}
-use borrow.Author.Tests.{eqb-true, leb-true, ltb-true, eq-eqb, le-leb}
-use Rattle.words.specs.Bytes.{byteAt}
-use Rattle.opcode.specs.Decode.{decodeIn, decodeAt, instructionAt}
-use Rattle.opcode.specs.Length.{lengthIn}
-use Rattle.opcode.specs.declared.Decoded.the-variants.{Unserved, Past, At}
-use Rattle.opcode.specs.declared.instruction.Mode.{Mode}
-use Rattle.opcode.specs.declared.instruction.Mode.the-variants.{Normal, Double}
+use borrow.Author.Tests.{eqb-true, leb-true, eq-eqb, le-leb}
+use Rattle.opcode.specs.Decode.{decodeAt}
+use Rattle.opcode.proofs.Found.{ends}
+use Rattle.opcode.specs.declared.Decoded.the-variants.{At}
 use Rattle.opcode.specs.declared.instruction.Instruction.{Instruction}
 use Rattle.registers.specs.declared.Areas.{Areas}
 use Rattle.registers.specs.declared.Registers.{Registers}
@@ -87,26 +84,5 @@ module _ (A : Areas) (q : Registers) (m s : List ℕ) where
       ) (f .links)
 
 -- A decoded instruction begins and ends within the limit.
-picked : (i j : Instruction) (k n : ℕ) (t u : Bool) → cond t Unserved (cond u (At j k) Past) ≡ At i n → (u ≡ true) × (k ≡ n)
-picked i j k n true u e = let z : _≡_ {A = ℕ} 0 1 = cc in absurd (omega arith)
-picked i j k n false true e = (refl, cc)
-picked i j k n false false e = let z : _≡_ {A = ℕ} 0 1 = cc in absurd (omega arith)
-
-decoded-in : (m : Mode) (code : List ℕ) (limit at n : ℕ) (i : Instruction) → decodeIn m code limit at ≡ At i n → n ≤ limit
-unfolding decodeIn
-decoded-in m code limit at n i e =
-    let p : (leb (at + lengthIn m code at) limit ≡ true) × (at + lengthIn m code at ≡ n) =
-    picked i (instructionAt m code at) (at + lengthIn m code at) n (eqb (lengthIn m code at) 0) (leb (at + lengthIn m code at) limit) e in
-    omega (arith, leb-true (at + lengthIn m code at) limit (p .0), p .1)
-
 pub decoded-within : (code : List ℕ) (limit at n : ℕ) (i : Instruction) → decodeAt code limit at ≡ At i n → (at < limit) × (n ≤ limit)
-unfolding decodeAt
-decoded-within code limit at n i = by (ltb at limit) refl (eqb (byteAt code at) 0xF5) (ltb (at + 1) limit)
-  where
-    by : (t : Bool) → ltb at limit ≡ t → (u v : Bool)
-        → cond t (cond u (cond v (decodeIn Double code limit (at + 1)) Past) (decodeIn Normal code limit at)) Past ≡ At i n
-        → (at < limit) × (n ≤ limit)
-    by true l true true e = (ltb-true at limit l, decoded-in Double code limit (at + 1) n i e)
-    by true l true false e = let z : _≡_ {A = ℕ} 0 1 = cc in absurd (omega arith)
-    by true l false v e = (ltb-true at limit l, decoded-in Normal code limit at n i e)
-    by false l u v e = let z : _≡_ {A = ℕ} 0 1 = cc in absurd (omega arith)
+decoded-within code limit at n i e = let d = ends code limit at e in (omega arith, d .1)

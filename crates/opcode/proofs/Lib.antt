@@ -3,3 +3,4 @@ pub mod Rows
 pub mod Formats
 pub mod Short
 pub mod Present
+pub mod Found

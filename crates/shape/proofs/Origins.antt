@@ -3,18 +3,19 @@
 use mathlib.Core.Bool.{Bool, true, false, cond, false≢true, _&&_, _||_}
 use mathlib.Core.Path.{_≡_, refl, ap}
 use mathlib.Core.List.{List, [], _∷_}
-use Prim.Native.Nat.{ℕ, _+_, _/_, _<_, _≤_}
+use Prim.Native.Nat.{ℕ, _+_, _/_, _≤_}
 use native.Mathlib.Omega.{arith}
-use borrow.Author.Tests.{lt-ltb, le-leb, leb-true, eq-eqb, ne-eqb, eqb-true, eqb-false}
-use lib.Dec.{eqb, ltb, leb}
+use borrow.Author.Tests.{ne-eqb, eqb-true}
+use lib.Dec.{eqb, ltb}
 use Rattle.words.specs.Bytes.{byteAt}
 use Rattle.words.proofs.Tests.{both-true, either}
 use Rattle.operand.specs.Operand.{operand, operand2}
 use Rattle.opcode.specs.Table.{Row, row, unserved, allows, Entry, entry, find, rowOf}
 use Rattle.opcode.specs.Table.{shortTable, dataTable, operationTable, controlTable}
 use Rattle.opcode.specs.Length.{lengthOf, lengthIn}
-use Rattle.opcode.specs.Decode.{made, instructionAt, decodeIn, decodeAt}
-use Rattle.opcode.specs.declared.Decoded.the-variants.{Unserved, Past, At}
+use Rattle.opcode.specs.Decode.{made, instructionAt, decodeAt}
+use Rattle.opcode.proofs.Found.{Found, Origin, single, double, origin, decoded, unprefixed}
+use Rattle.opcode.specs.declared.Decoded.the-variants.{At}
 use Rattle.opcode.specs.declared.instruction.Mode.{Mode}
 use Rattle.opcode.specs.declared.instruction.Mode.the-variants.{Normal, Double}
 use Rattle.opcode.specs.declared.instruction.Instruction.{Instruction}
@@ -22,63 +23,6 @@ use Rattle.shape.specs.declared.Shape.{Shape}
 use Rattle.shape.specs.declared.Shape.the-variants.{Straight, Drop, Goto, Branch, Keep, Loop, Again, Select, Exit, Invoke, Begin, Return}
 use Rattle.shape.specs.declared.Table.{Table}
 use Rattle.shape.specs.Shape.{shapeOf}
-
--- What decoding finds at the code byte.
-record Found (m : Mode) (code : List ℕ) (limit at : ℕ) (i : Instruction) (next : ℕ) : Type 0 where
-  served : lengthIn m code at ≡ 0 → ⊥
-  same : instructionAt m code at ≡ i
-  ends : at + lengthIn m code at ≡ next
-  within : next ≤ limit
-
--- And at the first byte: the code byte itself, or DOUBLE before it.
-data Origin (code : List ℕ) (limit at : ℕ) (i : Instruction) (next : ℕ) : Type 0 where
-  single : (byteAt code at ≡ 0xF5 → ⊥) → Found Normal code limit at i next → Origin code limit at i next
-  double : byteAt code at ≡ 0xF5 → Found Double code limit (at + 1) i next → Origin code limit at i next
-
-module _ (code : List ℕ) (limit : ℕ) (i : Instruction) (next : ℕ) where
-  found : (m : Mode) (at : ℕ) → decodeIn m code limit at ≡ At i next → Found m code limit at i next
-  unfolding decodeIn
-  found m at = by (eqb (lengthIn m code at) 0) refl (leb (at + lengthIn m code at) limit) refl
-    where
-      by : (t : Bool) → eqb (lengthIn m code at) 0 ≡ t → (u : Bool) → leb (at + lengthIn m code at) limit ≡ u
-          → cond t Unserved (cond u (At (instructionAt m code at) (at + lengthIn m code at)) Past) ≡ At i next
-          → Found m code limit at i next
-      by true s u l e = let z : _≡_ {A = ℕ} 0 1 = cc in absurd (omega arith)
-      by false s true l e =
-          let p : at + lengthIn m code at ≡ next = cc in
-          record {
-            served = eqb-false (lengthIn m code at) 0 s;
-            same = cc;
-            ends = p;
-            within = omega (arith, leb-true (at + lengthIn m code at) limit l);
-          }
-      by false s false l e = let z : _≡_ {A = ℕ} 0 1 = cc in absurd (omega arith)
-
-  decoded-in : (m : Mode) (at : ℕ) → Found m code limit at i next → decodeIn m code limit at ≡ At i next
-  unfolding decodeIn
-  decoded-in m at r =
-      rw (ne-eqb (lengthIn m code at) 0 (r .served), le-leb (at + lengthIn m code at) limit (omega arith), r .same, r .ends)
-
-  origin : (at : ℕ) → decodeAt code limit at ≡ At i next → Origin code limit at i next
-  unfolding decodeAt
-  origin at = by (ltb at limit) (eqb (byteAt code at) 0xF5) refl (ltb (at + 1) limit)
-    where
-      by : (t u : Bool) → eqb (byteAt code at) 0xF5 ≡ u → (v : Bool)
-          → cond t (cond u (cond v (decodeIn Double code limit (at + 1)) Past) (decodeIn Normal code limit at)) Past ≡ At i next
-          → Origin code limit at i next
-      by true true b true e = double (eqb-true (byteAt code at) 0xF5 b) (found Double (at + 1) e)
-      by true true b false e = let z : _≡_ {A = ℕ} 0 1 = cc in absurd (omega arith)
-      by true false b v e = single (eqb-false (byteAt code at) 0xF5 b) (found Normal at e)
-      by false u b v e = let z : _≡_ {A = ℕ} 0 1 = cc in absurd (omega arith)
-
-  decoded : (at : ℕ) → Origin code limit at i next → decodeAt code limit at ≡ At i next
-  unfolding decodeAt
-  decoded at (single f r) =
-      let h : at < limit = omega (arith, r .served) in
-      rw (lt-ltb at limit h, ne-eqb (byteAt code at) 0xF5 f, decoded-in Normal at r)
-  decoded at (double f r) =
-      let h : at + 1 < limit = omega (arith, r .served) in
-      rw (lt-ltb at limit (omega arith), eq-eqb (byteAt code at) 0xF5 f, lt-ltb (at + 1) limit h, decoded-in Double (at + 1) r)
 
 -- Whether the first byte may be the one given, by the shape.
 abbrev begins : Shape → ℕ → Bool
@@ -140,12 +84,6 @@ module _ (m : Mode) (code : List ℕ) (at : ℕ) where
       by true n t s e = e
       by false n t s e = absurd (s refl)
 
-unprefixed :
-    {code : List ℕ} {limit at next : ℕ} {i : Instruction} →
-    Origin code limit at i next → (byteAt code at ≡ 0xF5 → ⊥) → Found Normal code limit at i next
-unprefixed (single f r) n = r
-unprefixed (double f r) n = absurd (n f)
-
 module _ (code : List ℕ) (limit at next : ℕ) (i : Instruction) (e : decodeAt code limit at ≡ At i next) where
   shape-begins : begins (shapeOf i) (byteAt code at) ≡ true
   unfolding shapeOf lengthIn instructionAt
@@ -181,14 +119,6 @@ module _ (code : List ℕ) (limit at next : ℕ) (i : Instruction) (e : decodeAt
       let f : byteAt code at ≡ 0xE8 = eqb-true (byteAt code at) 0xE8 (rw s at shape-begins) in
       let r = unprefixed (origin code limit i next at e) (λ n. omega arith) in
       cc (rw f at (ap shapeOf (r .same)))
-
-  -- An instruction ends behind its first byte and within the limit.
-  pub decoded-after : (at < next) × (next ≤ limit)
-  decoded-after = by (origin code limit i next at e)
-    where
-      by : Origin code limit at i next → (at < next) × (next ≤ limit)
-      by (single f r) = (omega (arith, r .served), r .within)
-      by (double f r) = (omega (arith, r .served), r .within)
 
   -- A wider limit changes nothing.
   pub decoded-wider : (more : ℕ) → limit ≤ more → decodeAt code more at ≡ At i next
