@@ -26,10 +26,10 @@ use Rattle.effect.specs.Data.{loadFrom, addressOf, storeTo, inverted, allocated
 use Rattle.registers.specs.Memory.{live, protects}
 use Rattle.control.specs.Control.{jumps, jumpsIfFalse, jumpsKeeping, iterates, nextSum, repeats, switches, searches, calls, enters, returns}
 use Rattle.execute.specs.Execute.{execute}
-use Rattle.machine.specs.Fits.{sizesTaken, headerKept, registersFit, fits}
-use Rattle.machine.specs.Load.{constantWords, initialData, loadedMemory, startOf, loadNumber, loadOf}
+use Rattle.state.specs.Fits.{sizesTaken, headerKept, registersFit, fits}
+use Rattle.load.specs.Load.{constantWords, initialData, loadedMemory, startOf, loadNumber, loadOf}
 use Rattle.machine.specs.Run.{runNumber, runOf}
-use Rattle.machine.specs.Step.{settled, performed, stepOf}
+use Rattle.step.specs.Step.{settled, performed, stepOf}
 use Rattle.conformance.specs.Cases.{recordOf, checked, played, table, Stands}
 
 pub stands : Stands table

@@ -5,11 +5,11 @@ use mathlib.Core.Path.{_≡_}
 use Prim.Native.Nat.{ℕ, _+_, _*_, _/_, _%_}
 use lib.ListN.{length, take, drop, replicate}
 use Rattle.verifier.specs.Check.{checkOf}
-use Rattle.machine.specs.declared.load.Loaded.{Loaded}
-use Rattle.machine.specs.declared.load.Loaded.the-variants.{Refused, Ready}
+use Rattle.load.specs.declared.Loaded.{Loaded}
+use Rattle.load.specs.declared.Loaded.the-variants.{Refused, Ready}
 use Rattle.machine.specs.declared.run.Answer.{Answer}
 use Rattle.machine.specs.declared.run.Answer.the-variants.{Refused as NotRun, Ended}
-use Rattle.machine.specs.Load.{loadOf}
+use Rattle.load.specs.Load.{loadOf}
 use Rattle.machine.specs.Run.{endNumber, runOf}
 
 pub record Case : Type 0 where

@@ -9,16 +9,16 @@ use lib.ListN.{length}
 use Rattle.header.specs.Header.{codeOf}
 use Rattle.registers.specs.declared.Registers.{Registers}
 use Rattle.registers.specs.Program.{areasOf, programOf}
-use Rattle.machine.specs.declared.load.Loaded.the-variants.{Refused, Ready}
+use Rattle.load.specs.declared.Loaded.the-variants.{Refused, Ready}
 use Rattle.machine.specs.declared.run.Answer.{Answer}
 use Rattle.machine.specs.declared.run.Answer.the-variants.{Refused as NotRun, Ended}
 use Rattle.machine.specs.declared.run.Ended.{Ended as Ending}
 use Rattle.machine.specs.declared.run.End.the-variants.{Finished as finish, Spent, Trapped as stop}
-use Rattle.machine.specs.declared.step.Machine.{Machine}
-use Rattle.machine.specs.declared.step.Outcome.{Outcome}
-use Rattle.machine.specs.declared.step.Outcome.the-variants.{Went, Finished, Trapped}
-use Rattle.machine.specs.Step.{After, stepOf}
-use Rattle.machine.specs.Load.{loading, loadOf, loadNumber, loadedMemory, startOf}
+use Rattle.step.specs.declared.Machine.{Machine}
+use Rattle.step.specs.declared.Outcome.{Outcome}
+use Rattle.step.specs.declared.Outcome.the-variants.{Went, Finished, Trapped}
+use Rattle.step.specs.Step.{After, stepOf}
+use Rattle.load.specs.Load.{loading, loadOf, loadNumber, loadedMemory, startOf}
 use Rattle.machine.specs.Run.{Result, ran, endedAt, machine, proceed, runFrom, runNumber, runOf}
 use Rattle.guarantees.specs.Guarantees.{RefusedLoad, RefusedRun, CountWithinBudget}
 

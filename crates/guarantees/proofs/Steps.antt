@@ -20,10 +20,10 @@ use Rattle.registers.specs.Program.{program}
 use Rattle.effect.specs.Data.{pushes}
 use Rattle.execute.specs.Depth.{top}
 use Rattle.execute.specs.Execute.{execute}
-use Rattle.machine.specs.declared.step.Machine.{Machine}
-use Rattle.machine.specs.declared.step.Outcome.the-variants.{Trapped}
-use Rattle.machine.specs.Step.{After, after, trapping, pushed, settled, performed, stepOf}
-use Rattle.machine.proofs.Fitting.{fitting, fitted}
+use Rattle.step.specs.declared.Machine.{Machine}
+use Rattle.step.specs.declared.Outcome.the-variants.{Trapped}
+use Rattle.step.specs.Step.{After, after, trapping, pushed, settled, performed, stepOf}
+use Rattle.state.proofs.Fitting.{fitting, fitted}
 use Rattle.machine.proofs.Preserved.{step-holds}
 use Rattle.guarantees.specs.Guarantees.{TrappedStep, WritesBelowHeight, StaysFit, KeepsProtected}
 

@@ -6,14 +6,14 @@ use Prim.Native.Nat.{ℕ, _≤_}
 use lib.ListN.{getD}
 use Rattle.registers.specs.declared.Registers.{Registers}
 use Rattle.registers.specs.Memory.{protects}
-use Rattle.machine.specs.declared.load.Loaded.the-variants.{Refused}
+use Rattle.load.specs.declared.Loaded.the-variants.{Refused}
 use Rattle.machine.specs.declared.run.Answer.the-variants.{Refused as NotRun, Ended}
 use Rattle.machine.specs.declared.run.Ended.{Ended as Ending}
-use Rattle.machine.specs.declared.step.Machine.{Machine}
-use Rattle.machine.specs.declared.step.Outcome.the-variants.{Trapped}
-use Rattle.machine.specs.Step.{after, trapping, stepOf}
-use Rattle.machine.specs.Fits.{fits}
-use Rattle.machine.specs.Load.{loadOf}
+use Rattle.step.specs.declared.Machine.{Machine}
+use Rattle.step.specs.declared.Outcome.the-variants.{Trapped}
+use Rattle.step.specs.Step.{after, trapping, stepOf}
+use Rattle.state.specs.Fits.{fits}
+use Rattle.load.specs.Load.{loadOf}
 use Rattle.machine.specs.Run.{runOf}
 
 -- 01: "Refused loads and runs change nothing."

@@ -6,12 +6,12 @@ use lib.Dec.{eqb}
 use lib.ListN.{length, getD}
 use Rattle.record.specs.Number.{recordNumber}
 use Rattle.registers.specs.declared.Registers.{Registers}
-use Rattle.machine.specs.declared.load.Loaded.{Loaded}
-use Rattle.machine.specs.declared.load.Loaded.the-variants.{Refused, Ready}
+use Rattle.load.specs.declared.Loaded.{Loaded}
+use Rattle.load.specs.declared.Loaded.the-variants.{Refused, Ready}
 use Rattle.machine.specs.declared.run.Answer.{Answer}
 use Rattle.machine.specs.declared.run.Answer.the-variants.{Refused as NotRun, Ended}
 use Rattle.machine.specs.declared.run.Ended.{Ended as Ending}
-use Rattle.machine.specs.Load.{loadOf}
+use Rattle.load.specs.Load.{loadOf}
 use Rattle.machine.specs.Run.{endNumber, runOf}
 
 -- Registers as six words.

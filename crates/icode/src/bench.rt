@@ -2,7 +2,7 @@
 ghost use mathlib.Core.Path.{_≡_};
 ghost use lib.ListN.{length};
 ghost use Rattle.icode.specs.Bench.{stateWords, registersIn, outcomeWords, loadedAs, benchLoad, ranAs, benchRun};
-use machine::load::Loaded;
+use load::Loaded;
 use machine::run::Answer;
 use machine::run::Ended;
 use registers::Registers;
@@ -60,7 +60,7 @@ pub extern "C" fn icode_bench_load(
     if state.len() != 6 {
         return 8;
     }
-    let loaded = machine::load::load(bytes, parameters, memory, stack);
+    let loaded = load::load(bytes, parameters, memory, stack);
     match loaded {
         Loaded::Refused(n) => n,
         Loaded::Ready(q) => {

@@ -24,8 +24,8 @@ use Rattle.effect.specs.Data.{protectsAny, storable, stored}
 use Rattle.registers.specs.Words.{moved, sized, called, returned}
 use Rattle.registers.proofs.Links.{chain-lower, chain-rest}
 use Rattle.registers.proofs.Protected.{free-above}
-use Rattle.machine.specs.Step.{written}
-use Rattle.machine.proofs.Fitting.{Fitting}
+use Rattle.step.specs.Step.{written}
+use Rattle.state.proofs.Fitting.{Fitting}
 use Rattle.machine.proofs.Stored.{apart, Intact, intact-none, intact-then, stored-above, sets-under}
 use Rattle.machine.proofs.Stored.{stored as stored-one}
 

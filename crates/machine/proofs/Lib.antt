@@ -1,10 +1,5 @@
--- Laws that the proofs of this crate share.
-pub mod Sets
-pub mod Loading
-pub mod Chains
-pub mod Fitting
+-- What a step keeps of a state that fits, and the run step by step.
 pub mod Stored
 pub mod Keeping
 pub mod Preserved
 pub mod Running
-pub mod Carrying

@@ -34,10 +34,10 @@ use Rattle.registers.specs.Words.{moved, called}
 use Rattle.control.specs.Control.{jumped, jumps, jumpsIfFalse, jumpsKeeping, beyond, iterates, nextSum, wentRound, summed, repeats, switches, searches, calls, enters, returns}
 use Rattle.execute.specs.Depth.{top}
 use Rattle.execute.specs.Execute.{execute}
-use Rattle.machine.specs.Step.{After, after, written, pushed, settled, performed, stepOf}
-use Rattle.machine.specs.declared.step.Machine.{Machine}
-use Rattle.machine.specs.declared.step.Outcome.{Outcome}
-use Rattle.machine.proofs.Fitting.{Fitting}
+use Rattle.step.specs.Step.{After, after, written, pushed, settled, performed, stepOf}
+use Rattle.step.specs.declared.Machine.{Machine}
+use Rattle.step.specs.declared.Outcome.{Outcome}
+use Rattle.state.proofs.Fitting.{Fitting}
 use Rattle.machine.proofs.Keeping.{Steady, Keeps, keeps-cond, sized-keeps, moved-keeps, stored-keeps, storable-keeps, mode-keeps, entered-keeps, called-keeps, returned-keeps}
 
 module _ (code : List ℕ) (A : Areas) (q : Registers) (m s : List ℕ) (F : Fitting A q m s) where

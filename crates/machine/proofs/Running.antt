@@ -15,16 +15,16 @@ use Rattle.registers.specs.declared.Registers.{Registers}
 use Rattle.registers.specs.Program.{areasIn, areasOf}
 use Rattle.record.proofs.Sound.{sound-code}
 use Rattle.machine.specs.declared.run.Answer.the-variants.{Refused}
-use Rattle.machine.specs.declared.step.Machine.{Machine}
-use Rattle.machine.specs.declared.step.Stepped.{Stepped}
-use Rattle.machine.specs.declared.step.Outcome.the-variants.{Went, Finished, Trapped}
+use Rattle.step.specs.declared.Machine.{Machine}
+use Rattle.step.specs.declared.Stepped.{Stepped}
+use Rattle.step.specs.declared.Outcome.the-variants.{Went, Finished, Trapped}
 use Rattle.machine.specs.declared.run.End.the-variants.{Finished as finish, Spent, Trapped as stop}
-use Rattle.machine.specs.Step.{after, stepOf}
-use Rattle.machine.specs.Fits.{fits}
+use Rattle.step.specs.Step.{after, stepOf}
+use Rattle.state.specs.Fits.{fits}
 use Rattle.machine.specs.Run.{ran, result, machine, proceed, runFrom, runNumber, runOf}
-use Rattle.machine.proofs.Fitting.{fitting, fitted}
+use Rattle.state.proofs.Fitting.{fitting, fitted}
 use Rattle.machine.proofs.Preserved.{Holds, step-holds}
-use Rattle.machine.proofs.Loading.{sound-header, refused-number}
+use Rattle.load.proofs.Loading.{sound-header, refused-number}
 
 pub record Running (code : List ℕ) (budget : ℕ) (M₀ : Machine) (m₀ s₀ : List ℕ) (M : Machine) (m s : List ℕ) (steps : ℕ) : Type 0 where
   pub count : steps ≤ budget

@@ -1,6 +1,2 @@
--- A step, the states that fit, load, and run.
-pub mod Step
-pub mod Carry
-pub mod Fits
-pub mod Load
+-- Run.
 pub mod Run

@@ -7,9 +7,9 @@ use lib.Dec.{eqb}
 use Rattle.words.specs.Refusal.{_when_}
 use Rattle.record.specs.Number.{afterRecord}
 use Rattle.registers.specs.declared.Registers.{Registers}
-use Rattle.machine.specs.declared.step.Machine.{Machine}
-use Rattle.machine.specs.declared.step.Outcome.{Outcome}
-use Rattle.machine.specs.declared.step.Outcome.the-variants.{Went, Finished, Trapped}
+use Rattle.step.specs.declared.Machine.{Machine}
+use Rattle.step.specs.declared.Outcome.{Outcome}
+use Rattle.step.specs.declared.Outcome.the-variants.{Went, Finished, Trapped}
 use Rattle.machine.specs.declared.run.End.{End}
 use Rattle.machine.specs.declared.run.End.the-variants.{Finished as finish, Spent, Trapped as stop}
 use Rattle.machine.specs.declared.run.Ended.{Ended as Ending}
@@ -18,8 +18,8 @@ use Rattle.machine.specs.declared.run.Answer.the-variants.{Refused, Ende
 use Rattle.header.specs.Header.{codeOf}
 use Rattle.registers.specs.declared.Areas.{Areas}
 use Rattle.registers.specs.Program.{areasOf}
-use Rattle.machine.specs.Step.{stepOf}
-use Rattle.machine.specs.Fits.{fits}
+use Rattle.step.specs.Step.{stepOf}
+use Rattle.state.specs.Fits.{fits}
 
 -- 01: "End is 0 finished, 1 spent, or the trap."
 abbrev pub endNumber : End → ℕ

@@ -1,5 +1,2 @@
-// The machine: step, load and run over lent memory and stack.
-pub mod fits;
-pub mod load;
+// The machine's run over lent memory and stack.
 pub mod run;
-pub mod step;

@@ -3,14 +3,12 @@ ghost use mathlib.Core.Path.{_≡_};
 ghost use mathlib.Core.Bool.{true};
 ghost use Prim.Native.Nat.{_≤_};
 ghost use lib.ListN.{length};
-ghost use Rattle.machine.specs.Fits.{fits};
+ghost use Rattle.state.specs.Fits.{fits};
 ghost use Rattle.machine.specs.Run.{ran, ended, endedAt, runFrom, runOf, endNumber};
-use crate::fits;
-use crate::load;
-use crate::step::Machine;
-use crate::step::Outcome;
 use record::Reading;
 use registers::Registers;
+use step::Machine;
+use step::Outcome;
 
 // How a run ended.
 pub enum End {
@@ -42,16 +40,14 @@ pub fn end_number(e: End) -> u32
     }
 }
 
-impl Machine {
-    fn ended(self, ending: End, steps: u32) -> Ended
-        ensures { λ e. ⌜ e ≡ endedAt ending steps self ⌝ }
-    {
-        let registers = self.registers;
-        Ended {
-            ending,
-            steps,
-            registers,
-        }
+fn ended_at(machine: Machine, ending: End, steps: u32) -> Ended
+    ensures { λ e. ⌜ e ≡ endedAt ending steps machine ⌝ }
+{
+    let registers = machine.registers;
+    Ended {
+        ending,
+        steps,
+        registers,
     }
 }
 
@@ -78,14 +74,14 @@ fn run_steps(
                 steps += 1;
             }
             Outcome::Finished => {
-                return machine.ended(End::Finished, steps + 1);
+                return ended_at(machine, End::Finished, steps + 1);
             }
             Outcome::Trapped(n) => {
-                return machine.ended(End::Trapped(n), steps);
+                return ended_at(machine, End::Trapped(n), steps);
             }
         }
     }
-    machine.ended(End::Spent, steps)
+    ended_at(machine, End::Spent, steps)
 }
 
 // Numbers 1 to 7 and 24, or the run from a state; refused, it changes nothing.
@@ -97,7 +93,7 @@ pub fn run(r: &[u8], budget: u32, q: Registers, memory: &mut [u32], stack: &mut 
         Reading::Refused(number) => Answer::Refused(number),
         Reading::Sound(h) => {
             let areas = load::areas_in(h);
-            if !fits::state_fits(areas, q, memory, stack) {
+            if !state::state_fits(areas, q, memory, stack) {
                 return Answer::Refused(24);
             }
             let start = Machine {

@@ -10,9 +10,9 @@ use lib.Dec.{leb, eqb·suc-zero}
 use lib.ListN.{length, take, length-replicate}
 use Rattle.record.specs.Number.{recordNumber}
 use Rattle.registers.specs.Program.{areasOf, framesStart}
-use Rattle.machine.specs.Fits.{sizesTaken}
-use Rattle.machine.specs.Load.{loadNumber, loadOf}
-use Rattle.machine.specs.declared.load.Loaded.the-variants.{Refused as NotLoaded}
+use Rattle.state.specs.Fits.{sizesTaken}
+use Rattle.load.specs.Load.{loadNumber, loadOf}
+use Rattle.load.specs.declared.Loaded.the-variants.{Refused as NotLoaded}
 use Rattle.verifier.specs.Check.{checkOf}
 use Rattle.verifier.proofs.Accepting.{Answers, early, late, answers}
 use Rattle.safety.specs.Joined.{Joined, joinedOf}

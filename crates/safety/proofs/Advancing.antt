@@ -17,10 +17,10 @@ use Rattle.registers.specs.declared.Registers.{Registers}
 use Rattle.registers.specs.Program.{framesStart}
 use Rattle.stackmap.specs.Ways.{Module, ways}
 use Rattle.stackmap.specs.StackMap.{stepped}
-use Rattle.machine.specs.declared.step.Outcome.{Outcome}
-use Rattle.machine.specs.declared.step.Outcome.the-variants.{Went}
-use Rattle.machine.specs.Step.{After, performed, stepOf}
-use Rattle.machine.proofs.Fitting.{Fitting, fitting, fitted}
+use Rattle.step.specs.declared.Outcome.{Outcome}
+use Rattle.step.specs.declared.Outcome.the-variants.{Went}
+use Rattle.step.specs.Step.{After, performed, stepOf}
+use Rattle.state.proofs.Fitting.{Fitting, fitting, fitted}
 use Rattle.machine.proofs.Preserved.{step-holds}
 use Rattle.safety.specs.Active.{running, shareOf, Configuration, callsAfter, stepOn, advance}
 use Rattle.safety.specs.Demand3.{SameFrom, Unread}

@@ -11,8 +11,8 @@ use Rattle.registers.specs.Memory.{read, isLink, protects}
 use Rattle.registers.specs.Program.{constantsStart, framesStart}
 use Rattle.registers.proofs.Protected.{constant}
 use Rattle.stackmap.specs.Ways.{Module}
-use Rattle.machine.specs.Fits.{fits}
-use Rattle.machine.proofs.Fitting.{fitting}
+use Rattle.state.specs.Fits.{fits}
+use Rattle.state.proofs.Fitting.{fitting}
 use Rattle.machine.proofs.Preserved.{step-holds}
 use Rattle.safety.specs.Active.{Configuration, stepOn}
 use Rattle.safety.proofs.Parts.{registersOf}

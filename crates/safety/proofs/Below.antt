@@ -19,9 +19,9 @@ use Rattle.registers.specs.declared.Registers.{Registers}
 use Rattle.registers.specs.Program.{program}
 use Rattle.effect.specs.Data.{pushes}
 use Rattle.execute.specs.Depth.{top}
-use Rattle.machine.specs.declared.step.Machine.{Machine}
-use Rattle.machine.specs.declared.step.Stepped.{Stepped}
-use Rattle.machine.specs.Step.{After, after, pushed, settled, performed, stepOf}
+use Rattle.step.specs.declared.Machine.{Machine}
+use Rattle.step.specs.declared.Stepped.{Stepped}
+use Rattle.step.specs.Step.{After, after, pushed, settled, performed, stepOf}
 use Rattle.machine.proofs.Stored.{sets-under}
 use Rattle.safety.specs.Active.{shareOf}
 use Rattle.safety.specs.Demand3.{SameFrom}

@@ -21,12 +21,12 @@ use Rattle.stackmap.specs.Ways.{Module}
 use Rattle.verifier.specs.Exact.{subject}
 use Rattle.verifier.proofs.Exactly.{accepts-only}
 use Rattle.machine.specs.declared.run.End.the-variants.{Finished as finish, Spent, Trapped as stop}
-use Rattle.machine.specs.declared.step.Machine.{Machine}
-use Rattle.machine.specs.declared.step.Outcome.{Outcome}
-use Rattle.machine.specs.declared.step.Outcome.the-variants.{Went, Finished, Trapped}
-use Rattle.machine.specs.Load.{loadOf}
+use Rattle.step.specs.declared.Machine.{Machine}
+use Rattle.step.specs.declared.Outcome.{Outcome}
+use Rattle.step.specs.declared.Outcome.the-variants.{Went, Finished, Trapped}
+use Rattle.load.specs.Load.{loadOf}
 use Rattle.machine.specs.Run.{proceed, runFrom, runNumber, runOf}
-use Rattle.machine.specs.Step.{After, after, settled, performed, stepOf}
+use Rattle.step.specs.Step.{After, after, settled, performed, stepOf}
 use Rattle.safety.specs.Active.{Configuration, stepOn, advance, Visits, at-first, one-more}
 use Rattle.safety.specs.Demand3.{Proper, finished, spent, data-trap, loadedConfiguration, Ends, Claim}
 use Rattle.safety.proofs.Parts.{Inv, DataTrap, data-trapped, Steps}

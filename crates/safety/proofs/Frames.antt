@@ -24,9 +24,9 @@ use Rattle.effect.specs.Data.{pushes}
 use Rattle.registers.proofs.Links.{link-near}
 use Rattle.execute.specs.Depth.{top}
 use Rattle.stackmap.specs.Ways.{Module}
-use Rattle.machine.specs.declared.step.Machine.{Machine}
-use Rattle.machine.specs.declared.step.Outcome.the-variants.{Went, Trapped}
-use Rattle.machine.specs.Step.{After, written, settled, performed, stepOf}
+use Rattle.step.specs.declared.Machine.{Machine}
+use Rattle.step.specs.declared.Outcome.the-variants.{Went, Trapped}
+use Rattle.step.specs.Step.{After, written, settled, performed, stepOf}
 use Rattle.safety.specs.Active.{Call, without, callsAfter, stepOn}
 use Rattle.safety.proofs.AsLoaded.{or-true, links-kept}
 use Rattle.safety.proofs.Effects.{Does, traps, finishes, goes, Stays, Begins, Leaves, Framing, execute-does}

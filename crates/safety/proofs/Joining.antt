@@ -14,13 +14,13 @@ use Rattle.verifier.proofs.Accepting.{check-range}
 use Rattle.verifier.specs.Check.{Checking, checking, checkOf}
 use Rattle.words.specs.Bytes.{Bytes}
 use Rattle.registers.specs.declared.Registers.{Registers}
-use Rattle.machine.specs.declared.load.Loaded.{Loaded}
-use Rattle.machine.specs.declared.load.Loaded.the-variants.{Refused as NotLoaded, Ready}
+use Rattle.load.specs.declared.Loaded.{Loaded}
+use Rattle.load.specs.declared.Loaded.the-variants.{Refused as NotLoaded, Ready}
 use Rattle.machine.specs.declared.run.Answer.{Answer}
 use Rattle.machine.specs.declared.run.Answer.the-variants.{Refused, Ended}
 use Rattle.machine.specs.declared.run.Ended.{Ended as Ending}
-use Rattle.machine.specs.Fits.{sizesTaken}
-use Rattle.machine.specs.Load.{Loading, loading, startOf, loadNumber, loadOf}
+use Rattle.state.specs.Fits.{sizesTaken}
+use Rattle.load.specs.Load.{Loading, loading, startOf, loadNumber, loadOf}
 use Rattle.machine.specs.Run.{Result, ran, runOf}
 use Rattle.safety.specs.Joined.{Joined, joinedOf, ProperAnswer, not-run, well-ended, RefusedJoined}
 use Rattle.safety.proofs.Ending.{claim}

@@ -14,11 +14,11 @@ use Rattle.entries.specs.Entries.{entryCount}
 use Rattle.record.specs.Number.{recordNumber}
 use Rattle.registers.specs.declared.Registers.{Registers}
 use Rattle.registers.specs.Program.{areasOf, programOf, framesStart}
-use Rattle.machine.specs.declared.load.Loaded.the-variants.{Refused, Ready}
-use Rattle.machine.specs.Fits.{sizesTaken}
-use Rattle.machine.specs.Load.{loading, loadedMemory, startOf, loadNumber, loadOf}
-use Rattle.machine.proofs.Fitting.{Fitting, fitted}
-use Rattle.machine.proofs.Loading.{taken-sizes, loaded-word, loaded-length, word-low, word-third}
+use Rattle.load.specs.declared.Loaded.the-variants.{Refused, Ready}
+use Rattle.state.specs.Fits.{sizesTaken}
+use Rattle.load.specs.Load.{loading, loadedMemory, startOf, loadNumber, loadOf}
+use Rattle.state.proofs.Fitting.{Fitting, fitted}
+use Rattle.load.proofs.Loading.{taken-sizes, loaded-word, loaded-length, word-low, word-third}
 use Rattle.stackmap.specs.Ways.{Module}
 use Rattle.stackmap.specs.StackMap.{entered}
 use Rattle.safety.specs.Demand3.{loadedConfiguration, holds-none}

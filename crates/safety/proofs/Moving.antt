@@ -15,7 +15,7 @@ use Rattle.effect.specs.Data.{pushes}
 use Rattle.stackmap.specs.Slots.{Slot, label, pushWords, popWords, dropSlots}
 use Rattle.stackmap.specs.Ways.{Way, _gets_, after, straight, labelWord}
 use Rattle.stackmap.specs.StackMap.{Among, here}
-use Rattle.machine.specs.Step.{pushed}
+use Rattle.step.specs.Step.{pushed}
 use Rattle.safety.specs.Active.{shareOf, Configuration}
 use Rattle.safety.specs.Demand3.{Holds}
 use Rattle.safety.proofs.Parts.{registersOf, Within}

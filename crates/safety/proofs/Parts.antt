@@ -20,9 +20,9 @@ use Rattle.registers.specs.declared.Registers.{Registers}
 use Rattle.stackmap.specs.Slots.{Slot, pushWords}
 use Rattle.stackmap.specs.Ways.{Module, Way, resultsOf, ways}
 use Rattle.stackmap.specs.StackMap.{Reached, Among}
-use Rattle.machine.specs.declared.step.Outcome.{Outcome}
-use Rattle.machine.specs.declared.step.Outcome.the-variants.{Went, Finished, Trapped}
-use Rattle.machine.specs.Fits.{fits}
+use Rattle.step.specs.declared.Outcome.{Outcome}
+use Rattle.step.specs.declared.Outcome.the-variants.{Went, Finished, Trapped}
+use Rattle.state.specs.Fits.{fits}
 use Rattle.safety.specs.Active.{Call, running, shareOf, Configuration, stepOn, advance}
 use Rattle.safety.specs.Demand3.{Holds, SameFrom, Unread}
 

@@ -28,9 +28,9 @@ use Rattle.registers.specs.Words.{raised}
 use Rattle.execute.specs.Depth.{top}
 use Rattle.execute.specs.Execute.{execute}
 use Rattle.stackmap.specs.Ways.{Module, Way}
-use Rattle.machine.specs.declared.step.Outcome.{Outcome}
-use Rattle.machine.specs.declared.step.Outcome.the-variants.{Went, Finished, Trapped}
-use Rattle.machine.specs.Step.{After, pushed, settled, performed, stepOf}
+use Rattle.step.specs.declared.Outcome.{Outcome}
+use Rattle.step.specs.declared.Outcome.the-variants.{Went, Finished, Trapped}
+use Rattle.step.specs.Step.{After, pushed, settled, performed, stepOf}
 use Rattle.safety.specs.Active.{Configuration, stepOn}
 use Rattle.safety.proofs.Parts.{registersOf, Doing, DataTrap, Moves, Steps}
 use Rattle.safety.proofs.Traps.{data-number}

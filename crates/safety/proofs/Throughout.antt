@@ -12,8 +12,8 @@ use Rattle.verifier.specs.Check.{checkOf}
 use Rattle.words.specs.Bytes.{Bytes}
 use Rattle.verifier.specs.Exact.{Ruled, subject}
 use Rattle.verifier.proofs.Exactly.{shows-reached}
-use Rattle.machine.specs.declared.load.Loaded.the-variants.{Ready}
-use Rattle.machine.specs.Load.{loadOf}
+use Rattle.load.specs.declared.Loaded.the-variants.{Ready}
+use Rattle.load.specs.Load.{loadOf}
 use Rattle.safety.specs.Active.{Call, running, Configuration, Visits, at-first, one-more}
 use Rattle.safety.specs.Demand3.{Linked, no-link, a-link, Safe, loadedConfiguration}
 use Rattle.safety.proofs.Parts.{registersOf, Framed, no-frame, a-frame, Inv}

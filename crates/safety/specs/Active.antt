@@ -12,9 +12,9 @@ use Rattle.shape.specs.declared.Shape.{Shape}
 use Rattle.shape.specs.declared.Shape.the-variants.{Straight, Drop, Goto, Branch, Keep, Loop, Again, Select, Exit, Invoke, Begin, Return}
 use Rattle.registers.specs.declared.Registers.{Registers}
 use Rattle.stackmap.specs.Ways.{Module, parametersOf}
-use Rattle.machine.specs.declared.step.Machine.{Machine}
-use Rattle.machine.specs.declared.step.Outcome.the-variants.{Went}
-use Rattle.machine.specs.Step.{After, stepOf}
+use Rattle.step.specs.declared.Machine.{Machine}
+use Rattle.step.specs.declared.Outcome.the-variants.{Went}
+use Rattle.step.specs.Step.{After, stepOf}
 
 -- An active call: its procedure; where its share of the stack begins, "at its call, just under its parameter words"; where its two
 -- link words lie, and what the call wrote there: the caller's FP and the return place.

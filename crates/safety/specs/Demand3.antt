@@ -14,10 +14,10 @@ use Rattle.stackmap.specs.StackMap.{Reached}
 use Rattle.verifier.specs.Check.{checkOf}
 use Rattle.words.specs.Bytes.{Bytes}
 use Rattle.verifier.specs.Exact.{Ruled, subject, Shows}
-use Rattle.machine.specs.declared.load.Loaded.the-variants.{Ready}
+use Rattle.load.specs.declared.Loaded.the-variants.{Ready}
 use Rattle.machine.specs.declared.run.End.{End}
 use Rattle.machine.specs.declared.run.End.the-variants.{Finished, Spent, Trapped}
-use Rattle.machine.specs.Load.{loadOf}
+use Rattle.load.specs.Load.{loadOf}
 use Rattle.machine.specs.Run.{Result, machine, result, runOf}
 use Rattle.safety.specs.Active.{Call, running, shareOf, Configuration, stepOn, Visits}
 

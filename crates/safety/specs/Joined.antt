@@ -6,12 +6,12 @@ use Prim.Native.Nat.{ℕ, _≤_}
 use lib.Dec.{eqb}
 use Rattle.verifier.specs.Check.{checkOf}
 use Rattle.words.specs.Bytes.{Bytes}
-use Rattle.machine.specs.declared.load.Loaded.{Loaded}
-use Rattle.machine.specs.declared.load.Loaded.the-variants.{Refused as NotLoaded, Ready}
+use Rattle.load.specs.declared.Loaded.{Loaded}
+use Rattle.load.specs.declared.Loaded.the-variants.{Refused as NotLoaded, Ready}
 use Rattle.machine.specs.declared.run.Answer.{Answer}
 use Rattle.machine.specs.declared.run.Answer.the-variants.{Refused, Ended}
 use Rattle.machine.specs.declared.run.Ended.{Ended as Ending}
-use Rattle.machine.specs.Load.{loadOf}
+use Rattle.load.specs.Load.{loadOf}
 use Rattle.machine.specs.Run.{Result, runOf}
 use Rattle.safety.specs.Demand3.{Proper}
 

@@ -1,7 +1,7 @@
 // Check, load and run in one call: accepted code never ends in a code trap. specs/Demand3.antt has the whole of demand 3.
 ghost use mathlib.Core.Path.{_≡_};
 ghost use Rattle.safety.specs.Joined.{joined, joinedOf, ProperAnswer};
-use machine::load::Loaded;
+use load::Loaded;
 use machine::run::Answer;
 
 // The check's number or the load's, or how the run ended.
@@ -20,7 +20,7 @@ pub fn check_load_run(
     if number != 0 {
         return Answer::Refused(number);
     }
-    let loaded = machine::load::load(r, parameters, memory, stack);
+    let loaded = load::load(r, parameters, memory, stack);
     match loaded {
         Loaded::Refused(n) => Answer::Refused(n),
         Loaded::Ready(q) => machine::run::run(r, budget, q, memory, stack),

@@ -1,0 +1,2 @@
+-- Laws about reading a record and the memory that load leaves.
+pub mod Loading

@@ -1,0 +1,127 @@
+-- `load::load` meets its contract: the record's number, then the parameters' and the sizes', else memory is filled.
+use mathlib.Core.Path.{sym, _∙_}
+use borrow.Author.Needs.{needs}
+use borrow.Author.Tests.{not-true, not-false}
+use Rattle.load.proofs.load.Statement.{statement}
+use Rattle.load.proofs.Loading.{sound-header, load-refused, load-parameters, load-sizes, load-ready, load-globals, load-frames}
+use Rattle.load.proofs.load.Tie as tie
+
+read-requires : tie.Need-read-requires
+read-requires c κs = search needs
+
+enum-known-reading : tie.Need-enum-known-reading
+enum-known-reading c = search needs
+
+enum-known-reading-2 : tie.Need-enum-known-reading-2
+enum-known-reading-2 c = search needs
+
+areas-in-requires : tie.Need-areas-in-requires
+areas-in-requires c κs = search needs
+
+cast-if1 : tie.Need-cast-if1
+cast-if1 c = search needs
+
+returns : tie.Need-returns
+returns c =
+    let a = c .before .before .before .before .before .before .before .before .before .before .before .args in
+    let k = c .before .before .before .before .reading2 .given in
+    let s = sym (c .before .before .before .before .before .before .read .ensures) ∙ k .1 in
+    load-parameters (a .r .now) (a .parameters .now) (a .memory .now) (a .stack .now) (k .0 .0) s (c .if1 .taken)
+
+sizes-taken-requires : tie.Need-sizes-taken-requires
+sizes-taken-requires c κs = search needs
+
+same-length : tie.Need-same-length
+same-length c = search needs
+
+returns-2 : tie.Need-returns-2
+returns-2 c =
+    let a = c .before .before .before .before .before .before .before .before .before .before .before .before .before .before .args in
+    let k = c .before .before .before .before .before .before .before .reading2 .given in
+    let s = sym (c .before .before .before .before .before .before .before .before .before .read .ensures) ∙ k .1 in
+    let t = c .before .sizes-taken in
+    let b = c .before .before .before .before .before .areas-in in
+    load-sizes (a .r .now) (a .parameters .now) (a .memory .now) (a .stack .now) (k .0 .0) s
+    (b .result) (t .result) (b .ensures) (t .ensures)
+    (c .before .before .before .if1 .left) (not-true (t .result) (c .if2 .taken))
+
+fill-requires : tie.Need-fill-requires
+fill-requires c κs =
+    let a = c .before .before .before .before .before .before .before .before .before .before .before .before .before .before .before .args in
+    let k = c .before .before .before .before .before .before .before .before .reading2 .given in
+    let s = sym (c .before .before .before .before .before .before .before .before .before .before .read .ensures) ∙ k .1 in
+    let t = c .before .before .sizes-taken in
+    let b = c .before .before .before .before .before .before .areas-in in (
+      sound-header (a .r .now) (k .0 .0) s .1,
+      (
+        load-globals (a .r .now) (a .parameters .now) (a .memory .now) (a .stack .now) (k .0 .0) s,
+        (
+          c .before .before .before .before .if1 .left,
+          load-frames (a .r .now) (a .parameters .now) (a .memory .now) (a .stack .now) (k .0 .0) s
+              (b .result) (t .result) (b .ensures) (t .ensures)
+              (c .before .before .before .before .if1 .left) (not-false (t .result) (c .before .if2 .left)) .0,
+        ),
+      ),
+    )
+
+code-of-requires : tie.Need-code-of-requires
+code-of-requires c κs = search needs
+
+start-of-requires : tie.Need-start-of-requires
+start-of-requires c κs =
+    let a = c .before .before .before .before .before .before .before .before .before .before .before .before .before .before .before .before .before .before .before .args in
+    let k = c .before .before .before .before .before .before .before .before .before .before .before .before .reading2 .given in
+    let s = sym (c .before .before .before .before .before .before .before .before .before .before .before .before .before .before .read .ensures) ∙ k .1 in
+    let t = c .before .before .before .before .before .before .sizes-taken in
+    let b = c .before .before .before .before .before .before .before .before .before .before .areas-in in
+    load-frames (a .r .now) (a .parameters .now) (a .memory .now) (a .stack .now) (k .0 .0) s
+    (b .result) (t .result) (b .ensures) (t .ensures)
+    (c .before .before .before .before .before .before .before .before .if1 .left) (not-false (t .result) (c .before .before .before .before .before .if2 .left)) .1
+
+returns-3 : tie.Need-returns-3
+returns-3 c =
+    let a = c .before .before .before .before .before .before .before .before .args in
+    let k = c .before .reading .given in
+    let s = sym (c .before .before .before .read .ensures) ∙ k .1 in
+    load-refused (a .r .now) (a .parameters .now) (a .memory .now) (a .stack .now) (k .0 .0) s
+
+same-length-2 : tie.Need-same-length-2
+same-length-2 c = search needs
+
+returns-4 : tie.Need-returns-4
+returns-4 c =
+    let a = c .before .before .before .before .before .before .before .before .before .before .before .before .before .before .before .before .before .before .before .before .args in
+    let k = c .before .before .before .before .before .before .before .before .before .before .before .before .before .reading2 .given in
+    let s = sym (c .before .before .before .before .before .before .before .before .before .before .before .before .before .before .before .read .ensures) ∙ k .1 in
+    let t = c .before .before .before .before .before .before .before .sizes-taken in
+    let b = c .before .before .before .before .before .before .before .before .before .before .before .areas-in in
+    rw (
+      c .start-of .ensures,
+      c .before .code-of .ensures,
+      b .ensures,
+      sound-header (a .r .now) (k .0 .0) s .1,
+      c .before .before .before .before .fill .ensures,
+    )
+    (load-ready (a .r .now) (a .parameters .now) (a .memory .now) (a .stack .now) (k .0 .0) s
+    (b .result) (t .result) (b .ensures) (t .ensures)
+    (c .before .before .before .before .before .before .before .before .before .if1 .left) (not-false (t .result) (c .before .before .before .before .before .before .if2 .left)))
+
+pub load-spec : {M : Type 1} → statement M
+load-spec =
+    tie.close
+    (tie.spec
+    read-requires
+    enum-known-reading
+    enum-known-reading-2
+    areas-in-requires
+    cast-if1
+    returns
+    sizes-taken-requires
+    same-length
+    returns-2
+    fill-requires
+    code-of-requires
+    start-of-requires
+    returns-3
+    same-length-2
+    returns-4)

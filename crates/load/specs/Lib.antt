@@ -1,0 +1,2 @@
+-- Load.
+pub mod Load

@@ -1,0 +1,79 @@
+-- What a state that fits keeps, fact by fact.
+use Prim.Native.Nat.{ℕ, _≤_}
+use mathlib.Core.Path.{_≡_, refl}
+use mathlib.Core.Bool.{Bool, true, false, _&&_}
+use mathlib.Core.List.{List}
+use lib.Dec.{eqb, leb}
+use lib.ListN.{length}
+use borrow.Author.Tests.{eqb-true, leb-true, eq-eqb, le-leb}
+use Rattle.registers.specs.declared.Areas.{Areas}
+use Rattle.registers.specs.declared.Registers.{Registers}
+use Rattle.registers.specs.Program.{constantsStart, framesStart}
+use Rattle.registers.specs.Memory.{read, chained}
+use Rattle.state.specs.Fits.{sizesTaken, headerKept, registersFit, fits}
+
+pub record Fitting (A : Areas) (q : Registers) (m s : List ℕ) : Type 0 where
+  pub areas : framesStart A ≤ length m
+  pub room : length m ≤ 16384
+  pub deep : length s ≤ 1024
+  pub word0 : read m 0 ≡ 0
+  pub word1 : read m 1 ≡ 0
+  pub word2 : read m 2 ≡ constantsStart A
+  pub global : q .gp ≡ 3
+  pub frame : q .fp ≤ q .mp
+  pub within : q .mp ≤ length m
+  pub height : q .height ≤ length s
+  pub depth : q .calls ≤ 64
+  pub links : chained m (framesStart A) (q .fp) (q .calls) ≡ true
+
+three : (a b c : Bool) → (a && (b && c)) ≡ true → (a ≡ true) × (b ≡ true) × (c ≡ true)
+three true true c e = (refl, refl, e)
+three true false c e = (refl, e, cc)
+three false b c e = (e, cc, cc)
+
+five : (a b c d f : Bool) → (a && (b && (c && (d && f)))) ≡ true → (a ≡ true) × (b ≡ true) × (c ≡ true) × (d ≡ true) × (f ≡ true)
+five true true c d f e = let t = three c d f e in (refl, refl, t .0, t .1, t .2)
+five true false c d f e = (refl, e, cc, cc, cc)
+five false b c d f e = (e, cc, cc, cc, cc)
+
+module _ (A : Areas) (q : Registers) (m s : List ℕ) where
+  pub fitting : fits A q m s ≡ true → Fitting A q m s
+  unfolding fits sizesTaken headerKept registersFit
+  fitting h =
+      let w = three (sizesTaken A m s) (headerKept A m) (registersFit q m s && chained m (framesStart A) (q .fp) (q .calls)) h in
+      let l = three true (registersFit q m s) (chained m (framesStart A) (q .fp) (q .calls)) (w .2) in
+      let z = three (leb (framesStart A) (length m)) (leb (length m) 16384) (leb (length s) 1024) (w .0) in
+      let k = three (eqb (read m 0) 0) (eqb (read m 1) 0) (eqb (read m 2) (constantsStart A)) (w .1) in
+      let r =
+      five (eqb (q .gp) 3) (leb (q .fp) (q .mp)) (leb (q .mp) (length m)) (leb (q .height) (length s)) (leb (q .calls) 64) (l .1) in
+      record {
+        areas = leb-true (framesStart A) (length m) (z .0);
+        room = leb-true (length m) 16384 (z .1);
+        deep = leb-true (length s) 1024 (z .2);
+        word0 = eqb-true (read m 0) 0 (k .0);
+        word1 = eqb-true (read m 1) 0 (k .1);
+        word2 = eqb-true (read m 2) (constantsStart A) (k .2);
+        global = eqb-true (q .gp) 3 (r .0);
+        frame = leb-true (q .fp) (q .mp) (r .1);
+        within = leb-true (q .mp) (length m) (r .2);
+        height = leb-true (q .height) (length s) (r .3);
+        depth = leb-true (q .calls) 64 (r .4);
+        links = l .2;
+      }
+
+  pub fitted : Fitting A q m s → fits A q m s ≡ true
+  unfolding fits sizesTaken headerKept registersFit
+  fitted f =
+      rw (
+        le-leb (framesStart A) (length m) (f .areas),
+        le-leb (length m) 16384 (f .room),
+        le-leb (length s) 1024 (f .deep),
+        eq-eqb (read m 0) 0 (f .word0),
+        eq-eqb (read m 1) 0 (f .word1),
+        eq-eqb (read m 2) (constantsStart A) (f .word2),
+        eq-eqb (q .gp) 3 (f .global),
+        le-leb (q .fp) (q .mp) (f .frame),
+        le-leb (q .mp) (length m) (f .within),
+        le-leb (q .height) (length s) (f .height),
+        le-leb (q .calls) 64 (f .depth),
+      ) (f .links)

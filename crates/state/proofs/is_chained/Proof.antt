@@ -1,0 +1,73 @@
+-- `state::is_chained` meets its contract: the walk goes down the chain of frames until one is not low enough. The measure is
+-- what is left of the calls.
+use Prim.Native.Nat.{_-_}
+use mathlib.Core.Path.{sym}
+use native.Mathlib.Omega.{arith}
+use borrow.Author.Needs.{needs}
+use Rattle.state.proofs.is_chained.Statement.{statement}
+use Rattle.state.proofs.Chains.{Followed, followed-start, followed-break, followed-next, followed-end}
+use Rattle.state.proofs.is_chained.Tie as tie
+
+abbrev Inv-loop : tie.InvT-loop
+Inv-loop memory start fp calls frame₀ counter₀ frame counter = Followed memory start fp calls frame counter
+
+abbrev μ-loop : tie.MeasureT-loop
+μ-loop memory start fp calls frame₀ counter₀ frame counter = calls - counter
+
+loop-holds : tie.Need-loop-holds Inv-loop μ-loop
+loop-holds c = followed-start (c .before .args .memory .now) (c .before .args .start) (c .before .args .fp) (c .before .args .calls)
+
+returns : tie.Need-returns Inv-loop μ-loop
+returns c =
+    let a = c .before .before .before .before .args in
+    let l = c .before .before .loop in
+    sym (followed-break (a .memory .now) (a .start) (a .fp) (a .calls) (l .frame) (l .counter) (l .inv)
+    (c .before .loop-test .taken) (omega (arith, c .if1 .taken)))
+
+word-at-requires : tie.Need-word-at-requires Inv-loop μ-loop
+word-at-requires c κs = search needs
+
+cast-saved : tie.Need-cast-saved Inv-loop μ-loop
+cast-saved c = search needs
+
+returns-2 : tie.Need-returns-2 Inv-loop μ-loop
+returns-2 c =
+    let a = c .before .before .before .before .before .before .args in
+    let l = c .before .before .before .before .loop in
+    sym (followed-break (a .memory .now) (a .start) (a .fp) (a .calls) (l .frame) (l .counter) (l .inv)
+    (c .before .before .before .loop-test .taken) (omega (arith, c .before .word-at .ensures, c .if2 .taken)))
+
+add-counter : tie.Need-add-counter Inv-loop μ-loop
+add-counter c = search needs
+
+loop-less : tie.Need-loop-less Inv-loop μ-loop
+loop-less c = search needs
+
+loop-again : tie.Need-loop-again Inv-loop μ-loop
+loop-again c =
+    let a = c .before .before .before .before .before .before .args in
+    let l = c .before .before .before .before .loop in
+    rw (c .before .word-at .ensures) (followed-next (a .memory .now) (a .start) (a .fp) (a .calls) (l .frame) (l .counter) (l .inv)
+    (c .before .before .before .loop-test .taken) (omega (arith, c .before .word-at .ensures, c .before .before .if1 .left, c .if2 .left)))
+
+returns-3 : tie.Need-returns-3 Inv-loop μ-loop
+returns-3 c =
+    let a = c .before .before .before .args in
+    let l = c .before .loop in
+    sym (followed-end (a .memory .now) (a .start) (a .fp) (a .calls) (l .frame) (l .counter) (l .inv) (c .loop-test .left))
+
+pub is-chained-spec : {M : Type 1} → statement M
+is-chained-spec =
+    tie.close
+    (tie.spec
+    Inv-loop
+    μ-loop
+    loop-holds
+    returns
+    word-at-requires
+    cast-saved
+    returns-2
+    add-counter
+    loop-less
+    loop-again
+    returns-3)

@@ -1,0 +1,83 @@
+-- `state::state_fits` meets its contract: each return is the first part that does not fit, or the last one.
+use borrow.Author.Needs.{needs}
+use borrow.Author.Tests.{not-true, not-false}
+use Rattle.state.proofs.state_fits.Statement.{statement}
+use Rattle.state.specs.Fits.{fits}
+use Rattle.state.proofs.state_fits.Tie as tie
+
+sizes-taken-requires : tie.Need-sizes-taken-requires
+sizes-taken-requires c κs = search needs
+
+returns : tie.Need-returns
+unfolding fits
+returns c = rw (← c .before .sizes-taken .ensures, not-true (c .before .sizes-taken .result) (c .if1 .taken))
+
+header-kept-requires : tie.Need-header-kept-requires
+header-kept-requires c κs = search needs
+
+returns-2 : tie.Need-returns-2
+unfolding fits
+returns-2 c = rw (
+  ← c .before .before .before .sizes-taken .ensures,
+  not-false (c .before .before .before .sizes-taken .result) (c .before .before .if1 .left),
+  ← c .before .header-kept .ensures,
+  not-true (c .before .header-kept .result) (c .if2 .taken),
+)
+
+registers-fit-requires : tie.Need-registers-fit-requires
+registers-fit-requires c κs = search needs
+
+returns-3 : tie.Need-returns-3
+unfolding fits
+returns-3 c = rw (
+  ← c .before .before .before .before .before .sizes-taken .ensures,
+  not-false (c .before .before .before .before .before .sizes-taken .result) (c .before .before .before .before .if1 .left),
+  ← c .before .before .before .header-kept .ensures,
+  not-false (c .before .before .before .header-kept .result) (c .before .before .if2 .left),
+  ← c .before .registers-fit .ensures,
+  not-true (c .before .registers-fit .result) (c .if3 .taken),
+)
+
+cast-start : tie.Need-cast-start
+cast-start c = search needs
+
+add-start : tie.Need-add-start
+add-start c = search needs
+
+cast-start-2 : tie.Need-cast-start-2
+cast-start-2 c = search needs
+
+add-start-2 : tie.Need-add-start-2
+add-start-2 c = search needs
+
+is-chained-requires : tie.Need-is-chained-requires
+is-chained-requires c κs = search needs
+
+returns-4 : tie.Need-returns-4
+unfolding fits
+returns-4 c = rw (
+  ← c .before .before .before .before .before .before .before .before .sizes-taken .ensures,
+  not-false (c .before .before .before .before .before .before .before .before .sizes-taken .result) (c .before .before .before .before .before .before .before .if1 .left),
+  ← c .before .before .before .before .before .before .header-kept .ensures,
+  not-false (c .before .before .before .before .before .before .header-kept .result) (c .before .before .before .before .before .if2 .left),
+  ← c .before .before .before .before .registers-fit .ensures,
+  not-false (c .before .before .before .before .registers-fit .result) (c .before .before .before .if3 .left),
+  c .is-chained .ensures,
+)
+
+pub state-fits-spec : {M : Type 1} → statement M
+state-fits-spec =
+    tie.close
+    (tie.spec
+    sizes-taken-requires
+    returns
+    header-kept-requires
+    returns-2
+    registers-fit-requires
+    returns-3
+    cast-start
+    add-start
+    cast-start-2
+    add-start-2
+    is-chained-requires
+    returns-4)

@@ -1,0 +1,2 @@
+-- The states that fit.
+pub mod Fits

@@ -1,0 +1,59 @@
+-- `step::copy_words` meets its contract: after i turns the first i words are stored.
+use Prim.Native.Nat.{_-_, _≤_}
+use mathlib.Core.Path.{_≡_, refl, _∙_}
+use native.Mathlib.Omega.{arith}
+use lib.ListN.{length, take}
+use lib.Seq.{sets, length-sets, take-all}
+use borrow.Author.Needs.{needs}
+use Rattle.step.proofs.copy_words.Statement.{statement}
+use Rattle.step.proofs.Sets.{sets-one-more}
+use Rattle.step.proofs.copy_words.Tie as tie
+
+abbrev Inv-loop : tie.InvT-loop
+Inv-loop dst₀ src i₀ i-end dst i = (i-end ≡ length src) × (i ≤ length src) × (dst ≡ sets dst₀ 0 (take i src))
+
+abbrev μ-loop : tie.MeasureT-loop
+μ-loop dst₀ src i₀ i-end dst i = length src - i
+
+loop-holds : tie.Need-loop-holds Inv-loop μ-loop
+loop-holds c = (refl, omega arith, refl)
+
+mul-set-word : tie.Need-mul-set-word Inv-loop μ-loop
+mul-set-word c = search needs
+
+shared-slice-read-set-word : tie.Need-shared-slice-read-set-word Inv-loop μ-loop
+shared-slice-read-set-word c = search needs
+
+set-word-requires : tie.Need-set-word-requires Inv-loop μ-loop
+set-word-requires c κs = search needs
+
+add-i : tie.Need-add-i Inv-loop μ-loop
+add-i c = search needs
+
+loop-less : tie.Need-loop-less Inv-loop μ-loop
+loop-less c = search needs
+
+loop-again : tie.Need-loop-again Inv-loop μ-loop
+loop-again c = (c .before .before .before .before .before .before .loop .inv .0, omega (arith, c .before .before .before .before .before .before .loop .inv .0), c .before .before .set-word .ensures ∙ (rw (c .before .before .before .before .before .before .loop .inv .2) (sets-one-more (c .before .before .before .before .before .before .before .before .before .args .dst .now) (c .before .before .before .before .before .before .before .before .before .args .src .now) (c .before .before .before .before .before .before .loop .i) (omega (arith, c .before .before .before .before .before .before .loop .inv .0)))))
+
+same-length : tie.Need-same-length Inv-loop μ-loop
+same-length c = rw (c .before .loop .inv .2, length-sets)
+
+returns : tie.Need-returns Inv-loop μ-loop
+returns c = c .before .loop .inv .2 ∙ rw (take-all (c .before .loop .i) (c .before .before .before .before .args .src .now) (omega (arith, c .before .loop .inv .0)))
+
+pub copy-words-spec : {M : Type 1} → statement M
+copy-words-spec =
+    tie.close
+    (tie.spec
+    Inv-loop
+    μ-loop
+    loop-holds
+    mul-set-word
+    shared-slice-read-set-word
+    set-word-requires
+    add-i
+    loop-less
+    loop-again
+    same-length
+    returns)
