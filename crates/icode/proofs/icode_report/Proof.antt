@@ -1,32 +1,24 @@
+-- `icode_report` meets its contract: over arrays of zeros the report is the text of the run file.
 use Rattle.report.proofs.OwnMemory.{report-prints}
 use borrow.Author.Needs.{needs}
 use Rattle.icode.proofs.icode_report.Statement.{statement}
 use Rattle.icode.proofs.icode_report.Tie as tie
-use Rattle.icode.proofs.icode_report.Reads as reads
-use Rattle.icode.proofs.icode_report.Lts as lts
-use Rattle.report.proofs.report.Reads as report-reads
 
--- src/lib.rt:47:26
 slice-aggregate-report : tie.Need-slice-aggregate-report
 slice-aggregate-report c = search needs
 
--- src/lib.rt:47:42
 slice-aggregate-report-2 : tie.Need-slice-aggregate-report-2
 slice-aggregate-report-2 c = search needs
 
--- src/lib.rt:47:55
 slice-aggregate-report-3 : tie.Need-slice-aggregate-report-3
 slice-aggregate-report-3 c = search needs
 
--- src/lib.rt:47:5
 report-requires : tie.Need-report-requires
 report-requires c κs = search needs
 
--- src/lib.rt:40:1
 same-length : tie.Need-same-length
 same-length c = search needs
 
--- src/lib.rt:40:1
 returns : tie.Need-returns
 returns c = report-prints (c .before .before .before .before .before .before .before .before .before .before .before .before .args .file .now) (c .before .before .before .before .before .before .before .before .before .before .before .before .args .out .now) (c .before .before .before .before .before .report .ensures)
 

@@ -1,76 +1,56 @@
+-- The printer is safe and ends: the bytes that `report` answers are bytes of the buffer.
 use Rattle.report.proofs.Reporting.{report-fits}
-use lib.ListN.{length, take, replicate, length-take}
+use lib.ListN.{length-take}
 use native.Mathlib.Omega.{arith}
 use borrow.Author.Needs.{needs}
 use Rattle.printer.proofs.main.Statement.{statement}
 use Rattle.printer.proofs.main.Tie as tie
-use Rattle.printer.proofs.main.Reads as reads
-use Rattle.printer.proofs.main.Lts as lts
-use Rattle.io.proofs.read_full.Reads as read-full-reads
-use Rattle.io.proofs.write_all.Reads as write-all-reads
-use Rattle.report.proofs.report.Reads as report-reads
 
--- src/main.rt:11:35
 slice-aggregate-read-full : tie.Need-slice-aggregate-read-full
 slice-aggregate-read-full c = search needs
 
--- src/main.rt:11:9
 read-full-requires : tie.Need-read-full-requires
 read-full-requires c κs = search needs
 
--- src/main.rt:13:9
 array-share-prefix-input : tie.Need-array-share-prefix-input
 array-share-prefix-input c = search needs
 
--- src/main.rt:13:9
 slice-aggregate-report : tie.Need-slice-aggregate-report
 slice-aggregate-report c = search needs
 
--- src/main.rt:14:9
 slice-aggregate-report-2 : tie.Need-slice-aggregate-report-2
 slice-aggregate-report-2 c = search needs
 
--- src/main.rt:15:9
 slice-aggregate-report-3 : tie.Need-slice-aggregate-report-3
 slice-aggregate-report-3 c = search needs
 
--- src/main.rt:16:9
 slice-aggregate-report-4 : tie.Need-slice-aggregate-report-4
 slice-aggregate-report-4 c = search needs
 
--- src/main.rt:17:9
 slice-aggregate-report-5 : tie.Need-slice-aggregate-report-5
 slice-aggregate-report-5 c = search needs
 
--- src/main.rt:12:9
 report-requires : tie.Need-report-requires
 report-requires c κs = search needs
 
--- src/main.rt:19:38
 array-share-prefix-page : tie.Need-array-share-prefix-page
 array-share-prefix-page c = let z = c .before .before .before .before .report .kept .1 .1 .1 .1 .0 in let y = report-fits _ _ _ _ _ (c .before .before .before .before .report .ensures) in omega (arith, z, y)
 
--- src/main.rt:19:38
 slice-aggregate-write-all : tie.Need-slice-aggregate-write-all
 slice-aggregate-write-all c = let z = c .before .before .before .before .before .report .kept .1 .1 .1 .1 .0 in let y = report-fits _ _ _ _ _ (c .before .before .before .before .before .report .ensures) in omega (arith, z, y, length-take (c .before .before .before .before .before .report .result) (c .before .before .before .before .before .report .last .1 .1 .1 .1 .0))
 
--- src/main.rt:19:9
 write-all-requires : tie.Need-write-all-requires
 write-all-requires c κs = search needs
 
--- src/main.rt:20:26
 slice-aggregate-write-all-2 : tie.Need-slice-aggregate-write-all-2
 slice-aggregate-write-all-2 c = search needs
 
--- src/main.rt:20:9
 write-all-requires-2 : tie.Need-write-all-requires-2
 write-all-requires-2 c κs = search needs
 
--- src/main.rt:4:1
 returns : tie.Need-returns
 returns c = search needs
 
--- src/main.rt:4:1
 returns-2 : tie.Need-returns-2
 returns-2 c = search needs
 

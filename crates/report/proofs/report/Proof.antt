@@ -1,3 +1,4 @@
+-- `report` meets its contract: a run file is malformed, asks for a stack that load takes, or does not; proofs/Reporting has each case.
 use Rattle.report.proofs.Reporting.{memory-fits, malformed, shallow, deep}
 use borrow.Author.Tests.{not-true, not-false}
 use mathlib.Core.Path.{_∙_, sym}
@@ -5,90 +6,61 @@ use native.Mathlib.Omega.{arith}
 use borrow.Author.Needs.{needs}
 use Rattle.report.proofs.report.Statement.{statement}
 use Rattle.report.proofs.report.Tie as tie
-use Rattle.report.proofs.report.Reads as reads
-use Rattle.report.proofs.report.Lts as lts
-use Rattle.report.proofs.or_eight.Reads as or-eight-reads
-use Rattle.report.proofs.print_check.Reads as print-check-reads
-use Rattle.report.proofs.run_page.Reads as run-page-reads
-use Rattle.run_file.proofs.record_of.Reads as record-of-reads
-use Rattle.run_file.proofs.results_of.Reads as results-of-reads
-use Rattle.run_file.proofs.stack_words.Reads as stack-words-reads
-use Rattle.run_file.proofs.well_formed.Reads as well-formed-reads
-use Rattle.verifier.proofs.check.check.Reads as check-reads
 
--- src/lib.rt:157:9
 well-formed-requires : tie.Need-well-formed-requires
 well-formed-requires c κs = search needs
 
--- src/lib.rt:158:9
 print-check-requires : tie.Need-print-check-requires
 print-check-requires c κs = search needs
 
--- src/lib.rt:158:9
 same-length : tie.Need-same-length
 same-length c = search needs
 
--- src/lib.rt:158:9
 returns : tie.Need-returns
 returns c = malformed (c .before .before .before .before .before .before .before .before .before .before .before .args .f .now) (c .before .before .before .before .before .before .before .before .before .before .before .args .workspace .now) (c .before .before .before .before .before .before .before .before .before .before .before .args .memory .now) (c .before .before .before .before .before .before .before .before .before .before .before .args .stack .now) (c .before .before .before .before .before .before .before .before .before .before .before .args .out .now) (sym (c .before .before .before .before .before .well-formed .ensures) ∙ not-true (c .before .before .before .before .before .well-formed .result) (c .before .before .before .before .if1 .taken)) (c .before .before .print-check .ensures)
 
--- src/lib.rt:160:8
 stack-words-requires : tie.Need-stack-words-requires
 stack-words-requires c κs = search needs
 
--- src/lib.rt:161:9
 run-page-requires : tie.Need-run-page-requires
 run-page-requires c κs = (memory-fits (c .before .before .before .before .before .before .before .before .before .before .before .before .before .args .f .now) (sym (c .before .before .before .before .before .before .before .well-formed .ensures) ∙ not-false (c .before .before .before .before .before .before .before .well-formed .result) (c .before .before .before .before .before .before .if1 .left)), (omega (arith, c .before .before .before .before .before .stack-words .ensures, c .before .before .before .before .if2 .taken), c .before .before .before .before .before .before .before .before .before .before .before .before .before .pre))
 
--- src/lib.rt:161:9
 same-length-2 : tie.Need-same-length-2
 same-length-2 c = search needs
 
--- src/lib.rt:161:9
 same-length-3 : tie.Need-same-length-3
 same-length-3 c = search needs
 
--- src/lib.rt:161:9
 same-length-4 : tie.Need-same-length-4
 same-length-4 c = search needs
 
--- src/lib.rt:161:9
 same-length-5 : tie.Need-same-length-5
 same-length-5 c = search needs
 
--- src/lib.rt:161:9
 returns-2 : tie.Need-returns-2
 returns-2 c = c .before .before .before .before .before .before .before .before .run-page .ensures ∙ shallow (c .before .before .before .before .before .before .before .before .before .before .before .before .before .before .before .before .before .before .before .before .before .before .args .f .now) (c .before .before .before .before .before .before .before .before .before .before .before .before .before .before .before .before .before .before .before .before .before .before .args .workspace .now) (c .before .before .before .before .before .before .before .before .before .before .before .before .before .before .before .before .before .before .before .before .before .before .args .memory .now) (c .before .before .before .before .before .before .before .before .before .before .before .before .before .before .before .before .before .before .before .before .before .before .args .stack .now) (c .before .before .before .before .before .before .before .before .before .before .before .before .before .before .before .before .before .before .before .before .before .before .args .out .now) (sym (c .before .before .before .before .before .before .before .before .before .before .before .before .before .before .before .before .well-formed .ensures) ∙ not-false (c .before .before .before .before .before .before .before .before .before .before .before .before .before .before .before .before .well-formed .result) (c .before .before .before .before .before .before .before .before .before .before .before .before .before .before .before .if1 .left)) (omega (arith, c .before .before .before .before .before .before .before .before .before .before .before .before .before .before .stack-words .ensures, c .before .before .before .before .before .before .before .before .before .before .before .before .before .if2 .taken))
 
--- src/lib.rt:163:9
 record-of-requires : tie.Need-record-of-requires
 record-of-requires c κs = search needs
 
--- src/lib.rt:164:9
 results-of-requires : tie.Need-results-of-requires
 results-of-requires c κs = search needs
 
--- src/lib.rt:165:31
 check-requires : tie.Need-check-requires
 check-requires c κs = search needs
 
--- src/lib.rt:165:22
 or-eight-requires : tie.Need-or-eight-requires
 or-eight-requires c κs = search needs
 
--- src/lib.rt:165:5
 print-check-requires-2 : tie.Need-print-check-requires-2
 print-check-requires-2 c κs = search needs
 
--- src/lib.rt:146:1
 same-length-6 : tie.Need-same-length-6
 same-length-6 c = search needs
 
--- src/lib.rt:146:1
 same-length-7 : tie.Need-same-length-7
 same-length-7 c = search needs
 
--- src/lib.rt:146:1
 returns-3 : tie.Need-returns-3
 returns-3 c = deep (c .before .before .before .before .before .before .before .before .before .before .before .before .before .before .before .before .before .before .before .before .args .f .now) (c .before .before .before .before .before .before .before .before .before .before .before .before .before .before .before .before .before .before .before .before .args .workspace .now) (c .before .before .before .before .before .before .before .before .before .before .before .before .before .before .before .before .before .before .before .before .args .memory .now) (c .before .before .before .before .before .before .before .before .before .before .before .before .before .before .before .before .before .before .before .before .args .stack .now) (c .before .before .before .before .before .before .before .before .before .before .before .before .before .before .before .before .before .before .before .before .args .out .now) (c .before .before .before .or-eight .result) (sym (c .before .before .before .before .before .before .before .before .before .before .before .before .before .before .well-formed .ensures) ∙ not-false (c .before .before .before .before .before .before .before .before .before .before .before .before .before .before .well-formed .result) (c .before .before .before .before .before .before .before .before .before .before .before .before .before .if1 .left)) (omega (arith, c .before .before .before .before .before .before .before .before .before .before .before .before .stack-words .ensures, c .before .before .before .before .before .before .before .before .before .before .before .if2 .left)) (c .before .before .before .before .before .before .before .before .before .before .record-of .ensures) (c .before .before .before .before .before .before .before .before .before .results-of .ensures) (c .before .before .before .before .before .before .check .ensures) (c .before .before .before .or-eight .ensures) (c .before .before .print-check2 .ensures)
 

@@ -6,62 +6,46 @@ use mathlib.Core.Path.{_≡_}
 use native.Mathlib.Omega.{arith}
 use Rattle.words.proofs.Slices.{part-past, part-rest}
 use Rattle.words.proofs.part.Tie as tie
-use Rattle.words.proofs.part.Reads as reads
-use Rattle.words.proofs.part.Lts as lts
 
--- src/lib.rt:50:16
 sub-result : tie.Need-sub-result
 sub-result c = search needs
 
--- src/lib.rt:50:16
 part-result-start : tie.Need-part-result-start
 part-result-start c = search needs
 
--- src/lib.rt:50:16
 part-result-end : tie.Need-part-result-end
 part-result-end c = search needs
 
--- src/lib.rt:50:9
 returns : tie.Need-returns
 returns c = part-past (c .before .before .args .s .now) (c .before .before .args .at) (c .before .before .args .n) (c .before .if1 .taken)
 
--- src/lib.rt:52:8
 sub-if2 : tie.Need-sub-if2
 sub-if2 c = search needs
 
--- src/lib.rt:53:16
 sub-result-2 : tie.Need-sub-result-2
 sub-result-2 c = search needs
 
--- src/lib.rt:53:16
 part-result-start-2 : tie.Need-part-result-start-2
 part-result-start-2 c = search needs
 
--- src/lib.rt:53:16
 part-result-end-2 : tie.Need-part-result-end-2
 part-result-end-2 c = search needs
 
--- src/lib.rt:53:9
 returns-2 : tie.Need-returns-2
 returns-2 c = part-rest (c .before .before .before .args .s .now) (c .before .before .before .args .at) (c .before .before .before .args .n) (c .before .if2 .taken)
 
--- src/lib.rt:55:12
 add-result : tie.Need-add-result
 add-result c = search needs
 
--- src/lib.rt:55:5
 sub-result-3 : tie.Need-sub-result-3
 sub-result-3 c = search needs
 
--- src/lib.rt:55:5
 part-result-start-3 : tie.Need-part-result-start-3
 part-result-start-3 c = search needs
 
--- src/lib.rt:55:5
 part-result-end-3 : tie.Need-part-result-end-3
 part-result-end-3 c = search needs
 
--- src/lib.rt:46:1
 returns-3 : tie.Need-returns-3
 returns-3 c = let e : c .before .before .before .args .at + c .before .before .before .args .n - c .before .before .before .args .at ≡ c .before .before .before .args .n = omega arith in rw e
 
