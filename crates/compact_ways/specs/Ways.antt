@@ -3,12 +3,12 @@ use mathlib.Core.Bool.{cond, _&&_}
 use mathlib.Core.List.{List}
 use Prim.Native.Nat.{ℕ, zero, suc, _+_, _-_}
 use lib.Dec.{eqb, leb}
-use Rattle.opcode.specs.Distance.{placeAt}
+use Rattle.operand.specs.Distance.{placeAt}
 use Rattle.shape.specs.declared.Shape.{Shape}
 use Rattle.shape.specs.declared.Shape.the-variants.{Straight, Drop, Goto, Branch, Keep, Loop, Again, Select, Exit, Invoke, Begin, Return}
 use Rattle.shape.specs.declared.Table.{Table}
 use Rattle.successors.specs.Successors.{exitLabel}
-use Rattle.stackmap.specs.Ways.{isLoop, isSelect, parametersIn, resultsIn}
+use Rattle.stackmap.specs.Ways.{isLoop, isSelect, loopStart, parametersIn, resultsIn}
 use Rattle.compact.specs.declared.top.Top.{Top}
 use Rattle.compact_ways.specs.declared.Way.{Way}
 use Rattle.compact_ways.specs.declared.Ways.{Ways}
@@ -48,7 +48,7 @@ abbrev pub againFrom : List ℕ → List ℕ → ℕ → Top → ℕ → Ways
 againFrom code w next t zero = Broken
 againFrom code w next t (suc m) =
     cond (isLoop code m && labelled code w t)
-    (inOrder (way next (t .height - 5) (originUnder w (suc m))) (toward (m + 3) t)) Broken
+    (inOrder (way next (t .height - 5) (originUnder w (suc m))) (toward (loopStart m) t)) Broken
 
 unfoldable pub againWays : List ℕ → List ℕ → ℕ → Top → Ways
 againWays code w next t = againFrom code w next t (t .origin)

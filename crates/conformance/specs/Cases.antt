@@ -5,6 +5,7 @@ use mathlib.Core.Path.{_≡_}
 use Prim.Native.Nat.{ℕ, _+_, _*_, _/_, _%_}
 use lib.ListN.{length, take, drop, replicate}
 use Rattle.verifier.specs.Check.{checkOf}
+use Rattle.registers.specs.Program.{globalsStart}
 use Rattle.load.specs.declared.Loaded.{Loaded}
 use Rattle.load.specs.declared.Loaded.the-variants.{Refused, Ready}
 use Rattle.machine.specs.declared.run.Answer.{Answer}
@@ -31,31 +32,31 @@ word : ℕ → List ℕ
 word n = n / 16777216 % 256 ∷ n / 65536 % 256 ∷ n / 256 % 256 ∷ n % 256 ∷ []
 
 -- The record of a case: header and code, with no other part.
-unfoldable pub recordOf : Case → List ℕ
+unfoldable pub recordFor : Case → List ℕ
 unfolding word
-recordOf c =
+recordFor c =
     word 0 ++ (word (length (c .code)) ++ (word (c .globals) ++ (word 0 ++ (word 0 ++ (word 0 ++ (word 0 ++ c .code))))))
 
 abbrev pub shown : Case → Answer → List ℕ → List ℕ → Outcome
 shown c (NotRun n) m s = refused n
 shown c (Ended e) m s =
-    ended (endNumber (e .ending)) (e .registers .pc) (e .steps) (take (c .globals) (drop 3 m)) (take (e .registers .height) s)
+    ended (endNumber (e .ending)) (e .registers .pc) (e .steps) (take (c .globals) (drop globalsStart m)) (take (e .registers .height) s)
 
-abbrev pub ran : Case → Loaded → List ℕ → List ℕ → Outcome
-ran c (Refused n) m s = refused n
-ran c (Ready q) m s =
-    let a = runOf (recordOf c) 1000 q m s in
+abbrev pub outcomeOf : Case → Loaded → List ℕ → List ℕ → Outcome
+outcomeOf c (Refused n) m s = refused n
+outcomeOf c (Ready q) m s =
+    let a = runOf (recordFor c) 1000 q m s in
     shown c (a .answer) (a .memory) (a .stack)
 
 -- Loaded into 64 words of memory with a stack of 16, and run for at most 1,000 steps.
 unfoldable pub played : Case → Outcome
 played c =
-    let l = loadOf (recordOf c) (c .parameters) (replicate 64 0) (replicate 16 0) in
-    ran c (l .answer) (l .memory) (replicate 16 0)
+    let l = loadOf (recordFor c) (c .parameters) (replicate 64 0) (replicate 16 0) in
+    outcomeOf c (l .answer) (l .memory) (replicate 16 0)
 
 -- Checked with one procedure, without results, and just enough workspace.
 unfoldable pub checked : Case → ℕ
-checked c = checkOf (recordOf c) (0 ∷ []) (replicate (4 * length (c .code)) 0) .number
+checked c = checkOf (recordFor c) (0 ∷ []) (replicate (4 * length (c .code)) 0) .number
 
 row : List ℕ → List ℕ → ℕ → ℕ → Outcome → Row
 row code parameters globals number outcome =

@@ -10,7 +10,7 @@ use lib.Signed.{ltZ}
 use mir.Syntax.{w32}
 use mir.Val.{toZ}
 use Rattle.entries.specs.Entries.{entryAt, noCallee}
-use Rattle.opcode.specs.Distance.{placeAt}
+use Rattle.operand.specs.Distance.{placeAt}
 use Rattle.switch_table.specs.Switch.{exitDistance, elseDistance, branchDistance, searchDistance, orElse}
 use Rattle.opcode.specs.declared.instruction.Mode.the-variants.{Normal}
 use Rattle.opcode.specs.declared.instruction.Arithmetic.the-variants.{Add}
@@ -24,24 +24,21 @@ use Rattle.effect.specs.declared.effect.Effect.{Effect}
 use Rattle.effect.specs.declared.effect.Effect.the-variants.{Trap as trap, Finish, Go}
 use Rattle.registers.specs.declared.Areas.{Areas}
 use Rattle.registers.specs.Memory.{read, live, protects}
-use Rattle.registers.specs.Words.{moved, sized, called, returned}
+use Rattle.registers.specs.Changes.{moved, sized, called, returned}
 use Rattle.effect.specs.Data.{boolean, storable}
-
-abbrev pub jumped : Registers → ℕ → ℕ
-jumped q d = placeAt (q .pc) d
 
 -- JUMP.
 unfoldable pub jumps : Registers → ℕ → Effect
-jumps q d = Go 0 NoPush NoWrite (moved q (jumped q d))
+jumps q d = Go 0 NoPush NoWrite (moved q (placeAt (q .pc) d))
 
 -- JUMP_C: POP (B); if not B then PC := PC + dist.
 unfoldable pub jumpsIfFalse : Registers → ℕ → ℕ → ℕ → Effect
-jumpsIfFalse q next d b = boolean b (Go 1 NoPush NoWrite (moved q (cond (eqb b 0) (jumped q d) next)))
+jumpsIfFalse q next d b = boolean b (Go 1 NoPush NoWrite (moved q (cond (eqb b 0) (placeAt (q .pc) d) next)))
 
 -- JUMP_T (when is 1) and JUMP_F (when is 0): POP (B); if B is `when` then PUSH (B); PC := PC + dist.
 unfoldable pub jumpsKeeping : (q : Registers) (next truth distance word : ℕ) → Effect
 jumpsKeeping q next when d b =
-    boolean b (cond (eqb b when) (Go 0 NoPush NoWrite (moved q (jumped q d))) (Go 1 NoPush NoWrite (moved q next)))
+    boolean b (cond (eqb b when) (Go 0 NoPush NoWrite (moved q (placeAt (q .pc) d))) (Go 1 NoPush NoWrite (moved q next)))
 
 -- (S > 0 and X > L) or (S < 0 and X < L).
 abbrev pub beyond : ℤ → ℤ → ℤ → Bool
@@ -50,7 +47,7 @@ beyond s x l = (ltZ (pos 0) s && ltZ l x) || (ltZ s (pos 0) && ltZ x l)
 -- ITER [ adr, first, last, step ]: past the loop, or MEMORY(A) := F and the label is pushed.
 unfoldable pub iterates : (A : Areas) (q : Registers) (m : List ℕ) (next distance address first last step : ℕ) → Effect
 iterates A q m next d a f l s =
-    cond (beyond (toZ w32 s) (toZ w32 f) (toZ w32 l)) (Go 4 NoPush NoWrite (moved q (jumped q d)))
+    cond (beyond (toZ w32 s) (toZ w32 f) (toZ w32 l)) (Go 4 NoPush NoWrite (moved q (placeAt (q .pc) d)))
     (storable A q m a Normal (Go 0 (PushOne next) (WriteOne a f) (moved q next)))
 
 -- NEXT's sum: MEMORY(A) + S. 01: "NEXT's sum traps likewise".

@@ -5,10 +5,10 @@ ghost use Prim.Native.Nat.{_≤_, _<_, _+_};
 ghost use lib.ListN.{length};
 ghost use mir.Syntax.{w32};
 ghost use mir.Val.{toZ};
-ghost use Rattle.control.specs.Control.{jumped, jumps, jumpsIfFalse, jumpsKeeping, beyond, iterates, wentRound, nextSum, repeats, branched, switches, searches, calls, enters, returns};
+ghost use Rattle.control.specs.Control.{jumps, jumpsIfFalse, jumpsKeeping, beyond, iterates, wentRound, nextSum, repeats, branched, switches, searches, calls, enters, returns};
 ghost use Rattle.registers.specs.Memory.{chained};
 ghost use Rattle.registers.specs.Program.{framesStart};
-ghost use Rattle.registers.specs.Words.{moved};
+ghost use Rattle.registers.specs.Changes.{moved};
 use effect::effect::Effect;
 use effect::effect::Push;
 use effect::effect::Write;
@@ -17,13 +17,6 @@ use operate::Value;
 use registers::Areas;
 use registers::Registers;
 use registers::access;
-
-// The place at a distance, modulo 2^32.
-pub fn jumped(q: Registers, distance: u32) -> u32
-    ensures { λ place. ⌜ place ≡ jumped q distance ⌝ }
-{
-    (((q.pc as u64) + (distance as u64)) % 0x1_0000_0000) as u32
-}
 
 // So many words go, and the place is another.
 pub fn jump_to(q: Registers, gone: u32, place: u32) -> Effect
@@ -35,7 +28,7 @@ pub fn jump_to(q: Registers, gone: u32, place: u32) -> Effect
 pub fn jumps(q: Registers, distance: u32) -> Effect
     ensures { λ e. ⌜ e ≡ jumps q distance ⌝ }
 {
-    jump_to(q, 0, jumped(q, distance))
+    jump_to(q, 0, operand::place_at(q.pc, distance))
 }
 
 // JUMP_C.
@@ -46,7 +39,7 @@ pub fn jumps_if_false(q: Registers, next: u32, distance: u32, b: u32) -> Effect
         return Effect::Trap(34);
     }
     if b == 0 {
-        return jump_to(q, 1, jumped(q, distance));
+        return jump_to(q, 1, operand::place_at(q.pc, distance));
     }
     jump_to(q, 1, next)
 }
@@ -59,7 +52,7 @@ pub fn jumps_keeping(q: Registers, next: u32, when: u32, distance: u32, b: u32) 
         return Effect::Trap(34);
     }
     if b == when {
-        return jump_to(q, 0, jumped(q, distance));
+        return jump_to(q, 0, operand::place_at(q.pc, distance));
     }
     jump_to(q, 1, next)
 }
@@ -93,7 +86,7 @@ pub fn iterates(
     ensures { λ e. ⌜ e ≡ iterates areas q (now (m .entry)) next distance a first last step ⌝ }
 {
     if is_beyond(step, first, last) {
-        return jump_to(q, 4, jumped(q, distance));
+        return jump_to(q, 4, operand::place_at(q.pc, distance));
     }
     if !access::is_live(q, a as usize, 1) {
         return Effect::Trap(32);

@@ -21,7 +21,7 @@ use Rattle.effect.specs.declared.effect.Effect.{Effect}
 use Rattle.effect.specs.declared.effect.Effect.the-variants.{Trap as trap, Go}
 use Rattle.registers.specs.declared.Areas.{Areas}
 use Rattle.registers.specs.Memory.{read, live, protects}
-use Rattle.registers.specs.Words.{moved, sized}
+use Rattle.registers.specs.Changes.{moved, sized}
 
 -- How many words an effect pushes.
 abbrev pub pushes : Push → ℕ

@@ -2,9 +2,10 @@
 -- Otherwise entry 1 is even, at least 4 and at most 512, and half of it is the number of entries."
 use mathlib.Core.Bool.{Bool, cond, _&&_, _||_}
 use mathlib.Core.List.{List, [], _∷_, _++_}
-use Prim.Native.Nat.{ℕ, zero, suc, _+_, _*_, _-_, _/_, _%_}
+use Prim.Native.Nat.{ℕ, _+_, _*_, _-_, _/_, _%_}
 use lib.Dec.{leb, ltb, eqb}
 use lib.ListN.{length}
+use Rattle.words.specs.Series.{series}
 use Rattle.words.specs.Bytes.{halfwordAt}
 use Rattle.words.specs.Order.{rising}
 
@@ -24,8 +25,7 @@ noCallee code p = eqb p 0 || leb (entryCount code) p
 
 -- The entries of n procedures from p on.
 abbrev pub entriesFrom : List ℕ → ℕ → ℕ → List ℕ
-entriesFrom code p zero = []
-entriesFrom code p (suc n) = entryAt code p ∷ entriesFrom code (p + 1) n
+entriesFrom code p n = series (entryAt code) 1 p n
 
 -- In the order of 01: "Entries 1, 2, .. and then 0".
 unfoldable pub entriesInOrder : List ℕ → List ℕ

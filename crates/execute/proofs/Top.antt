@@ -15,17 +15,17 @@ use Rattle.registers.specs.declared.Registers.{Registers}
 use Rattle.registers.specs.Program.{Program}
 use Rattle.registers.specs.Memory.{read}
 use Rattle.effect.specs.Data.{baseOf, storeTo}
-use Rattle.execute.specs.Depth.{top, storedEffect, iteratedEffect, repeatedEffect}
+use Rattle.execute.specs.Depth.{topWords, storedEffect, iteratedEffect, repeatedEffect}
 use Rattle.execute.specs.Execute.{execute}
 
 -- Word j of the top n stands at depth n - j.
-pub found : (s : List ℕ) (h n j : ℕ) → n ≤ h → j < n → read (top n h s) j ≡ read s (h - (n - j))
+pub found : (s : List ℕ) (h n j : ℕ) → n ≤ h → j < n → read (topWords n h s) j ≡ read s (h - (n - j))
 found s h n j l k =
     let e : h - n + j ≡ h - (n - j) = omega arith in
     getD-take n (drop (h - n) s) j 0 k ∙ (getD-drop (h - n) s j 0 ∙ ap (read s) e)
 
 pub base-found : (q : Registers) (m s : List ℕ) (base : Base) → popped base ≤ q .height
-    → baseOf q m (read (top (popped base) (q .height) s) 0) base ≡ baseOf q m (read s (q .height - 1)) base
+    → baseOf q m (read (topWords (popped base) (q .height) s) 0) base ≡ baseOf q m (read s (q .height - 1)) base
 base-found q m s Local l = refl
 base-found q m s Global l = refl
 base-found q m s Constant l = refl
@@ -33,7 +33,7 @@ base-found q m s Popped l = found s (q .height) 1 0 l (omega arith)
 
 pub store-found : (P : Program) (q : Registers) (m s : List ℕ) (next : ℕ) (base : Base) (mode : Mode) (n : ℕ)
     → popped base + wordsIn mode ≤ q .height
-    → execute P q m next (top (popped base + wordsIn mode) (q .height) s) (Store base mode n)
+    → execute P q m next (topWords (popped base + wordsIn mode) (q .height) s) (Store base mode n)
     ≡ storedEffect (P .areas) q m s next base mode n
 unfolding execute storeTo
 store-found P q m s next Local Normal n l = rw (found s (q .height) 1 0 l (omega arith))
@@ -51,7 +51,7 @@ store-found P q m s next Popped Double n l =
     rw (found s (q .height) 3 0 l (omega arith), found s (q .height) 3 1 l (omega arith), found s (q .height) 3 2 l (omega arith))
 
 pub iter-found : (P : Program) (q : Registers) (m s : List ℕ) (next d : ℕ) → 4 ≤ q .height
-    → execute P q m next (top 4 (q .height) s) (Iter d) ≡ iteratedEffect (P .areas) q m s next d
+    → execute P q m next (topWords 4 (q .height) s) (Iter d) ≡ iteratedEffect (P .areas) q m s next d
 unfolding execute
 iter-found P q m s next d l =
     rw (
@@ -62,7 +62,7 @@ iter-found P q m s next d l =
     )
 
 pub next-found : (P : Program) (q : Registers) (m s : List ℕ) (next : ℕ) → 5 ≤ q .height
-    → execute P q m next (top 5 (q .height) s) Next ≡ repeatedEffect (P .areas) q m s next
+    → execute P q m next (topWords 5 (q .height) s) Next ≡ repeatedEffect (P .areas) q m s next
 unfolding execute
 next-found P q m s next l =
     rw (

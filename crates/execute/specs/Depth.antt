@@ -14,8 +14,8 @@ use Rattle.effect.specs.Data.{baseOf, storeTo}
 use Rattle.control.specs.Control.{iterates, repeats}
 
 -- The top n words of a stack of some height, the lowest first.
-abbrev pub top : ℕ → ℕ → List ℕ → List ℕ
-top n height s = take n (drop (height - n) s)
+abbrev pub topWords : ℕ → ℕ → List ℕ → List ℕ
+topWords n height s = take n (drop (height - n) s)
 
 abbrev pub deep : Registers → List ℕ → ℕ → ℕ
 deep q s depth = read s (q .height - depth)

@@ -18,7 +18,7 @@ use Rattle.effect.specs.declared.effect.Effect.{Effect}
 use Rattle.effect.specs.declared.effect.Effect.the-variants.{Go}
 use Rattle.registers.specs.Program.{Program}
 use Rattle.registers.specs.Memory.{read}
-use Rattle.registers.specs.Words.{moved}
+use Rattle.registers.specs.Changes.{moved}
 use Rattle.effect.specs.Data.{baseOf, loadFrom, addressOf, storeTo, gives, valued, inverted, allocated, freed}
 use Rattle.control.specs.Control.{jumps, jumpsIfFalse, jumpsKeeping, iterates, repeats, switches, searches, calls, enters, returns}
 

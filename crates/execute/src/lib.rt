@@ -12,7 +12,7 @@ ghost use Prim.Native.Nat.{ℕ};
 ghost use Rattle.execute.specs.Execute.{execute};
 ghost use Rattle.execute.specs.Group.{groupOf};
 ghost use Rattle.registers.specs.Program.{Program, framesStart, program};
-ghost use Rattle.execute.specs.Depth.{top, storedEffect, iteratedEffect, repeatedEffect};
+ghost use Rattle.execute.specs.Depth.{topWords, storedEffect, iteratedEffect, repeatedEffect};
 use effect::data;
 use effect::effect::Effect;
 use effect::effect::Push;
@@ -172,7 +172,7 @@ pub fn group_of(i: Instruction) -> Group
 pub fn given_effect(q: Registers, m: &[u32], s: &[u32], next: u32, i: Instruction) -> Effect
     requires { ⌜ groupOf i ≡ Group.Gives ⌝ }
     requires { ⌜ needed i ≤ q .height ⌝ }
-    ensures { λ e. ⌜ ((P : Program) → e ≡ execute P q (now (m .entry)) next (top (needed i) (q .height) (now (s .entry))) i) ⌝ }
+    ensures { λ e. ⌜ ((P : Program) → e ≡ execute P q (now (m .entry)) next (topWords (needed i) (q .height) (now (s .entry))) i) ⌝ }
 {
     match i {
         Instruction::LoadConstant(n) => data::given(q, next, 0, n),
@@ -267,7 +267,7 @@ pub fn given_effect(q: Registers, m: &[u32], s: &[u32], next: u32, i: Instructio
 pub fn gone_effect(q: Registers, s: &[u32], next: u32, i: Instruction) -> Effect
     requires { ⌜ groupOf i ≡ Group.Goes ⌝ }
     requires { ⌜ needed i ≤ q .height ⌝ }
-    ensures { λ e. ⌜ ((P : Program) (m : List ℕ) → e ≡ execute P q m next (top (needed i) (q .height) (now (s .entry))) i) ⌝ }
+    ensures { λ e. ⌜ ((P : Program) (m : List ℕ) → e ≡ execute P q m next (topWords (needed i) (q .height) (now (s .entry))) i) ⌝ }
 {
     match i {
         Instruction::Pop(n) => control::jump_to(q, n, next),
@@ -304,7 +304,7 @@ pub fn stored_effect(
     requires { ⌜ chained (now m) (framesStart areas) (q .fp) (q .calls) ≡ true ⌝ }
     requires { ⌜ groupOf i ≡ Group.Stores ⌝ }
     requires { ⌜ needed i ≤ q .height ⌝ }
-    ensures { λ e. ⌜ ((code : List ℕ) → e ≡ execute (program code areas) q (now (m .entry)) next (top (needed i) (q .height) (now (s .entry))) i) ⌝ }
+    ensures { λ e. ⌜ ((code : List ℕ) → e ≡ execute (program code areas) q (now (m .entry)) next (topWords (needed i) (q .height) (now (s .entry))) i) ⌝ }
 {
     match i {
         Instruction::Store(base, mode, offset) => store_effect(
@@ -335,7 +335,7 @@ pub fn other_effect(
     requires { ⌜ q .pc < 4096 ⌝ }
     requires { ⌜ groupOf i ≡ Group.Others ⌝ }
     requires { ⌜ needed i ≤ q .height ⌝ }
-    ensures { λ e. ⌜ e ≡ execute (program (now (code .entry)) areas) q (now (m .entry)) next (top (needed i) (q .height) (now (s .entry))) i ⌝ }
+    ensures { λ e. ⌜ e ≡ execute (program (now (code .entry)) areas) q (now (m .entry)) next (topWords (needed i) (q .height) (now (s .entry))) i ⌝ }
 {
     match i {
         Instruction::Alloc => data::allocated(q, m, next, top_word(s, q)),

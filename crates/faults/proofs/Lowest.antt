@@ -12,7 +12,7 @@ use Rattle.opcode.specs.Decode.{decodeAt}
 use Rattle.opcode.specs.declared.Decoded.{Decoded}
 use Rattle.opcode.specs.declared.Decoded.the-variants.{Unserved, Past, At}
 use Rattle.layout.specs.Cut.{Marks}
-use Rattle.faults.specs.Faults.{Test, testIn, testAt, anyFrom, anywhere, strays, misplaced, uncallable, codeNumber}
+use Rattle.faults.specs.Faults.{FaultTest, testIn, testAt, anyFrom, anywhere, strays, misplaced, uncallable, codeNumber}
 use Rattle.faults.specs.OnePass.{faultOf, faultIn, faultAt, lower}
 
 -- 12, 13 or 14 by three tests.
@@ -71,7 +71,7 @@ module _ (code : List ℕ) (marks : Marks) where
       let e : suc p - 1 ≡ p = omega arith in
       rw e (three-in p at (decodeAt code (regionEnd code p) at))
 
-  abbrev tested : Test → ℕ → Bool
+  abbrev tested : FaultTest → ℕ → Bool
   tested test at = testAt code (marks at) test at
 
   -- The number over the first n offsets.
@@ -84,9 +84,9 @@ module _ (code : List ℕ) (marks : Marks) where
   number-next n =
       let s : n + 1 ≡ suc n = omega arith in
       let z : 0 + n ≡ n = omega arith in
-      let any : (test : Test) → anyFrom (tested test) 0 (suc n) ≡ (anyFrom (tested test) 0 n || tested test n) =
+      let any : (test : FaultTest) → anyFrom (tested test) 0 (suc n) ≡ (anyFrom (tested test) 0 n || tested test n) =
       λ test. rw z at (any-last (tested test) 0 n) in
-      let any0 : Test → Bool = λ test. anyFrom (tested test) 0 n in
+      let any0 : FaultTest → Bool = λ test. anyFrom (tested test) 0 n in
       rw (s, any (strays code marks), any (misplaced code), any (uncallable code))
       (lower-three
       (any0 (strays code marks)) (any0 (misplaced code)) (any0 (uncallable code))

@@ -57,15 +57,15 @@ uncallable code p at next (Begin par) = false
 uncallable code p at next Return = false
 
 -- A test of an instruction by its procedure, its offset, the next one and its shape. Only starts are looked at.
-abbrev pub Test : Type 0
-Test = ℕ → ℕ → ℕ → Shape → Bool
+abbrev pub FaultTest : Type 0
+FaultTest = ℕ → ℕ → ℕ → Shape → Bool
 
-abbrev pub testIn : Test → ℕ → ℕ → Decoded → Bool
+abbrev pub testIn : FaultTest → ℕ → ℕ → Decoded → Bool
 testIn test p at Unserved = false
 testIn test p at Past = false
 testIn test p at (At i next) = test p at next (shapeOf i)
 
-abbrev pub testAt : List ℕ → ℕ → Test → ℕ → Bool
+abbrev pub testAt : List ℕ → ℕ → FaultTest → ℕ → Bool
 testAt code zero test at = false
 testAt code (suc p) test at = testIn test p at (decodeAt code (regionEnd code p) at)
 
@@ -73,7 +73,7 @@ abbrev pub anyFrom : (ℕ → Bool) → ℕ → ℕ → Bool
 anyFrom f at zero = false
 anyFrom f at (suc n) = f at || anyFrom f (at + 1) n
 
-unfoldable pub anywhere : List ℕ → Marks → Test → Bool
+unfoldable pub anywhere : List ℕ → Marks → FaultTest → Bool
 anywhere code marks test = anyFrom (λ at. testAt code (marks at) test at) 0 (length code)
 
 unfoldable pub codeNumber : List ℕ → Marks → ℕ

@@ -18,7 +18,7 @@ use Rattle.effect.specs.declared.effect.Push.{Push}
 use Rattle.effect.specs.declared.effect.Push.the-variants.{NoPush, PushOne, PushTwo}
 use Rattle.registers.specs.Program.{program}
 use Rattle.effect.specs.Data.{pushes}
-use Rattle.execute.specs.Depth.{top}
+use Rattle.execute.specs.Depth.{topWords}
 use Rattle.execute.specs.Execute.{execute}
 use Rattle.step.specs.declared.Machine.{Machine}
 use Rattle.step.specs.declared.Outcome.the-variants.{Trapped}
@@ -72,7 +72,7 @@ module _ (M : Machine) (m s : List ℕ) where
       by Past = trapped 21
       by (At i next) =
           careful-cond (ltb (M .registers .height) (needed i)) _ _ (trapped 22)
-          (settled-careful (length code) (execute (program code (M .areas)) (M .registers) m next (top (needed i) (M .registers .height) s) i))
+          (settled-careful (length code) (execute (program code (M .areas)) (M .registers) m next (topWords (needed i) (M .registers .height) s) i))
 
 pub trapped-step : TrappedStep
 trapped-step code M m s n e = step-careful M m s code .undone n e

@@ -9,6 +9,7 @@ use Rattle.record.specs.declared.Line.the-variants.{Refused}
 use Rattle.record.specs.declared.Line.the-variants as line
 use Rattle.opcode.specs.declared.Decoded.{Decoded}
 use Rattle.opcode.specs.declared.Decoded.the-variants.{Unserved, Past, At}
+use Rattle.report.specs.Report.{Output, output}
 use Rattle.mnemonic.specs.Mnemonic.{mnemonicNumber, modeNumber, operandOf, secondOf}
 
 -- The number that refuses the record in the upper 32 bits; or 0 there, and the line in the lower ones.
@@ -16,22 +17,14 @@ abbrev pub lineCode : Line → ℕ
 lineCode (Refused n) = n * 0x1_0000_0000
 lineCode (line.At n) = n
 
--- What decoding answers, and what it leaves in `out`.
-pub record Decoding : Type 0 where
-  pub answer : ℕ
-  pub out : List ℕ
-
-abbrev pub decoding : ℕ → List ℕ → Decoding
-decoding a out = record { answer = a; out = out }
-
 -- 10 for an unserved instruction, 11 for one that runs past the limit; or 0, and the number of its mnemonic, its mode, its operands,
 -- and its length in bytes, a prefix counted in.
-abbrev pub decodeAnswer : Decoded → ℕ → List ℕ → Decoding
-decodeAnswer Unserved at out = decoding 10 out
-decodeAnswer Past at out = decoding 11 out
+abbrev pub decodeAnswer : Decoded → ℕ → List ℕ → Output
+decodeAnswer Unserved at out = output 10 out
+decodeAnswer Past at out = output 11 out
 decodeAnswer (At i next) at out =
-    decoding 0 (mnemonicNumber i ∷ modeNumber i ∷ operandOf i ∷ secondOf i ∷ (next - at) ∷ [])
+    output 0 (mnemonicNumber i ∷ modeNumber i ∷ operandOf i ∷ secondOf i ∷ (next - at) ∷ [])
 
 -- First 8, where `out` has not five words.
-unfoldable pub decodeReply : Decoded → ℕ → List ℕ → Decoding
-decodeReply d at out = cond (eqb (length out) 5) (decodeAnswer d at out) (decoding 8 out)
+unfoldable pub decodeReply : Decoded → ℕ → List ℕ → Output
+decodeReply d at out = cond (eqb (length out) 5) (decodeAnswer d at out) (output 8 out)

@@ -2,9 +2,10 @@
 ghost use mathlib.Core.Path.{_≡_};
 ghost use Rattle.record.specs.Number.{recordNumber, lineOf};
 ghost use Rattle.opcode.specs.Decode.{decodeAt};
-ghost use Rattle.verifier.specs.Check.{checking, checkOf};
-ghost use Rattle.report.specs.Report.{reported, printed, textOf};
-ghost use Rattle.icode.specs.Interface.{lineCode, decoding, decodeReply};
+ghost use Rattle.verifier.specs.Check.{checkOf};
+ghost use Rattle.workspace.specs.Checking.{checking};
+ghost use Rattle.report.specs.Report.{output, printed, textOf};
+ghost use Rattle.icode.specs.Interface.{lineCode, decodeReply};
 
 pub mod bench;
 
@@ -39,7 +40,7 @@ pub extern "C" fn icode_check(bytes: &[u8], results: &[u8], workspace: &mut [u16
 // Run-and-report with memory and stack of its own.
 #[no_mangle]
 pub extern "C" fn icode_report(file: &[u8], out: &mut [u8]) -> usize
-    ensures { λ n. ⌜ reported n (now (out .exit)) ≡ printed (textOf (now (file .entry))) (now (out .entry)) ⌝ }
+    ensures { λ n. ⌜ output n (now (out .exit)) ≡ printed (textOf (now (file .entry))) (now (out .entry)) ⌝ }
 {
     let mut workspace = [0u16; 16384];
     let mut memory = [0u32; 4096];
@@ -50,7 +51,7 @@ pub extern "C" fn icode_report(file: &[u8], out: &mut [u8]) -> usize
 // For the tests: the instruction at a place of the code, within a limit.
 #[no_mangle]
 pub extern "C" fn icode_bench_decode(code: &[u8], limit: usize, at: usize, out: &mut [u32]) -> u32
-    ensures { λ n. ⌜ decoding n (now (out .exit)) ≡ decodeReply (decodeAt (now (code .entry)) limit at) at (now (out .entry)) ⌝ }
+    ensures { λ n. ⌜ output n (now (out .exit)) ≡ decodeReply (decodeAt (now (code .entry)) limit at) at (now (out .entry)) ⌝ }
 {
     if out.len() != 5 {
         return 8;

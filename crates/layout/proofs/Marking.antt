@@ -14,7 +14,8 @@ use Rattle.opcode.specs.Decode.{decodeAt}
 use Rattle.opcode.specs.declared.Decoded.{Decoded}
 use Rattle.opcode.specs.declared.Decoded.the-variants.{Unserved, Past, At}
 use Rattle.layout.specs.Cut.{Marks, updated, Cut, bad, cut, cutAt, cutFrom, thenCut, cutProcedures, cutOf}
-use Rattle.layout.specs.Workspace.{marksIn, Numbered, numbered, markAt, markFrom, markRegion, thenMark, markProcedures, markAll}
+use Rattle.layout.specs.Workspace.{marksIn, markAt, markFrom, markRegion, thenMark, markProcedures, markAll}
+use Rattle.workspace.specs.Checking.{Checking, checking}
 use Rattle.layout.proofs.Ordered.{ordered}
 
 -- A place is no mark of any region.
@@ -39,9 +40,9 @@ module _ (code : List ℕ) where
   }
 
   keeps-at :
-      (p at : ℕ) (w : List ℕ) (go : ℕ → List ℕ → Numbered) (b : Bool) (d : Decoded) → ltb at (regionEnd code p) ≡ b →
+      (p at : ℕ) (w : List ℕ) (go : ℕ → List ℕ → Checking) (b : Bool) (d : Decoded) → ltb at (regionEnd code p) ≡ b →
       ((next : ℕ) (v : List ℕ) → Keeps code v (go next v .workspace)) →
-      Keeps code w (cond b (markAt go p at w d) (numbered 0 w) .workspace)
+      Keeps code w (cond b (markAt go p at w d) (checking 0 w) .workspace)
   keeps-at p at w go false d t rest = keeps-all w
   keeps-at p at w go true Unserved t rest = keeps-all w
   keeps-at p at w go true Past t rest = keeps-all w
@@ -58,7 +59,7 @@ module _ (code : List ℕ) where
   keeps-region p w = keeps-from p (length code) (entryAt code p) w
 
   keeps-next :
-      (go : List ℕ → Numbered) (n : ℕ) (v w : List ℕ) → Keeps code v w → ((w : List ℕ) → Keeps code w (go w .workspace)) →
+      (go : List ℕ → Checking) (n : ℕ) (v w : List ℕ) → Keeps code v w → ((w : List ℕ) → Keeps code w (go w .workspace)) →
       Keeps code v (thenMark go n w .workspace)
   keeps-next go zero v w k rest = keeps-then v w _ k (rest w)
   keeps-next go (suc n) v w k rest = k
@@ -102,20 +103,20 @@ marked :
 marked w size at x h l = fun-ext (λ a. marked-at (eqb a at) w size at x a refl h l)
 
 -- A cut and what marking leaves say the same.
-data Same (size : ℕ) : Cut → Numbered → Type 0 where
-  same-cut : (w : List ℕ) → 4 * size ≤ length w → Same size (cut (marksIn w size)) (numbered 0 w)
-  same-bad : (n : ℕ) (w : List ℕ) → Same size (bad (suc n)) (numbered (suc n) w)
+data Same (size : ℕ) : Cut → Checking → Type 0 where
+  same-cut : (w : List ℕ) → 4 * size ≤ length w → Same size (cut (marksIn w size)) (checking 0 w)
+  same-bad : (n : ℕ) (w : List ℕ) → Same size (bad (suc n)) (checking (suc n) w)
 
-same-zero : (size : ℕ) {c : Cut} {r : Numbered} → Same size c r → r .number ≡ 0 → c ≡ cut (marksIn (r .workspace) size)
+same-zero : (size : ℕ) {c : Cut} {r : Checking} → Same size c r → r .number ≡ 0 → c ≡ cut (marksIn (r .workspace) size)
 same-zero size (same-cut w h) e = refl
 same-zero size (same-bad n w) e = absurd (omega arith)
 
-same-number : (size : ℕ) {c : Cut} {r : Numbered} → Same size c r → (n : ℕ) → r .number ≡ suc n → c ≡ bad (suc n)
+same-number : (size : ℕ) {c : Cut} {r : Checking} → Same size c r → (n : ℕ) → r .number ≡ suc n → c ≡ bad (suc n)
 same-number size (same-cut w h) n e = absurd (omega arith)
 same-number size (same-bad k w) n e = rw (← e)
 
 same-then :
-    (size : ℕ) {c : Cut} {r : Numbered} (go : Marks → Cut) (go′ : List ℕ → Numbered) → Same size c r →
+    (size : ℕ) {c : Cut} {r : Checking} (go : Marks → Cut) (go′ : List ℕ → Checking) → Same size c r →
     ((w : List ℕ) → 4 * size ≤ length w → Same size (go (marksIn w size)) (go′ w)) →
     Same size (thenCut go c) (thenMark go′ (r .number) (r .workspace))
 same-then size go go′ (same-cut w h) rest = rest w h
@@ -123,12 +124,12 @@ same-then size go go′ (same-bad n w) rest = same-bad n w
 
 module _ (code : List ℕ) (s : entriesSound code ≡ true) where
   same-at :
-      (p at : ℕ) (w : List ℕ) (go : ℕ → Marks → Cut) (go′ : ℕ → List ℕ → Numbered) (b : Bool) (d : Decoded) →
+      (p at : ℕ) (w : List ℕ) (go : ℕ → Marks → Cut) (go′ : ℕ → List ℕ → Checking) (b : Bool) (d : Decoded) →
       4 * length code ≤ length w → ltb at (regionEnd code p) ≡ b →
       ((next : ℕ) (v : List ℕ) → 4 * length code ≤ length v → Same (length code) (go next (marksIn v (length code))) (go′ next v)) →
       Same (length code)
       (cond b (cutAt go p at (marksIn w (length code)) d) (cut (marksIn w (length code))))
-      (cond b (markAt go′ p at w d) (numbered 0 w))
+      (cond b (markAt go′ p at w d) (checking 0 w))
   same-at p at w go go′ false d h t rest = same-cut w h
   same-at p at w go go′ true Unserved h t rest = same-bad 9 w
   same-at p at w go go′ true Past h t rest = same-bad 10 w

@@ -12,7 +12,8 @@ use Rattle.opcode.specs.Decode.{decodeAt}
 use Rattle.opcode.specs.declared.Decoded.{Decoded}
 use Rattle.opcode.specs.declared.Decoded.the-variants.{At}
 use Rattle.opcode.specs.declared.instruction.Instruction.{Instruction}
-use Rattle.layout.specs.Workspace.{Numbered, numbered, markAt, markFrom, markRegion, thenMark, markProcedures, markAll}
+use Rattle.layout.specs.Workspace.{markAt, markFrom, markRegion, thenMark, markProcedures, markAll}
+use Rattle.workspace.specs.Checking.{Checking, checking}
 use Rattle.opcode.proofs.Found.{ends}
 
 -- In a region, k instructions are marked and `at` is reached.
@@ -28,11 +29,11 @@ region-start code p w at e h =
     record { rest = rw (z, e); near = h; kept = refl }
 
 module _ (code : List ℕ) (p : ℕ) (before w : List ℕ) (at k : ℕ) (r : Region code p before w at k) where
-  pub region-spent : length code ≤ k → numbered 0 w ≡ markRegion code p before
+  pub region-spent : length code ≤ k → checking 0 w ≡ markRegion code p before
   region-spent h = rw (sub-eq-zero-of-le h) at (r .rest)
 
   module _ (limit : ℕ) (l : limit ≡ regionEnd code p) (h : k < length code) where
-    pub region-over : limit ≤ at → numbered 0 w ≡ markRegion code p before
+    pub region-over : limit ≤ at → checking 0 w ≡ markRegion code p before
     region-over q = rw (one-left k (length code) h, le-ltb at (regionEnd code p) (rw l at q)) at (r .rest)
 
     -- The instruction at `at`, whatever it is, decides.
@@ -61,7 +62,7 @@ pub regions-start : (code w : List ℕ) → Regions code w w 1
 unfolding markAll
 regions-start code w = record { rest = refl; kept = refl }
 
-then-some : (go : List ℕ → Numbered) (n : ℕ) (w : List ℕ) → (n ≡ 0 → ⊥) → thenMark go n w ≡ numbered n w
+then-some : (go : List ℕ → Checking) (n : ℕ) (w : List ℕ) → (n ≡ 0 → ⊥) → thenMark go n w ≡ checking n w
 then-some go zero w h = absurd (h refl)
 then-some go (suc n) w h = refl
 
@@ -69,11 +70,11 @@ module _ (code before w : List ℕ) (p : ℕ) (r : Regions code before w p) wher
   pub regions-last : entryCount code ≤ p → markRegion code 0 w ≡ markAll code before
   regions-last h = rw (sub-eq-zero-of-le h) at (r .rest)
 
-  module _ (h : p < entryCount code) (n : ℕ) (w′ : List ℕ) (e : numbered n w′ ≡ markRegion code p w) where
+  module _ (h : p < entryCount code) (n : ℕ) (w′ : List ℕ) (e : checking n w′ ≡ markRegion code p w) where
     regions-turn : thenMark (markProcedures code (p + 1) (entryCount code - (p + 1))) n w′ ≡ markAll code before
     regions-turn = rw (one-left p (entryCount code) h, ← e) at (r .rest)
 
-    pub regions-bad : (n ≡ 0 → ⊥) → numbered n w′ ≡ markAll code before
+    pub regions-bad : (n ≡ 0 → ⊥) → checking n w′ ≡ markAll code before
     regions-bad some = sym (then-some _ n w′ some) ∙ regions-turn
 
     pub regions-next : n ≡ 0 → length w′ ≡ length w → Regions code before w′ (p + 1)

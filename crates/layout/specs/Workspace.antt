@@ -9,42 +9,35 @@ use Rattle.entries.specs.Entries.{entryAt, entryCount, regionEnd}
 use Rattle.opcode.specs.Decode.{decodeAt}
 use Rattle.opcode.specs.declared.Decoded.{Decoded}
 use Rattle.opcode.specs.declared.Decoded.the-variants.{Unserved, Past, At}
+use Rattle.workspace.specs.Checking.{Checking, checking}
 use Rattle.layout.specs.Cut.{Marks}
 
 -- The marks that a workspace holds for so many code bytes.
 abbrev pub marksIn : List ℕ → ℕ → Marks
 marksIn w size at = cond (ltb at size) (getD w (4 * at + 3) 0) 0
 
--- A number, 0 for none, and the workspace left with it.
-pub record Numbered : Type 0 where
-  pub number : ℕ
-  pub workspace : List ℕ
-
-abbrev pub numbered : ℕ → List ℕ → Numbered
-numbered n w = record { number = n; workspace = w }
-
-abbrev pub markAt : (ℕ → List ℕ → Numbered) → ℕ → ℕ → List ℕ → Decoded → Numbered
-markAt go p at w Unserved = numbered 10 w
-markAt go p at w Past = numbered 11 w
+abbrev pub markAt : (ℕ → List ℕ → Checking) → ℕ → ℕ → List ℕ → Decoded → Checking
+markAt go p at w Unserved = checking 10 w
+markAt go p at w Past = checking 11 w
 markAt go p at w (At i next) = go next (set w (4 * at + 3) (p + 1))
 
-abbrev pub markFrom : List ℕ → ℕ → ℕ → ℕ → List ℕ → Numbered
-markFrom code p zero at w = numbered 0 w
+abbrev pub markFrom : List ℕ → ℕ → ℕ → ℕ → List ℕ → Checking
+markFrom code p zero at w = checking 0 w
 markFrom code p (suc n) at w =
-    cond (ltb at (regionEnd code p)) (markAt (markFrom code p n) p at w (decodeAt code (regionEnd code p) at)) (numbered 0 w)
+    cond (ltb at (regionEnd code p)) (markAt (markFrom code p n) p at w (decodeAt code (regionEnd code p) at)) (checking 0 w)
 
-unfoldable pub markRegion : List ℕ → ℕ → List ℕ → Numbered
+unfoldable pub markRegion : List ℕ → ℕ → List ℕ → Checking
 markRegion code p w = markFrom code p (length code) (entryAt code p) w
 
-abbrev pub thenMark : (List ℕ → Numbered) → ℕ → List ℕ → Numbered
+abbrev pub thenMark : (List ℕ → Checking) → ℕ → List ℕ → Checking
 thenMark go zero w = go w
-thenMark go (suc n) w = numbered (suc n) w
+thenMark go (suc n) w = checking (suc n) w
 
-abbrev pub markProcedures : List ℕ → ℕ → ℕ → List ℕ → Numbered
+abbrev pub markProcedures : List ℕ → ℕ → ℕ → List ℕ → Checking
 markProcedures code p zero w = markRegion code 0 w
 markProcedures code p (suc n) w =
     let a = markRegion code p w in
     thenMark (markProcedures code (p + 1) n) (a .number) (a .workspace)
 
-unfoldable pub markAll : List ℕ → List ℕ → Numbered
+unfoldable pub markAll : List ℕ → List ℕ → Checking
 markAll code w = markProcedures code 1 (entryCount code - 1) w

@@ -3,7 +3,8 @@ ghost use mathlib.Core.Path.{_≡_};
 ghost use Prim.Native.Nat.{_≤_, _<_};
 ghost use lib.ListN.{length};
 ghost use Rattle.layout.specs.Cut.{startsIn};
-ghost use Rattle.layout.specs.Workspace.{marksIn, numbered, markRegion, markAll};
+ghost use Rattle.layout.specs.Workspace.{marksIn, markRegion, markAll};
+ghost use Rattle.workspace.specs.Checking.{checking};
 use opcode::Decoded;
 
 // The mark of an offset, 0 outside of so many code bytes.
@@ -30,7 +31,7 @@ pub fn starts_in(w: &[u16], size: usize, p: u32, at: usize) -> bool
 fn cut_region(code: &[u8], p: u32, w: &mut [u16]) -> u32
     requires { ⌜ length (now code) ≤ 65535 ⌝ }
     requires { ⌜ p < 65535 ⌝ }
-    ensures { λ n. ⌜ numbered n (now (w .exit)) ≡ markRegion (now (code .entry)) p (now (w .entry)) ⌝ }
+    ensures { λ n. ⌜ checking n (now (w .exit)) ≡ markRegion (now (code .entry)) p (now (w .entry)) ⌝ }
 {
     let limit = entries::region_end(code, p);
     let mut at = entries::entry_at(code, p) as usize;
@@ -57,7 +58,7 @@ fn cut_region(code: &[u8], p: u32, w: &mut [u16]) -> u32
 // All regions, in the order 1, 2, .., 0.
 pub fn cut_all(code: &[u8], w: &mut [u16]) -> u32
     requires { ⌜ length (now code) ≤ 65535 ⌝ }
-    ensures { λ n. ⌜ numbered n (now (w .exit)) ≡ markAll (now (code .entry)) (now (w .entry)) ⌝ }
+    ensures { λ n. ⌜ checking n (now (w .exit)) ≡ markAll (now (code .entry)) (now (w .entry)) ⌝ }
 {
     let count = entries::entry_count(code);
     for p in 1..count {

@@ -5,12 +5,12 @@ use mathlib.Core.Bool.{Bool, true, false, cond, _&&_}
 use mathlib.Core.List.{List, [], _∷_, _++_}
 use native.Mathlib.Omega.{arith}
 use lib.Dec.{eqb, leb}
-use lib.ListN.{length, take, replicate, set, length-append, length-replicate, List·getD-append, List·getD-eq-default}
-use lib.Seq.{getD-append-add, take-suc, take-suc-set, take-all}
+use lib.ListN.{length, replicate, length-append, length-replicate, List·getD-append, List·getD-eq-default}
+use lib.Seq.{getD-append-add}
 use borrow.Author.Tests.{eqb-true, eqb-false, leb-true, le-leb, lt-leb, eq-eqb, ne-eqb}
 use Rattle.words.specs.Bytes.{wordAt, wordsFrom}
 use Rattle.words.proofs.Tests.{both-true}
-use Rattle.words.proofs.Words.{words-at, words-count}
+use Rattle.words.proofs.Series.{series-at, series-length}
 use Rattle.record.proofs.Sound.{sound-sizes}
 use Rattle.record.specs.declared.Reading.the-variants.{Sound, Refused as NotRead}
 use Rattle.header.specs.declared.Header.{Header}
@@ -119,14 +119,14 @@ module _ (r ps : List ℕ) (h : Header) (e : h ≡ headerOf r) where
 
   pub word-constant : (i : ℕ) → 3 ≤ i → length ps ≤ h .globals → h .globals ≤ i - 3 → i - 3 - h .globals < h .constants →
       read (initialData r ps) i ≡ wordAt r (constantsAt h + 4 * (i - 3 - h .globals))
-  word-constant i l k g c = past-globals i l k g ∙ words-at r (constantsAt h) (h .constants) (i - 3 - h .globals) c
+  word-constant i l k g c = past-globals i l k g ∙ series-at (wordAt r) 4 (constantsAt h) (h .constants) (i - 3 - h .globals) c
 
   pub word-past : (i : ℕ) → 3 ≤ i → length ps ≤ h .globals → h .globals ≤ i - 3 → h .constants ≤ i - 3 - h .globals →
       read (initialData r ps) i ≡ 0
   word-past i l k g c =
       past-globals i l k g
       ∙ List·getD-eq-default (wordsFrom r (constantsAt h) (h .constants)) 0 {n = i - 3 - h .globals}
-      (rw (words-count r (constantsAt h) (h .constants)) c)
+      (rw (series-length (wordAt r) 4 (constantsAt h) (h .constants)) c)
 
 pub loaded-word : (r ps : List ℕ) (size i : ℕ) → read (loadedMemory r ps size) i ≡ read (initialData r ps) i
 unfolding loadedMemory
@@ -135,17 +135,7 @@ loaded-word r ps size i = zeros-behind (initialData r ps) (size - framesStart (a
 pub loaded-length : (r ps : List ℕ) (size : ℕ) → length ps ≤ headerOf r .globals → framesStart (areasOf r) ≤ size →
     length (loadedMemory r ps size) ≡ size
 unfolding loadedMemory initialData constantWords
-loaded-length r ps size h f = simp (length-append, length-replicate, words-count) (omega arith)
-
--- Memory that is filled up to a place: one word more, and all of it.
-pub filled-next : (m target : List ℕ) (i x : ℕ) → take i m ≡ take i target → i < length m → length m ≡ length target →
-    x ≡ read target i → take (i + 1) (set m i x) ≡ take (i + 1) target
-filled-next m target i x same l n e =
-    let next : i + 1 ≡ suc i = omega arith in
-    rw next (take-suc-set m i x l ∙ rw (same, e) (sym (take-suc target i 0 (omega arith))))
-
-pub filled-all : (m target : List ℕ) (i : ℕ) → take i m ≡ take i target → length m ≤ i → length m ≡ length target → m ≡ target
-filled-all m target i same l n = sym (take-all i m l) ∙ same ∙ take-all i target (omega arith)
+loaded-length r ps size h f = simp (length-append, length-replicate, series-length) (omega arith)
 
 -- What load answers: by whether it has a number.
 module _ (r ps m s : List ℕ) where

@@ -13,7 +13,7 @@ use Rattle.record.specs.Number.{afterRecord}
 use Rattle.registers.specs.declared.Registers.{Registers}
 use Rattle.load.specs.declared.Loaded.{Loaded}
 use Rattle.load.specs.declared.Loaded.the-variants.{Refused, Ready}
-use Rattle.registers.specs.Program.{Program, programOf, areasOf, constantsStart, framesStart}
+use Rattle.registers.specs.Program.{Program, programOf, areasOf, globalsStart, constantsStart, framesStart}
 use Rattle.state.specs.Fits.{sizesTaken}
 
 unfoldable pub constantWords : List ℕ → List ℕ
@@ -32,7 +32,7 @@ loadedMemory r parameters size = initialData r parameters ++ replicate (size - f
 -- 01: "The stack starts empty, PC at procedure 0's entry, no call active."
 unfoldable pub startOf : Program → Registers
 startOf P =
-    record { pc = entryAt (P .code) 0; fp = framesStart (P .areas); mp = framesStart (P .areas); gp = 3; height = 0; calls = 0 }
+    record { pc = entryAt (P .code) 0; fp = framesStart (P .areas); mp = framesStart (P .areas); gp = globalsStart; height = 0; calls = 0 }
 
 -- Numbers 1 to 8.
 unfoldable pub loadNumber : List ℕ → List ℕ → List ℕ → List ℕ → ℕ

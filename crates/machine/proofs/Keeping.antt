@@ -21,7 +21,7 @@ use Rattle.registers.specs.declared.Registers.{Registers}
 use Rattle.registers.specs.Program.{constantsStart, framesStart}
 use Rattle.registers.specs.Memory.{read, savedFp, isLink, chained, live, protects}
 use Rattle.effect.specs.Data.{protectsAny, storable, stored}
-use Rattle.registers.specs.Words.{moved, sized, called, returned}
+use Rattle.registers.specs.Changes.{moved, sized, called, returned}
 use Rattle.registers.proofs.Links.{chain-lower, chain-rest}
 use Rattle.registers.proofs.Protected.{free-above}
 use Rattle.step.specs.Step.{written}

@@ -30,9 +30,10 @@ use Rattle.registers.specs.declared.Registers.{Registers}
 use Rattle.registers.specs.Program.{program}
 use Rattle.registers.specs.Memory.{read, live, protects}
 use Rattle.effect.specs.Data.{pushes, baseOf, loaded, loadFrom, addressOf, storeTo, valued, inverted, allocated, freed}
-use Rattle.registers.specs.Words.{moved, called}
-use Rattle.control.specs.Control.{jumped, jumps, jumpsIfFalse, jumpsKeeping, beyond, iterates, nextSum, wentRound, summed, repeats, switches, searches, calls, enters, returns}
-use Rattle.execute.specs.Depth.{top}
+use Rattle.registers.specs.Changes.{moved, called}
+use Rattle.operand.specs.Distance.{placeAt}
+use Rattle.control.specs.Control.{jumps, jumpsIfFalse, jumpsKeeping, beyond, iterates, nextSum, wentRound, summed, repeats, switches, searches, calls, enters, returns}
+use Rattle.execute.specs.Depth.{topWords}
 use Rattle.execute.specs.Execute.{execute}
 use Rattle.step.specs.Step.{After, after, written, pushed, settled, performed, stepOf}
 use Rattle.step.specs.declared.Machine.{Machine}
@@ -51,9 +52,9 @@ module _ (code : List ℕ) (A : Areas) (q : Registers) (m s : List ℕ) (F : Fit
   kept-jump : (when d b next : ℕ) → Keeps A q m (jumpsKeeping q next when d b)
   unfolding jumpsKeeping
   kept-jump when d b next =
-      tested (ltb b 2) (cond (eqb b when) (Go 0 NoPush NoWrite (moved q (jumped q d))) (Go 1 NoPush NoWrite (moved q next))) 34
-      (λ l. keeps-cond A q m (eqb b when) (Go 0 NoPush NoWrite (moved q (jumped q d))) (Go 1 NoPush NoWrite (moved q next))
-      (λ e. moved-keeps A q m s F 0 NoPush (jumped q d)) (λ e. moved-keeps A q m s F 1 NoPush next))
+      tested (ltb b 2) (cond (eqb b when) (Go 0 NoPush NoWrite (moved q (placeAt (q .pc) d))) (Go 1 NoPush NoWrite (moved q next))) 34
+      (λ l. keeps-cond A q m (eqb b when) (Go 0 NoPush NoWrite (moved q (placeAt (q .pc) d))) (Go 1 NoPush NoWrite (moved q next))
+      (λ e. moved-keeps A q m s F 0 NoPush (placeAt (q .pc) d)) (λ e. moved-keeps A q m s F 1 NoPush next))
 
   round-keeps : (next a l st label x : ℕ) → protects A q m a ≡ false → Keeps A q m (wentRound q next a l st label x)
   round-keeps next a l st label x h =
@@ -112,14 +113,14 @@ module _ (code : List ℕ) (A : Areas) (q : Registers) (m s : List ℕ) (F : Fit
       tested (leb (q .fp + read ws 0) (q .mp)) _ 38
       (λ l. sized-keeps A q m s F 1 NoPush next (q .mp - read ws 0) (omega (arith, leb-true (q .fp + read ws 0) (q .mp) l))
       (omega (arith, F .within)))
-  execute-keeps next ws (Jump d) = moved-keeps A q m s F 0 NoPush (jumped q d)
+  execute-keeps next ws (Jump d) = moved-keeps A q m s F 0 NoPush (placeAt (q .pc) d)
   execute-keeps next ws (JumpC d) =
-      tested (ltb (read ws 0) 2) _ 34 (λ l. moved-keeps A q m s F 1 NoPush (cond (eqb (read ws 0) 0) (jumped q d) next))
+      tested (ltb (read ws 0) 2) _ 34 (λ l. moved-keeps A q m s F 1 NoPush (cond (eqb (read ws 0) 0) (placeAt (q .pc) d) next))
   execute-keeps next ws (JumpT d) = kept-jump 1 d (read ws 0) next
   execute-keeps next ws (JumpF d) = kept-jump 0 d (read ws 0) next
   execute-keeps next ws (Iter d) =
       keeps-cond A q m (beyond (toZ w32 (read ws 3)) (toZ w32 (read ws 1)) (toZ w32 (read ws 2))) _ _
-      (λ e. moved-keeps A q m s F 4 NoPush (jumped q d))
+      (λ e. moved-keeps A q m s F 4 NoPush (placeAt (q .pc) d))
       (λ e. storable-keeps A q m s F (read ws 0) Normal _ (stored-keeps A q m s F (read ws 0) (read ws 1) 0 (PushOne next) next))
   execute-keeps next ws Next =
       tested (live q (read ws 0) 1) _ 32
@@ -156,8 +157,8 @@ module _ (code : List ℕ) (M : Machine) (m s : List ℕ) (F : Fitting (M .areas
   settled-holds size Finish k = still _
   settled-holds size (Go gone push write next) k =
       let h : ℕ = M .registers .height - gone + pushes push in
-      let n : List ℕ = written m (top gone (M .registers .height) s) write in
-      let y : Steady (M .areas) (M .registers) next m n = k (top gone (M .registers .height) s) in
+      let n : List ℕ = written m (topWords gone (M .registers .height) s) write in
+      let y : Steady (M .areas) (M .registers) next m n = k (topWords gone (M .registers .height) s) in
       holds-cond (M .areas) (M .registers) m (ltb (length s) h) _ _ (λ t. still _)
       (λ t. holds-cond (M .areas) (M .registers) m (ltb (next .pc) size) _ _
       (λ u. record {
@@ -187,7 +188,7 @@ module _ (code : List ℕ) (M : Machine) (m s : List ℕ) (F : Fitting (M .areas
   performed-holds (At i next) =
       holds-cond (M .areas) (M .registers) m (ltb (M .registers .height) (needed i)) _ _ (λ t. still _)
       (λ t. settled-holds (length code) _
-      (execute-keeps code (M .areas) (M .registers) m s F next (top (needed i) (M .registers .height) s) i))
+      (execute-keeps code (M .areas) (M .registers) m s F next (topWords (needed i) (M .registers .height) s) i))
 
   pub step-holds : Holds (M .areas) (M .registers) m (stepOf code M m s)
   unfolding stepOf

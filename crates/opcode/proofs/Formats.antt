@@ -5,6 +5,8 @@ use Prim.Native.Nat.{ℕ, zero, suc, _+_, _*_, _/_, _%_, _^_, _<_, _≤_}
 use native.Mathlib.Nat.{le-of-suc-le-suc, mul-le-mul}
 use native.Mathlib.Omega.{arith}
 use lib.ListN.{getD}
+use Rattle.words.specs.Series.{series}
+use Rattle.words.proofs.Series.{series-at}
 use Rattle.words.specs.Bytes.{byteAt, halfwordAt}
 use Rattle.operand.specs.Operand.{fixedOf, eachOf}
 use Rattle.opcode.specs.Table.{Row, row, unserved, normal, both, rowOf}
@@ -13,20 +15,8 @@ use Rattle.opcode.specs.declared.instruction.Mode.{Mode}
 use Rattle.opcode.specs.declared.instruction.Mode.the-variants.{Normal, Double}
 use Rattle.opcode.proofs.Rows.{Short, row-short}
 
--- The values of a function at n numbers from i on.
-abbrev pub values : (ℕ → ℕ) → ℕ → ℕ → List ℕ
-values f i zero = []
-values f i (suc n) = f i ∷ values f (suc i) n
-
-value-from : (f : ℕ → ℕ) (i n k : ℕ) → k < n → getD (values f i n) k 0 ≡ f (i + k)
-value-from f i zero k h = absurd (omega arith)
-value-from f i (suc n) zero h = let e : i + 0 ≡ i = omega arith in rw e
-value-from f i (suc n) (suc k) h =
-    let e : i + suc k ≡ suc i + k = omega arith in
-    rw e (value-from f (suc i) n k (le-of-suc-le-suc h))
-
-pub value-at : (f : ℕ → ℕ) (n k : ℕ) → k < n → getD (values f 0 n) k 0 ≡ f k
-value-at f n k h = let e : 0 + k ≡ k = omega arith in rw e at (value-from f 0 n k h)
+value-at : (f : ℕ → ℕ) (n k : ℕ) → k < n → getD (series f 1 0 n) k 0 ≡ f k
+value-at f n k h = let e : 0 + 1 * k ≡ k = omega arith in rw e at (series-at f 1 0 n k h)
 
 -- The mode is one that a format serves.
 pub data Marked (format : ℕ) : Mode → Type 0 where
@@ -79,7 +69,7 @@ unfolding rowOf
 format-below code h =
     let f : ℕ → ℕ = λ n. formatOf (rowOf n) in
     let g : ℕ → ℕ = λ n. f n % (32 * 11) in
-    let e : values f 0 256 ≡ values g 0 256 = refl in
+    let e : series f 1 0 256 ≡ series g 1 0 256 = refl in
     omega (arith, value-at f 256 code h, value-at g 256 code h, ap (λ (l : List ℕ). getD l code 0) e)
 
 module _ (code : List ℕ) (at format : ℕ) (e : format ≡ formatOf (rowOf (byteAt code at))) where

@@ -6,7 +6,7 @@ use Prim.Native.Nat.{ℕ, _+_}
 use lib.Dec.{eqb, ltb, leb}
 use Rattle.words.specs.Bytes.{byteAt}
 use Rattle.operand.specs.Operand.{operand, operand2}
-use Rattle.opcode.specs.Table.{Row, row, unserved, rowOf}
+use Rattle.opcode.specs.Table.{Row, row, unserved, doubleCode, rowOf}
 use Rattle.opcode.specs.Length.{lengthIn}
 use Rattle.opcode.specs.declared.Decoded.{Decoded}
 use Rattle.opcode.specs.declared.Decoded.the-variants.{Unserved, Past, At}
@@ -29,10 +29,10 @@ decodeIn m code limit at =
     cond (eqb (lengthIn m code at) 0) Unserved
     (cond (leb (at + lengthIn m code at) limit) (At (instructionAt m code at) (at + lengthIn m code at)) Past)
 
--- The instruction at a place, within a limit; bytes past the end of the list read as 0. DOUBLE is F5.
+-- The instruction at a place, within a limit; bytes past the end of the list read as 0.
 unfoldable pub decodeAt : List ℕ → ℕ → ℕ → Decoded
 decodeAt code limit at =
     cond (ltb at limit)
-    (cond (eqb (byteAt code at) 0xF5) (cond (ltb (at + 1) limit) (decodeIn Double code limit (at + 1)) Past)
+    (cond (eqb (byteAt code at) doubleCode) (cond (ltb (at + 1) limit) (decodeIn Double code limit (at + 1)) Past)
     (decodeIn Normal code limit at))
     Past

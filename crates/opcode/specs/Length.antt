@@ -5,7 +5,7 @@ use Prim.Native.Nat.{ℕ, _+_, _*_}
 use lib.Dec.{eqb}
 use Rattle.words.specs.Bytes.{byteAt}
 use Rattle.operand.specs.Operand.{extent, fixedOf, eachOf}
-use Rattle.opcode.specs.Table.{Row, row, unserved, rowOf, Modes, normal, both, allows}
+use Rattle.opcode.specs.Table.{Row, row, unserved, doubleCode, rowOf, Modes, normal, both, allows}
 use Rattle.opcode.specs.declared.instruction.Mode.{Mode}
 use Rattle.opcode.specs.declared.instruction.Mode.the-variants.{Normal, Double}
 
@@ -17,13 +17,13 @@ lengthOf (row operands modes make) m code at = cond (allows modes m) (extent ope
 unfoldable pub lengthIn : Mode → List ℕ → ℕ → ℕ
 lengthIn m code at = lengthOf (rowOf (byteAt code at)) m code at
 
--- The length with a prefix: 01, "prefix and instruction are one instruction". DOUBLE is F5.
+-- The length with a prefix: 01, "prefix and instruction are one instruction".
 abbrev pub prefixed : ℕ → ℕ
 prefixed n = cond (eqb n 0) 0 (1 + n)
 
 unfoldable pub lengthAt : List ℕ → ℕ → ℕ
 lengthAt code at =
-    cond (eqb (byteAt code at) 0xF5) (prefixed (lengthIn Double code (at + 1))) (lengthIn Normal code at)
+    cond (eqb (byteAt code at) doubleCode) (prefixed (lengthIn Double code (at + 1))) (lengthIn Normal code at)
 
 -- A row's lengths in one number: the fixed bytes, 16 more where DOUBLE may stand before it, and 32 for each byte that one more
 -- table entry takes; 0 where it is not served.

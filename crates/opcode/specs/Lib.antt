@@ -1,5 +1,4 @@
--- Instructions as 5.2.4 lists them: the table of codes, lengths, decoding, and places at a distance.
+-- Instructions as 5.2.4 lists them: the table of codes, lengths, and decoding.
 pub mod Table
 pub mod Length
 pub mod Decode
-pub mod Distance

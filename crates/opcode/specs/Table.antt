@@ -31,6 +31,25 @@ pub data Row : Type 0 where
 pub data Entry : Type 0 where
   entry : ℕ → Row → Entry
 
+-- Codes and operands that other definitions name too: the prefix DOUBLE, what pushes labels, and ENTER.
+abbrev pub doubleCode : ℕ
+doubleCode = 0xF5
+
+abbrev pub iterCode : ℕ
+iterCode = 0xE0
+
+abbrev pub switchCode : ℕ
+switchCode = 0xE2
+
+abbrev pub switchXCode : ℕ
+switchXCode = 0xE3
+
+abbrev pub iterOperands : Operands
+iterOperands = unsigned h
+
+abbrev pub enterOperands : Operands
+enterOperands = bytes
+
 -- 5.2.4.1, by the first digit of the code.
 abbrev pub shortTable : List Entry
 shortTable =
@@ -114,13 +133,13 @@ controlTable =
     entry 0xDD (row (signed h) normal (λ m n k. JumpC n)) ∷  -- JUMP_C.h dist
     entry 0xDE (row (unsigned b) normal (λ m n k. JumpT n)) ∷  -- JUMP_T.b dist
     entry 0xDF (row (unsigned b) normal (λ m n k. JumpF n)) ∷  -- JUMP_F.b dist
-    entry 0xE0 (row (unsigned h) normal (λ m n k. Iter n)) ∷  -- ITER dist
+    entry iterCode (row iterOperands normal (λ m n k. Iter n)) ∷  -- E0 ITER dist
     entry 0xE1 (row none normal (λ m n k. Next)) ∷  -- NEXT
-    entry 0xE2 (row (table 9 2) normal (λ m n k. Switch n)) ∷  -- SWITCH n
-    entry 0xE3 (row (table 7 10) normal (λ m n k. SwitchX n)) ∷  -- SWITCH_X n
+    entry switchCode (row (table 9 2) normal (λ m n k. Switch n)) ∷  -- E2 SWITCH n
+    entry switchXCode (row (table 7 10) normal (λ m n k. SwitchX n)) ∷  -- E3 SWITCH_X n
     entry 0xE4 (row none normal (λ m n k. Leave)) ∷  -- LEAVE
     entry 0xE5 (row (unsigned b) normal (λ m n k. Call n)) ∷  -- CALL.b proc
-    entry 0xE8 (row bytes normal (λ m n k. Enter n k)) ∷  -- ENTER par, dat
+    entry 0xE8 (row enterOperands normal (λ m n k. Enter n k)) ∷  -- ENTER par, dat
     entry 0xE9 (row none normal (λ m n k. Rtn)) ∷  -- RTN
     entry 0xFF (row none normal (λ m n k. Nop)) ∷  -- NOP
     []

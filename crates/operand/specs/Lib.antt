@@ -1,2 +1,3 @@
--- The operands of an instruction.
+-- The operands of an instruction, and the place at a distance.
 pub mod Operand
+pub mod Distance

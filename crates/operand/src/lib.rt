@@ -4,6 +4,7 @@ ghost use Prim.Native.Nat.{_+_};
 ghost use mir.Syntax.{w8, w16};
 ghost use Rattle.words.specs.Bytes.{byteAt, halfwordAt, wordAt};
 ghost use Rattle.operand.specs.Operand.{extended};
+ghost use Rattle.operand.specs.Distance.{placeAt};
 
 // The word that holds a signed byte.
 fn extend_byte(b: u8) -> u32
@@ -78,4 +79,11 @@ pub fn word(code: &[u8], at: usize) -> u32
         return 0;
     }
     words::word_at(code, at + 1)
+}
+
+// The place at a distance, modulo 2^32.
+pub fn place_at(at: u32, distance: u32) -> u32
+    ensures { λ r. ⌜ r ≡ placeAt at distance ⌝ }
+{
+    (((at as u64) + (distance as u64)) % 0x1_0000_0000) as u32
 }

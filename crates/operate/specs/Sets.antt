@@ -8,14 +8,14 @@ use Rattle.opcode.specs.declared.instruction.SetOperation.{SetOperation}
 use Rattle.opcode.specs.declared.instruction.SetOperation.the-variants.{Union, Difference, Intersection, Subset, Superset, Member}
 
 -- X and not Y.
-abbrev pub without : ℕ → ℕ → ℕ
-without x y = bitAnd x (0x1_0000_0000 - suc y)
+abbrev pub difference : ℕ → ℕ → ℕ
+difference x y = bitAnd x (0x1_0000_0000 - suc y)
 
 -- TEST has the number X and the set Y. 01: "TEST's number is signed": as a word, a negative number is above 31 too.
 unfoldable pub setWord : SetOperation → ℕ → ℕ → ℕ
 setWord Union x y = bitOr x y
-setWord Difference x y = without x y
+setWord Difference x y = difference x y
 setWord Intersection x y = bitAnd x y
-setWord Subset x y = truthOf (eqb (without x y) 0)
-setWord Superset x y = truthOf (eqb (without y x) 0)
+setWord Subset x y = truthOf (eqb (difference x y) 0)
+setWord Superset x y = truthOf (eqb (difference y x) 0)
 setWord Member x y = cond (ltb x 32) (y / 2 ^ x % 2) 0

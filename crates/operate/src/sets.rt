@@ -1,11 +1,11 @@
 // One-word sets.
 ghost use mathlib.Core.Path.{_≡_};
-ghost use Rattle.operate.specs.Sets.{setWord, without};
+ghost use Rattle.operate.specs.Sets.{setWord, difference};
 use opcode::instruction::SetOperation;
 
 // x and not y.
 fn difference(x: u32, y: u32) -> u32
-    ensures { λ n. ⌜ n ≡ without x y ⌝ }
+    ensures { λ n. ⌜ n ≡ difference x y ⌝ }
 {
     x & (0xFFFF_FFFF - y)
 }

@@ -1,4 +1,4 @@
 -- Program and data areas, live and protected addresses, and the registers as instructions change them.
 pub mod Program
 pub mod Memory
-pub mod Words
+pub mod Changes

@@ -6,7 +6,7 @@ use lib.Dec.{eqb, leb, ltb}
 use lib.ListN.{getD}
 use Rattle.registers.specs.declared.Registers.{Registers}
 use Rattle.registers.specs.declared.Areas.{Areas}
-use Rattle.registers.specs.Program.{constantsStart, framesStart}
+use Rattle.registers.specs.Program.{globalsStart, constantsStart, framesStart}
 
 -- The word at a place; 0 past the end.
 abbrev pub read : List ℕ → ℕ → ℕ
@@ -33,4 +33,4 @@ chained m start fp (suc n) = leb (savedFp m fp + 2) fp && chained m start (saved
 
 -- 01: "Header words, constants and the link words of active calls are protected: read, never stored to."
 unfoldable pub protects : Areas → Registers → List ℕ → ℕ → Bool
-protects A q m a = ltb a 3 || ((leb (constantsStart A) a && ltb a (framesStart A)) || isLink m (q .fp) (q .calls) a)
+protects A q m a = ltb a globalsStart || ((leb (constantsStart A) a && ltb a (framesStart A)) || isLink m (q .fp) (q .calls) a)

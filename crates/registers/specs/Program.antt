@@ -22,8 +22,11 @@ abbrev pub programOf : List ℕ → Program
 programOf r = program (codeOf r) (areasOf r)
 
 -- 01: "Header words 0, 1, 2 hold 0, 0 and 3+g; GP is 3; parameters fill the first globals ..; constants follow".
+abbrev pub globalsStart : ℕ
+globalsStart = 3
+
 abbrev pub constantsStart : Areas → ℕ
-constantsStart A = 3 + A .globals
+constantsStart A = globalsStart + A .globals
 
 -- Where frames begin: "FP and MP start at 3+g+c".
 abbrev pub framesStart : Areas → ℕ

@@ -1,7 +1,7 @@
 // The registers, by value.
 ghost use mathlib.Core.Path.{_≡_};
 ghost use Prim.Native.Nat.{_≤_, _<_, _+_};
-ghost use Rattle.registers.specs.Words.{moved, sized, raised, called, returned};
+ghost use Rattle.registers.specs.Changes.{moved, sized, raised, called, returned};
 
 pub mod access;
 

@@ -18,7 +18,7 @@ use Rattle.verifier.proofs.Accepting.{Answers, early, late, answers}
 use Rattle.safety.specs.Joined.{Joined, joinedOf}
 use Rattle.text.specs.Text.{checkLine}
 use Rattle.run_file.specs.RunFile.{resultsOf, parametersOf, budgetOf, memoryWords, stackWords, recordOf, wellFormed}
-use Rattle.report.specs.Report.{answerText, reported, printed, zeros, textOf}
+use Rattle.report.specs.Report.{answerText, output, printed, zeros, textOf}
 use Rattle.report.specs.Buffers.{ranPage, partPage, pageOf, orEight, Leaving, leaving, reportOf}
 use Rattle.report.proofs.Reporting.{memory-fits}
 
@@ -92,7 +92,7 @@ module _ (f : List ℕ) where
 
 -- What is read of a report over memory and stack of its own.
 pub report-prints : (f out : List ℕ) {n : ℕ} {out′ w′ m′ s′ : List ℕ} → leaving n out′ w′ m′ s′ ≡ reportOf f (zeros 16384) (zeros 4096) (zeros 1024) out
-    → reported n out′ ≡ printed (textOf f) out
+    → output n out′ ≡ printed (textOf f) out
 unfolding reportOf
 report-prints f out e =
-    ap (λ (x : Leaving). reported (x .answer) (x .out)) e ∙ ap (λ (t : List ℕ). reported (printed t out .answer) (printed t out .out)) (own-text f)
+    ap (λ (x : Leaving). output (x .answer) (x .out)) e ∙ ap (λ (t : List ℕ). output (printed t out .answer) (printed t out .out)) (own-text f)

@@ -9,7 +9,7 @@ use lib.Dec.{leb}
 use lib.ListN.{length, take, drop}
 use lib.Seq.{sets, sets-eq}
 use Rattle.text.specs.Text.{Wrote}
-use Rattle.report.specs.Report.{reported, printed}
+use Rattle.report.specs.Report.{output, printed}
 
 sets-nothing : (i : ℕ) (vs : List ℕ) → sets [] i vs ≡ []
 sets-nothing i [] = refl
@@ -21,11 +21,11 @@ measured text out {after} w =
     let e : after ≡ [] = w .leaves ∙ sets-nothing 0 text in
     (w .ends ∙ (let z : 0 + length text ≡ length text = omega arith in z), rw e)
 
-too-short : (text out : List ℕ) → length out < length text → reported 0 out ≡ printed text out
+too-short : (text out : List ℕ) → length out < length text → output 0 out ≡ printed text out
 unfolding printed
 too-short text out h = rw (lt-leb (length text) (length out) h)
 
-fits-whole : (text out : List ℕ) {after : List ℕ} {n : ℕ} → length text ≤ length out → Wrote out 0 text n after → reported n after ≡ printed text out
+fits-whole : (text out : List ℕ) {after : List ℕ} {n : ℕ} → length text ≤ length out → Wrote out 0 text n after → output n after ≡ printed text out
 unfolding printed
 fits-whole text out {after} {n} h w =
     let a : n ≡ length text = w .ends ∙ (let z : 0 + length text ≡ length text = omega arith in z) in
@@ -36,14 +36,14 @@ fits-whole text out {after} {n} h w =
 
 -- A function that prints measures first, then writes.
 pub print-short : (text out : List ℕ) {after : List ℕ} {n : ℕ} → Wrote (take 0 out) 0 text n after → length (after ++ out) < n
-    → reported 0 (after ++ out) ≡ printed text out
+    → output 0 (after ++ out) ≡ printed text out
 print-short text out w h =
     let m = measured text out w in
     let l : length out < length text = rw (m .1, m .0) at h in
     rw (m .1) (too-short text out l)
 
 pub print-whole : (text out : List ℕ) {after final : List ℕ} {n k : ℕ} → Wrote (take 0 out) 0 text n after → n ≤ length (after ++ out)
-    → Wrote (after ++ out) 0 text k final → reported k final ≡ printed text out
+    → Wrote (after ++ out) 0 text k final → output k final ≡ printed text out
 print-whole text out w h v =
     let m = measured text out w in
     let l : length text ≤ length out = rw (m .1, m .0) at h in
@@ -54,6 +54,6 @@ pub answer-fits : (text out : List ℕ) → printed text out .answer ≤ length 
 unfolding printed
 answer-fits text out = answered (leb (length text) (length out)) refl where
   answered : (b : Bool) → leb (length text) (length out) ≡ b
-      → cond b (reported (length text) (text ++ drop (length text) out)) (reported 0 out) .answer ≤ length out
+      → cond b (output (length text) (text ++ drop (length text) out)) (output 0 out) .answer ≤ length out
   answered true e = leb-true (length text) (length out) e
   answered false e = omega arith

@@ -8,20 +8,21 @@ use native.Mathlib.Omega.{arith}
 use borrow.Author.Tests.{le-leb, lt-leb, leb-true}
 use lib.Dec.{eqb, leb}
 use lib.ListN.{length, take, drop, getD}
-use Rattle.words.specs.Bytes.{halfwordAt, wordsFrom}
+use Rattle.words.specs.Bytes.{wordAt, halfwordAt, wordsFrom}
 use Rattle.words.proofs.Tests.{both-true}
 use Rattle.machine.specs.declared.run.Answer.{Answer}
 use Rattle.safety.specs.Joined.{joined, joinedOf}
-use Rattle.verifier.specs.Check.{checking, checkOf}
+use Rattle.verifier.specs.Check.{checkOf}
+use Rattle.workspace.specs.Checking.{checking}
 use Rattle.text.specs.Text.{checkLine}
 use Rattle.run_file.specs.RunFile.{resultsCount, parametersCount, recordAt, named, resultsOf, parametersOf, budgetOf, memoryWords, stackWords, recordOf, wellFormed}
-use Rattle.words.proofs.Words.{words-part}
-use Rattle.report.specs.Report.{answerText, reported, printed}
+use Rattle.words.proofs.Series.{series-part}
+use Rattle.report.specs.Report.{answerText, output, printed}
 use Rattle.report.specs.Buffers.{ranPage, partPage, pageOf, orEight, Leaving, leaving, delivered, reportOf}
 use Rattle.report.proofs.Printing.{answer-fits}
 
 pub ran : (f w₀ ps m₀ s₀ out₀ : List ℕ) {r results : List ℕ} {budget n : ℕ} {a : Answer} {w m s out : List ℕ} → r ≡ recordOf f → results ≡ resultsOf f
-    → budget ≡ budgetOf f → joined a w m s ≡ joinedOf r results w₀ ps budget m₀ s₀ → reported n out ≡ printed (answerText r a m s) out₀
+    → budget ≡ budgetOf f → joined a w m s ≡ joinedOf r results w₀ ps budget m₀ s₀ → output n out ≡ printed (answerText r a m s) out₀
     → leaving n out w m s ≡ delivered (ranPage f w₀ ps m₀ s₀) out₀
 unfolding ranPage
 ran f w₀ ps m₀ s₀ out₀ e g h j p = rw (← e, ← g, ← h, ← j, ← p) refl
@@ -31,7 +32,7 @@ pub given-parameters : (f : List ℕ) {arr : List ℕ} (n : ℕ) {k : ℕ} → a
     → take k arr ≡ parametersOf f
 unfolding parametersOf
 given-parameters f n {k} e g h =
-    rw (e) (words-part f (7 + resultsCount f) k n h ∙ ap (λ (i : ℕ). wordsFrom f (7 + resultsCount f) i) g)
+    rw (e) (series-part (wordAt f) 4 (7 + resultsCount f) k n h ∙ ap (λ (i : ℕ). wordsFrom f (7 + resultsCount f) i) g)
 
 pub count-small : (f : List ℕ) {k : ℕ} → k ≡ parametersCount f → ((i : ℕ) → getD f i 0 < 256) → k ≤ 255
 count-small f e bytes = let b = bytes (6 + resultsCount f) in omega arith
@@ -55,7 +56,7 @@ memory-fits f h =
     leb-true (memoryWords f) 4096 (both-true past fits (c .1) .1)
 
 -- The three pages of a run file.
-pub malformed : (f w m s out : List ℕ) {n : ℕ} {out′ : List ℕ} → wellFormed f ≡ false → reported n out′ ≡ printed (checkLine 16) out
+pub malformed : (f w m s out : List ℕ) {n : ℕ} {out′ : List ℕ} → wellFormed f ≡ false → output n out′ ≡ printed (checkLine 16) out
     → leaving n out′ w m s ≡ reportOf f w m s out
 unfolding reportOf pageOf
 malformed f w m s out h p = rw (h, ← p) refl
@@ -66,7 +67,7 @@ shallow f w m s out h d = rw (h, le-leb (stackWords f) 1024 d) refl
 
 pub deep : (f w m s out : List ℕ) {r results w′ out′ : List ℕ} {number n : ℕ} (k : ℕ) → wellFormed f ≡ true → 1024 < stackWords f → r ≡ recordOf f
     → results ≡ resultsOf f → checking number w′ ≡ checkOf r results w → k ≡ orEight number
-    → reported n out′ ≡ printed (checkLine k) out
+    → output n out′ ≡ printed (checkLine k) out
     → leaving n out′ w′ m s ≡ reportOf f w m s out
 unfolding reportOf pageOf
 deep f w m s out k h d e g c l p = rw (h, lt-leb (stackWords f) 1024 d, ← e, ← g, ← c, ← l, ← p) refl

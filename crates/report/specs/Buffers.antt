@@ -5,7 +5,8 @@ use mathlib.Core.List.{List, _++_}
 use Prim.Native.Nat.{ℕ}
 use lib.Dec.{eqb, leb}
 use lib.ListN.{take, drop}
-use Rattle.verifier.specs.Check.{Checking, checkOf}
+use Rattle.verifier.specs.Check.{checkOf}
+use Rattle.workspace.specs.Checking.{Checking}
 use Rattle.safety.specs.Joined.{joinedOf}
 use Rattle.run_file.specs.RunFile.{resultsOf, parametersOf, budgetOf, memoryWords, stackWords, recordOf, wellFormed}
 use Rattle.text.specs.Text.{checkLine}

@@ -7,6 +7,7 @@ use lib.Dec.{leb}
 use lib.ListN.{length, take, drop, replicate}
 use Rattle.header.specs.Header.{headerOf}
 use Rattle.source.specs.Source.{lineAt}
+use Rattle.registers.specs.Program.{globalsStart}
 use Rattle.machine.specs.declared.run.Answer.{Answer}
 use Rattle.machine.specs.declared.run.Answer.the-variants.{Refused, Ended}
 use Rattle.machine.specs.declared.run.Ended.{Ended as Ending}
@@ -20,7 +21,7 @@ unfoldable pub endedText : List ℕ → Ending → List ℕ → List ℕ → Lis
 endedText r e m s =
     checkLine 0
     ++ (endLine (endNumber (e .ending)) (e .registers .pc) (lineAt r (headerOf r) (e .registers .pc)) (e .steps)
-    ++ (listLine 115 (take (e .registers .height) s) ++ listLine 103 (take (headerOf r .globals) (drop 3 m))))
+    ++ (listLine 115 (take (e .registers .height) s) ++ listLine 103 (take (headerOf r .globals) (drop globalsStart m))))
 
 abbrev pub answerText : List ℕ → Answer → List ℕ → List ℕ → List ℕ
 answerText r (Refused n) m s = checkLine n
@@ -36,14 +37,15 @@ textOf f =
     let j = joinedOf r (resultsOf f) (zeros 16384) (parametersOf f) (budgetOf f) (zeros (memoryWords f)) (zeros (stackWords f)) in
     cond (wellFormed f) (answerText r (j .answer) (j .memory) (j .stack)) (checkLine 16)
 
--- "answers the bytes written, or 0 for a buffer too short, which stays untouched".
-pub record Reported : Type 0 where
+-- A number answered, and what is left of the buffer lent for output.
+pub record Output : Type 0 where
   pub answer : ℕ
   pub out : List ℕ
 
-abbrev pub reported : ℕ → List ℕ → Reported
-reported n out = record { answer = n; out = out }
+abbrev pub output : ℕ → List ℕ → Output
+output n out = record { answer = n; out = out }
 
-unfoldable pub printed : List ℕ → List ℕ → Reported
+-- "answers the bytes written, or 0 for a buffer too short, which stays untouched".
+unfoldable pub printed : List ℕ → List ℕ → Output
 printed text out =
-    cond (leb (length text) (length out)) (reported (length text) (text ++ drop (length text) out)) (reported 0 out)
+    cond (leb (length text) (length out)) (output (length text) (text ++ drop (length text) out)) (output 0 out)

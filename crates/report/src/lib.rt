@@ -4,7 +4,7 @@ ghost use Prim.Native.Nat.{_≤_, _<_};
 ghost use lib.ListN.{length, take, drop};
 ghost use Rattle.text.specs.Text.{checkLine, Wrote};
 ghost use Rattle.run_file.specs.RunFile.{memoryWords, stackWords};
-ghost use Rattle.report.specs.Report.{endedText, answerText, reported, printed};
+ghost use Rattle.report.specs.Report.{endedText, answerText, output, printed};
 ghost use Rattle.report.specs.Buffers.{orEight, ranPage, partPage, leaving, delivered, reportOf};
 use machine::run::Answer;
 use machine::run::Ended;
@@ -46,7 +46,7 @@ fn put_ended(out: &mut [u8], r: &[u8], e: Ended, memory: &[u32], stack: &[u32]) 
 
 // The text is measured on an empty buffer first: one that is too short stays as it was.
 fn print_check(out: &mut [u8], n: u32) -> usize
-    ensures { λ r. ⌜ reported r (now (out .exit)) ≡ printed (checkLine n) (now (out .entry)) ⌝ }
+    ensures { λ r. ⌜ output r (now (out .exit)) ≡ printed (checkLine n) (now (out .entry)) ⌝ }
 {
     let length = text::put_check(&mut out[..0], 0, n);
     if out.len() < length {
@@ -58,7 +58,7 @@ fn print_check(out: &mut [u8], n: u32) -> usize
 fn print_ended(out: &mut [u8], r: &[u8], e: Ended, memory: &[u32], stack: &[u32]) -> usize
     requires { ⌜ length (now memory) ≤ 65536 ⌝ }
     requires { ⌜ length (now stack) ≤ 65536 ⌝ }
-    ensures { λ n. ⌜ reported n (now (out .exit)) ≡ printed (endedText (now (r .entry)) e (now (memory .entry)) (now (stack .entry))) (now (out .entry)) ⌝ }
+    ensures { λ n. ⌜ output n (now (out .exit)) ≡ printed (endedText (now (r .entry)) e (now (memory .entry)) (now (stack .entry))) (now (out .entry)) ⌝ }
 {
     let length = put_ended(&mut out[..0], r, e, memory, stack);
     if out.len() < length {
@@ -70,7 +70,7 @@ fn print_ended(out: &mut [u8], r: &[u8], e: Ended, memory: &[u32], stack: &[u32]
 fn print_answer(out: &mut [u8], r: &[u8], a: Answer, memory: &[u32], stack: &[u32]) -> usize
     requires { ⌜ length (now memory) ≤ 65536 ⌝ }
     requires { ⌜ length (now stack) ≤ 65536 ⌝ }
-    ensures { λ n. ⌜ reported n (now (out .exit)) ≡ printed (answerText (now (r .entry)) a (now (memory .entry)) (now (stack .entry))) (now (out .entry)) ⌝ }
+    ensures { λ n. ⌜ output n (now (out .exit)) ≡ printed (answerText (now (r .entry)) a (now (memory .entry)) (now (stack .entry))) (now (out .entry)) ⌝ }
 {
     match a {
         Answer::Refused(n) => print_check(out, n),

@@ -18,7 +18,7 @@ use Rattle.effect.specs.declared.effect.Write.{Write}
 use Rattle.registers.specs.declared.Registers.{Registers}
 use Rattle.registers.specs.Program.{program}
 use Rattle.effect.specs.Data.{pushes}
-use Rattle.execute.specs.Depth.{top}
+use Rattle.execute.specs.Depth.{topWords}
 use Rattle.step.specs.declared.Machine.{Machine}
 use Rattle.step.specs.declared.Stepped.{Stepped}
 use Rattle.step.specs.Step.{After, after, pushed, settled, performed, stepOf}
@@ -52,7 +52,7 @@ drop-same share s s' j same h =
     (λ i l. getD-drop j s' i 0 ∙ same .above (j + i) (omega arith) ∙ sym (getD-drop j s i 0))
 
 -- Words that begin in the share.
-top-same : (share : ℕ) (s s' : List ℕ) (n height : ℕ) → SameFrom share s s' → share + n ≤ height → top n height s' ≡ top n height s
+top-same : (share : ℕ) (s s' : List ℕ) (n height : ℕ) → SameFrom share s s' → share + n ≤ height → topWords n height s' ≡ topWords n height s
 top-same share s s' n height same h = rw (drop-same share s s' (height - n) same (omega arith))
 
 -- What a step leaves of each of two stacks.
@@ -94,7 +94,7 @@ module _ (share : ℕ) (M : Machine) (m s s' : List ℕ) (same : SameFrom share 
       rw (top-same share s s' (needed i) (M .registers .height) same h)
       (alike-cond share s' (ltb (M .registers .height) (needed i)) _ _ _ _ (as-before _)
       (settled-alike (length code) (needed i) _ _ h
-      (execute-does (M .registers) m next (program code (M .areas)) (top (needed i) (M .registers .height) s) i)))
+      (execute-does (M .registers) m next (program code (M .areas)) (topWords (needed i) (M .registers .height) s) i)))
 
 pub step-unread : StepUnread
 unfolding stepOf

@@ -31,7 +31,7 @@ use Rattle.registers.specs.declared.Registers.{Registers}
 use Rattle.registers.specs.Program.{Program}
 use Rattle.registers.specs.Memory.{read, savedFp, live, protects}
 use Rattle.effect.specs.Data.{protectsAny, baseOf, loadFrom, addressOf, storable, storeTo, valued, inverted, allocated, freed}
-use Rattle.registers.specs.Words.{moved, sized}
+use Rattle.registers.specs.Changes.{moved, sized}
 use Rattle.control.specs.Control.{jumps, jumpsIfFalse, jumpsKeeping, beyond, iterates, nextSum, summed, repeats, switches, searches, calls, enters, returns}
 use Rattle.execute.specs.Execute.{execute}
 

@@ -22,12 +22,12 @@ use Rattle.registers.specs.Memory.{read, savedFp, isLink}
 use Rattle.registers.specs.Program.{program, framesStart}
 use Rattle.effect.specs.Data.{pushes}
 use Rattle.registers.proofs.Links.{link-near}
-use Rattle.execute.specs.Depth.{top}
+use Rattle.execute.specs.Depth.{topWords}
 use Rattle.stackmap.specs.Ways.{Module}
 use Rattle.step.specs.declared.Machine.{Machine}
 use Rattle.step.specs.declared.Outcome.the-variants.{Went, Trapped}
 use Rattle.step.specs.Step.{After, written, settled, performed, stepOf}
-use Rattle.safety.specs.Active.{Call, without, callsAfter, stepOn}
+use Rattle.safety.specs.Active.{Call, callers, callsAfter, stepOn}
 use Rattle.safety.proofs.AsLoaded.{or-true, links-kept}
 use Rattle.safety.proofs.Effects.{Does, traps, finishes, goes, Stays, Begins, Leaves, Framing, execute-does}
 use Rattle.safety.proofs.Parts.{Framed, no-frame, a-frame, registersOf, FramesKept}
@@ -62,7 +62,7 @@ module _ (M : Machine) (m s : List ℕ) where
       (λ w. record {
         write = write;
         registers = next;
-        gone = top gone (M .registers .height) s;
+        gone = topWords gone (M .registers .height) s;
         done = p;
         memory = refl;
         fp = refl;
@@ -76,7 +76,7 @@ module _ (M : Machine) (m s : List ℕ) where
   performed-did code i next =
       did-cond _ m (ltb (M .registers .height) (needed i)) _ _ (trapped-not 22)
       (settled-did (length code) (needed i) _ _
-      (execute-does (M .registers) m next (program code (M .areas)) (top (needed i) (M .registers .height) s) i))
+      (execute-does (M .registers) m next (program code (M .areas)) (topWords (needed i) (M .registers .height) s) i))
 
 saved-fp : (m : List ℕ) (fp link saved : ℕ) → fp ≡ link + 2 → read m link ≡ saved → savedFp m fp ≡ saved
 saved-fp m fp link saved e r =
@@ -95,7 +95,7 @@ framed-kept m n start fp (c ∷ calls) (a-frame e r t rest) k =
     (rw (saved-fp m fp (c .link) (c .savedFp) e r) h))))
 
 frame-below : (m : List ℕ) (start fp n : ℕ) (calls : List Call) → Framed m start fp calls → (n ≡ 0 → ⊥) → length calls ≡ n
-    → Framed m start (savedFp m fp) (without calls) × (length (without calls) ≡ n - 1)
+    → Framed m start (savedFp m fp) (callers calls) × (length (callers calls) ≡ n - 1)
 frame-below m start fp n [] (no-frame e) h count = absurd (h (sym count))
 frame-below m start fp n (c ∷ calls) (a-frame e r t rest) h count =
     (rw (saved-fp m fp (c .link) (c .savedFp) e r) rest, omega arith)

@@ -11,7 +11,8 @@ use Rattle.record.specs.Number.{recordNumber}
 use Rattle.registers.specs.Program.{areasOf, programOf}
 use Rattle.verifier.proofs.Ranges.{record-range}
 use Rattle.verifier.proofs.Accepting.{check-range}
-use Rattle.verifier.specs.Check.{Checking, checking, checkOf}
+use Rattle.verifier.specs.Check.{checkOf}
+use Rattle.workspace.specs.Checking.{Checking, checking}
 use Rattle.words.specs.Bytes.{Bytes}
 use Rattle.registers.specs.declared.Registers.{Registers}
 use Rattle.load.specs.declared.Loaded.{Loaded}

@@ -5,12 +5,12 @@ use mathlib.Core.Option.{some}
 use mathlib.Core.Path.{_≡_, refl}
 use Prim.Native.Nat.{ℕ}
 use lib.Dec.{eqb, leb}
-use Rattle.opcode.specs.Distance.{placeAt}
+use Rattle.operand.specs.Distance.{placeAt}
 use Rattle.effect.specs.declared.effect.Effect.the-variants.{Go}
 use Rattle.effect.specs.declared.effect.Push.the-variants.{NoPush}
 use Rattle.effect.specs.declared.effect.Write.the-variants.{NoWrite}
-use Rattle.registers.specs.Words.{moved}
-use Rattle.control.specs.Control.{jumped, jumps, jumpsIfFalse, jumpsKeeping}
+use Rattle.registers.specs.Changes.{moved}
+use Rattle.control.specs.Control.{jumps, jumpsIfFalse, jumpsKeeping}
 use Rattle.stackmap.specs.Slots.{Slot, popWords, dropSlots}
 use Rattle.stackmap.specs.Ways.{Way, _gets_, after, both}
 use Rattle.stackmap.specs.StackMap.{Among, here, there}
@@ -48,13 +48,13 @@ module _ {code : List ℕ} {c : Configuration} {l : List Slot} {out : List Way} 
   unfolding jumps
   jump-goes d w =
       let T : Taken (some l) (λ rest. placeAt (registersOf c .pc) d gets l ∷ []) out = taken (some l) _ out w in
-      words-go S 0 NoPush NoWrite (moved (registersOf c) (jumped (registersOf c) d)) l refl (among-taken T (jumped (registersOf c) d) l here)
+      words-go S 0 NoPush NoWrite (moved (registersOf c) (placeAt (registersOf c .pc) d)) l refl (among-taken T (placeAt (registersOf c .pc) d) l here)
 
   pub branch-goes : (d b : ℕ) → after (popWords 1 l) (λ rest. both (next gets rest) (placeAt (registersOf c .pc) d gets rest)) ≡ some out
       → Stays code c out Done (jumpsIfFalse (registersOf c) next d b)
   unfolding jumpsIfFalse
   branch-goes d b w =
-      let away : ℕ = jumped (registersOf c) d in
+      let away : ℕ = placeAt (registersOf c .pc) d in
       let T : Taken (popWords 1 l) (λ rest. both (next gets rest) (away gets rest)) out = taken (popWords 1 l) _ out w in
       good-boolean b _
       (popped-go S 1 _ T NoPush NoWrite (moved (registersOf c) (cond (eqb b 0) away next)) (among-either (eqb b 0) next away (T .rest)))
@@ -63,7 +63,7 @@ module _ {code : List ℕ} {c : Configuration} {l : List Slot} {out : List Way} 
       → Stays code c out Done (jumpsKeeping (registersOf c) next when d b)
   unfolding jumpsKeeping
   keep-goes when d b w =
-      let away : ℕ = jumped (registersOf c) d in
+      let away : ℕ = placeAt (registersOf c .pc) d in
       let T : Taken (popWords 1 l) (λ rest. both (next gets rest) (away gets l)) out = taken (popWords 1 l) _ out w in
       good-boolean b _
       (good-cond (eqb b when) _ _

@@ -12,7 +12,7 @@ use mir.Syntax.{w32}
 use mir.Val.{toZ}
 use borrow.Author.Tests.{eq-eqb}
 use Rattle.words.specs.Bytes.{byteAt}
-use Rattle.opcode.specs.Distance.{placeAt}
+use Rattle.operand.specs.Distance.{placeAt}
 use Rattle.opcode.specs.declared.instruction.Arithmetic.the-variants.{Add}
 use Rattle.opcode.specs.declared.instruction.Instruction.{Instruction}
 use Rattle.opcode.specs.declared.instruction.Mode.the-variants.{Normal}
@@ -29,9 +29,9 @@ use Rattle.effect.specs.declared.effect.Write.the-variants.{NoWrite, WriteOne}
 use Rattle.registers.specs.declared.Areas.{Areas}
 use Rattle.registers.specs.declared.Registers.{Registers}
 use Rattle.registers.specs.Memory.{read, live, protects}
-use Rattle.registers.specs.Words.{moved}
-use Rattle.control.specs.Control.{jumped, beyond, iterates, nextSum, summed, repeats, branched}
-use Rattle.execute.specs.Depth.{top}
+use Rattle.registers.specs.Changes.{moved}
+use Rattle.control.specs.Control.{beyond, iterates, nextSum, summed, repeats, branched}
+use Rattle.execute.specs.Depth.{topWords}
 use Rattle.successors.specs.Successors.{exitLabel, selectTargets}
 use Rattle.stackmap.specs.Slots.{Slot, word, label, popWords, dropSlots}
 use Rattle.stackmap.specs.Ways.{Module, Way, _gets_, isLoop, isSelect, labelWord, after, both, toAll, again, exit}
@@ -59,7 +59,7 @@ module _ (M : Module) (c : Configuration) (i : Instruction) (next : ℕ) (D : Do
       rw (o .0)
 
 -- The word at a place among the top ones.
-top-word : (n j height : ℕ) (s : List ℕ) → j < n → read (top n height s) j ≡ getD s (height - n + j) 0
+top-word : (n j height : ℕ) (s : List ℕ) → j < n → read (topWords n height s) j ≡ getD s (height - n + j) 0
 top-word n j height s h = getD-take n (drop (height - n) s) j 0 h ∙ getD-drop (height - n) s j 0
 
 module _ {code : List ℕ} {c : Configuration} {l : List Slot} {out : List Way} {Done : Type 0} (S : Start code c l out) where
@@ -70,7 +70,7 @@ module _ {code : List ℕ} {c : Configuration} {l : List Slot} {out : List Way} 
   unfolding iterates
   loop-goes A m next d a f u s e w =
       let q : Registers = registersOf c in
-      let away : ℕ = jumped q d in
+      let away : ℕ = placeAt (q .pc) d in
       let T : Taken (popWords 4 l) (λ rest. both (next gets (label (q .pc) ∷ l)) (away gets rest)) out = taken (popWords 4 l) _ out w in
       good-cond (beyond (toZ w32 s) (toZ w32 f) (toZ w32 u)) _ _
       (λ t. popped-go S 4 _ T NoPush NoWrite (moved q away) (among-away next away (label (q .pc) ∷ l) (T .rest)))
@@ -109,7 +109,7 @@ module _ {code : List ℕ} {c : Configuration} {out : List Way} {Done : Type 0} 
 -- Their label is the top word.
 label-word : {code : List ℕ} {c : Configuration} {out : List Way} {origin : ℕ} {l : List Slot} (n : ℕ)
     → Start code c (label origin ∷ l) out → n ≤ length l
-    → read (top (suc n) (registersOf c .height) (c .stack)) n ≡ labelWord code origin
+    → read (topWords (suc n) (registersOf c .height) (c .stack)) n ≡ labelWord code origin
 label-word {c = c} {l = l} n S h =
     let place : registersOf c .height - suc n + n ≡ shareOf (c .calls) + length l = omega (arith, S .height) in
     top-word (suc n) n (registersOf c .height) (c .stack) (omega arith) ∙ rw place (holds-top (S .holds))
@@ -117,14 +117,14 @@ label-word {c = c} {l = l} n S h =
 module _ {code : List ℕ} {c : Configuration} {out : List Way} {Done : Type 0} where
   -- NEXT.
   pub again-goes : (A : Areas) (m : List ℕ) (next a u s : ℕ) (l : List Slot) → Start code c l out → again code next l ≡ some out
-      → Stays code c out Done (repeats A (registersOf c) m next a u s (read (top 5 (registersOf c .height) (c .stack)) 4))
+      → Stays code c out Done (repeats A (registersOf c) m next a u s (read (topWords 5 (registersOf c .height) (c .stack)) 4))
   again-goes A m next a u s [] S w = nothing out w
   again-goes A m next a u s (word ∷ l) S w = nothing out w
   again-goes A m next a u s (label origin ∷ l) S w = by (isLoop code origin) w
     where
       by : (t : Bool)
           → cond t (after (popWords 4 l) (λ rest. both (next gets rest) (labelWord code origin gets (label origin ∷ l)))) none ≡ some out
-          → Stays code c out Done (repeats A (registersOf c) m next a u s (read (top 5 (registersOf c .height) (c .stack)) 4))
+          → Stays code c out Done (repeats A (registersOf c) m next a u s (read (topWords 5 (registersOf c .height) (c .stack)) 4))
       by true e =
           let back : ℕ = labelWord code origin in
           let T : Taken (popWords 4 l) (λ rest. both (next gets rest) (back gets (label origin ∷ l))) out = taken (popWords 4 l) _ out e in
@@ -140,13 +140,13 @@ module _ {code : List ℕ} {c : Configuration} {out : List Way} {Done : Type 0} 
 
   -- LEAVE.
   pub exit-goes : (l : List Slot) → Start code c l out → exit code l ≡ some out
-      → Stays code c out Done (Go 1 NoPush NoWrite (moved (registersOf c) (read (top 1 (registersOf c .height) (c .stack)) 0)))
+      → Stays code c out Done (Go 1 NoPush NoWrite (moved (registersOf c) (read (topWords 1 (registersOf c .height) (c .stack)) 0)))
   exit-goes [] S w = nothing out w
   exit-goes (word ∷ l) S w = nothing out w
   exit-goes (label origin ∷ l) S w = by (isSelect code origin) w
     where
       by : (t : Bool) → cond t (some (labelWord code origin gets l ∷ [])) none ≡ some out
-          → Stays code c out Done (Go 1 NoPush NoWrite (moved (registersOf c) (read (top 1 (registersOf c .height) (c .stack)) 0)))
+          → Stays code c out Done (Go 1 NoPush NoWrite (moved (registersOf c) (read (topWords 1 (registersOf c .height) (c .stack)) 0)))
       by true e =
           let away : ℕ = labelWord code origin in
           let T : Taken (some l) (λ rest. away gets l ∷ []) out = taken (some l) _ out e in

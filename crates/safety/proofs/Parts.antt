@@ -18,7 +18,7 @@ use Rattle.registers.specs.Program.{framesStart}
 use Rattle.registers.specs.declared.Areas.{Areas}
 use Rattle.registers.specs.declared.Registers.{Registers}
 use Rattle.stackmap.specs.Slots.{Slot, pushWords}
-use Rattle.stackmap.specs.Ways.{Module, Way, resultsOf, ways}
+use Rattle.stackmap.specs.Ways.{Module, Way, resultsIn, ways}
 use Rattle.stackmap.specs.StackMap.{Reached, Among}
 use Rattle.step.specs.declared.Outcome.{Outcome}
 use Rattle.step.specs.declared.Outcome.the-variants.{Went, Finished, Trapped}
@@ -37,7 +37,7 @@ pub data Framed (m : List ℕ) (start : ℕ) : ℕ → List Call → Type 0 wher
 -- What each active call's caller has on its share of the stack, under the callee's, and finds when it goes on.
 pub data Suspended (M : Module) (s : List ℕ) : List Call → Type 0 where
   no-caller : Suspended M s []
-  a-caller : {c : Call} {calls : List Call} (l : List Slot) → Reached M (running calls) (c .back) (pushWords (resultsOf M (c .procedure)) l) → c .share ≡ shareOf calls + length l → Holds (M .code) s (shareOf calls) l → c .procedure < entryCount (M .code) → Suspended M s calls → Suspended M s (c ∷ calls)
+  a-caller : {c : Call} {calls : List Call} (l : List Slot) → Reached M (running calls) (c .back) (pushWords (resultsIn (M .results) (c .procedure)) l) → c .share ≡ shareOf calls + length l → Holds (M .code) s (shareOf calls) l → c .procedure < entryCount (M .code) → Suspended M s calls → Suspended M s (c ∷ calls)
 
 -- The invariant.
 pub record Inv (M : Module) (A : Areas) (c : Configuration) : Type 0 where

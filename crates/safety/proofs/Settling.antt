@@ -24,8 +24,8 @@ use Rattle.registers.specs.declared.Registers.{Registers}
 use Rattle.registers.specs.Memory.{live}
 use Rattle.effect.specs.Data.{protectsAny, pushes, storable, boolean}
 use Rattle.registers.specs.Program.{program}
-use Rattle.registers.specs.Words.{raised}
-use Rattle.execute.specs.Depth.{top}
+use Rattle.registers.specs.Changes.{raised}
+use Rattle.execute.specs.Depth.{topWords}
 use Rattle.execute.specs.Execute.{execute}
 use Rattle.stackmap.specs.Ways.{Module, Way}
 use Rattle.step.specs.declared.Outcome.{Outcome}
@@ -94,7 +94,7 @@ module _ (M : Module) (c : Configuration) (out : List Way) (shape : Shape) where
   -- The words that the instruction needs are there, so that the step is its effect carried out.
   pub good-steps : (i : Instruction) (next : ℕ) → Doing M c i next → needed i ≤ registersOf c .height
       → Goes (execute (program (M .code) (c .machine .areas)) (registersOf c) (c .memory) next
-      (top (needed i) (registersOf c .height) (c .stack)) i) → Steps M c out shape (stepOn M c .stepped .outcome)
+      (topWords (needed i) (registersOf c .height) (c .stack)) i) → Steps M c out shape (stepOn M c .stepped .outcome)
   unfolding stepOf performed
   good-steps i next d enough h =
       as-steps (stepOn M c .stepped .outcome)

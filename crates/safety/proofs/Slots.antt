@@ -18,7 +18,7 @@ use Rattle.shape.specs.declared.Table.the-variants.{Branches, Ranges}
 use Rattle.registers.specs.Memory.{read}
 use Rattle.registers.specs.Program.{program}
 use Rattle.control.specs.Control.{switches, searches, calls, returns}
-use Rattle.execute.specs.Depth.{top}
+use Rattle.execute.specs.Depth.{topWords}
 use Rattle.execute.specs.Execute.{execute}
 use Rattle.stackmap.specs.Slots.{Slot}
 use Rattle.stackmap.specs.Ways.{Module, Way, ways}
@@ -57,7 +57,7 @@ module _ (M : Module) (c : Configuration) (next p : ℕ) (l : List Slot) (out : 
   effect-goes : (i : Instruction) → Doing M c i next → ways M p (registersOf c .pc) next (shapeOf i) l ≡ some out
       → ((d : ℕ) → shapeOf i ≡ Invoke d → (0 < d) × (d < entryCount (M .code)) × (entryAt (M .code) d < length (M .code)))
       → (shapeOf i ≡ Return → 0 < registersOf c .calls → read (c .memory) (registersOf c .fp - 1) < length (M .code)) → (ws : List ℕ)
-      → ws ≡ top (needed i) (registersOf c .height) (c .stack)
+      → ws ≡ topWords (needed i) (registersOf c .height) (c .stack)
       → Goes M c out (shapeOf i) (execute (program (M .code) (c .machine .areas)) (registersOf c) (c .memory) next ws i)
   unfolding execute shapeOf ways switches searches
   effect-goes (LoadConstant n) D w call back ws t = plain-goes S next 0 1 _ w (plain-go refl refl)

@@ -1,5 +1,5 @@
 -- The shares of suspended callers: they lie below the running call's, so that words above leave them as they are; CALL suspends the
--- caller without the words that it gives, and RTN goes back to it with the words that it gets.
+-- caller callers the words that it gives, and RTN goes back to it with the words that it gets.
 use mathlib.Core.Bool.{Bool, true, false, cond, false≢true}
 use mathlib.Core.List.{List, [], _∷_}
 use mathlib.Core.Option.{none, some}
@@ -11,9 +11,9 @@ use Rattle.entries.specs.Entries.{entryAt, entryCount}
 use Rattle.registers.specs.declared.Registers.{Registers}
 use Rattle.registers.specs.Memory.{read}
 use Rattle.stackmap.specs.Slots.{Slot, word, label, pushWords, popWords, isWords}
-use Rattle.stackmap.specs.Ways.{Module, Way, _gets_, parametersOf, resultsOf, straight}
+use Rattle.stackmap.specs.Ways.{Module, Way, _gets_, parametersIn, resultsIn, straight}
 use Rattle.stackmap.specs.StackMap.{Among, here, Reached, entered}
-use Rattle.safety.specs.Active.{Call, running, shareOf, begun, without}
+use Rattle.safety.specs.Active.{Call, running, shareOf, begun, callers}
 use Rattle.safety.specs.Demand3.{Holds, holds-none, holds-word, holds-label}
 use Rattle.safety.proofs.Parts.{Framed, no-frame, a-frame, Suspended, no-caller, a-caller}
 use Rattle.stackmap.proofs.Pushing.{pushed-height}
@@ -76,11 +76,11 @@ module _ (M : Module) (C : Checked M) where
   -- RTN of an active call.
   pub returned-placed : (m s : List ℕ) (start fp height : ℕ) (calls : List Call) (l : List Slot) (out : List Way) (q : Registers)
       → Framed m start fp calls → Suspended M s calls → (length calls ≡ 0 → ⊥)
-      → cond (isWords (resultsOf M (running calls)) l) (some []) none ≡ some out → height ≡ shareOf calls + length l
-      → q .height ≡ height → q .pc ≡ read m (fp - 1) → Placed M (without calls) q s
+      → cond (isWords (resultsIn (M .results) (running calls)) l) (some []) none ≡ some out → height ≡ shareOf calls + length l
+      → q .height ≡ height → q .pc ≡ read m (fp - 1) → Placed M (callers calls) q s
   returned-placed m s start fp height [] l out q (no-frame e) S active w h same to = absurd (active refl)
   returned-placed m s start fp height (c ∷ calls) l out q (a-frame e saved back frames) (a-caller k reached share u p rest) active w h same to =
-      let n : ℕ = resultsOf M (c .procedure) in
+      let n : ℕ = resultsIn (M .results) (c .procedure) in
       let place : fp - 1 ≡ c .link + 1 = omega arith in
       let at : q .pc ≡ c .back = to ∙ rw place back in
       record {
@@ -94,13 +94,13 @@ module _ (M : Module) (C : Checked M) where
 
   -- CALL of procedure d, which goes on at `next`.
   pub called-placed : (s : List ℕ) (calls : List Call) (l : List Slot) (out : List Way) (q q' : Registers) (next d : ℕ)
-      → d < entryCount (M .code) → straight next (parametersOf M d) (resultsOf M d) l ≡ some out
+      → d < entryCount (M .code) → straight next (parametersIn (M .code) d) (resultsIn (M .results) d) l ≡ some out
       → ((k : List Slot) → Among next k out → Reached M (running calls) next k) → q .height ≡ shareOf calls + length l
       → Holds (M .code) s (shareOf calls) l → Suspended M s calls → q' .height ≡ q .height → q' .pc ≡ entryAt (M .code) d
       → Placed M (begun M q d next calls) q' s
   called-placed s calls l out q q' next d p w goes h holds S same to =
-      let n : ℕ = parametersOf M d in
-      let T : Taken (popWords n l) (λ rest. next gets pushWords (resultsOf M d) rest ∷ []) out = taken (popWords n l) _ out w in
+      let n : ℕ = parametersIn (M .code) d in
+      let T : Taken (popWords n l) (λ rest. next gets pushWords (resultsIn (M .results) d) rest ∷ []) out = taken (popWords n l) _ out w in
       let u = under (M .code) s (shareOf calls) n l (T .rest) (popped-drops n l (T .rest) (T .found)) holds in
       let share : q .height - n ≡ shareOf calls + length (T .rest) = omega (arith, h, u .size) in
       record {
@@ -109,5 +109,5 @@ module _ (M : Module) (C : Checked M) where
         reached = rw to entered;
         height = omega (arith, same, h, u .size, pushed-height n []);
         holds = holds-words n holds-none;
-        suspended = a-caller (T .rest) (goes (pushWords (resultsOf M d) (T .rest)) (among-taken T next _ here)) share (u .holds) p S;
+        suspended = a-caller (T .rest) (goes (pushWords (resultsIn (M .results) d) (T .rest)) (among-taken T next _ here)) share (u .holds) p S;
       }

@@ -11,7 +11,7 @@ use Rattle.shape.specs.Shape.{shapeOf}
 use Rattle.shape.specs.declared.Shape.{Shape}
 use Rattle.shape.specs.declared.Shape.the-variants.{Straight, Drop, Goto, Branch, Keep, Loop, Again, Select, Exit, Invoke, Begin, Return}
 use Rattle.registers.specs.declared.Registers.{Registers}
-use Rattle.stackmap.specs.Ways.{Module, parametersOf}
+use Rattle.stackmap.specs.Ways.{Module, parametersIn}
 use Rattle.step.specs.declared.Machine.{Machine}
 use Rattle.step.specs.declared.Outcome.the-variants.{Went}
 use Rattle.step.specs.Step.{After, stepOf}
@@ -45,16 +45,16 @@ abbrev pub begun : (M : Module) (q : Registers) (p next : ℕ) (calls : List Cal
 begun M q p next calls =
     record {
       procedure = p;
-      share = q .height - parametersOf M p;
+      share = q .height - parametersIn (M .code) p;
       link = q .mp;
       savedFp = q .fp;
       back = next;
     }
     ∷ calls
 
-abbrev pub without : List Call → List Call
-without [] = []
-without (c ∷ calls) = calls
+abbrev pub callers : List Call → List Call
+callers [] = []
+callers (c ∷ calls) = calls
 
 -- The active calls after a completed step: CALL begins one, RTN ends the last.
 abbrev pub callsAfter : Module → Registers → ℕ → Shape → List Call → List Call
@@ -69,7 +69,7 @@ callsAfter M q next (Select t n) calls = calls
 callsAfter M q next Exit calls = calls
 callsAfter M q next (Invoke p) calls = begun M q p next calls
 callsAfter M q next (Begin par) calls = calls
-callsAfter M q next Return calls = without calls
+callsAfter M q next Return calls = callers calls
 
 abbrev pub callsDecoded : Module → Registers → List Call → Decoded → List Call
 callsDecoded M q calls Unserved = calls

@@ -6,7 +6,7 @@ use Prim.Native.Nat.{ℕ, _≤_, _<_, _+_}
 use lib.ListN.{length, getD}
 use Rattle.entries.specs.Entries.{entryCount}
 use Rattle.registers.specs.Memory.{read}
-use Rattle.registers.specs.Program.{areasOf, constantsStart, framesStart}
+use Rattle.registers.specs.Program.{areasOf, globalsStart, constantsStart, framesStart}
 use Rattle.registers.specs.declared.Registers.{Registers}
 use Rattle.stackmap.specs.Slots.{Slot, word, label}
 use Rattle.stackmap.specs.Ways.{Module, labelWord}
@@ -70,7 +70,7 @@ pub record Safe (r : List ℕ) (M : Module) (w m0 : List ℕ) (c : Configuration
   -- "the check's workspace, as the check left it, shows that height and the topmost label"
   pub shown : Shows w (c .machine .registers .pc) slots
   -- "Header words and constants are as loaded"
-  pub header : (a : ℕ) → a < 3 → read (c .memory) a ≡ read m0 a
+  pub header : (a : ℕ) → a < globalsStart → read (c .memory) a ≡ read m0 a
   pub constants : (a : ℕ) → constantsStart (areasOf r) ≤ a → a < framesStart (areasOf r) → read (c .memory) a ≡ read m0 a
   -- "each active call's link words are as that call wrote them"
   pub links : Linked (c .memory) (c .calls)

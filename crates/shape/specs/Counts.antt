@@ -1,4 +1,4 @@
--- How many stack words an instruction finds (5.2.4, the brackets left of "=>").
+-- How many words an instruction moves and finds on the stack.
 use Prim.Native.Nat.{ℕ, _+_}
 use Rattle.opcode.specs.declared.instruction.Mode.{Mode}
 use Rattle.opcode.specs.declared.instruction.Mode.the-variants.{Normal, Double}

@@ -3,6 +3,7 @@ use mathlib.Core.Bool.{Bool, cond, _&&_}
 use mathlib.Core.List.{List, [], _∷_}
 use Prim.Native.Nat.{ℕ, zero, suc, _+_, _*_, _/_, _%_}
 use lib.Dec.{leb, ltb, eqb}
+use Rattle.words.specs.Series.{series}
 use Rattle.words.specs.Bytes.{wordAt}
 use Rattle.header.specs.declared.Header.{Header}
 use Rattle.header.specs.Header.{sourcesAt}
@@ -10,8 +11,7 @@ use Rattle.words.specs.Order.{rising}
 
 -- The first words of n pairs from place `at` on.
 abbrev pub offsetsFrom : List ℕ → ℕ → ℕ → List ℕ
-offsetsFrom r at zero = []
-offsetsFrom r at (suc n) = wordAt r at ∷ offsetsFrom r (at + 8) n
+offsetsFrom r at n = series (wordAt r) 8 at n
 
 -- 01: "The source table is pairs (offset, line)".
 unfoldable pub sourceOffsets : List ℕ → Header → List ℕ

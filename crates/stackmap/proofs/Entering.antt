@@ -13,7 +13,7 @@ use Rattle.words.specs.Bytes.{byteAt}
 use Rattle.entries.specs.Entries.{entryAt, entryCount}
 use Rattle.layout.specs.Cut.{updated}
 use Rattle.stackmap.specs.Slots.{Slot}
-use Rattle.stackmap.specs.Ways.{Module, parametersOf}
+use Rattle.stackmap.specs.Ways.{Module, parametersIn}
 use Rattle.stackmap.specs.StackMap.{firstSlots, entered}
 use Rattle.stackmap.specs.Walk.{blank, waiting, done, States, mapOf, entriesWait}
 use Rattle.stackmap.specs.Theorems.{Sound}
@@ -25,7 +25,7 @@ use Rattle.stackmap.proofs.Placing.{owned, Placed, AllPlaced, placed, p
 module _ (M : Module) (S : Sound M) where
   first-short : (p : ℕ) → length (firstSlots M p) ≤ 255
   first-short p =
-      rw (words-height (parametersOf M p))
+      rw (words-height (parametersIn (M .code) p))
       (either (λ (k : ℕ). k ≤ 255) (eqb p 0) 0 (byteAt (M .code) (entryAt (M .code) p + 1)) (omega arith) (S .bytes (entryAt (M .code) p + 1)))
 
   first-placed : (p : ℕ) → p < entryCount (M .code) → Placed M (entryAt (M .code) p) (firstSlots M p)

@@ -12,7 +12,7 @@ use Rattle.opcode.specs.declared.Decoded.the-variants.{Unserved, Past, At}
 use Rattle.shape.specs.Shape.{shapeOf}
 use Rattle.layout.specs.Cut.{startsIn}
 use Rattle.stackmap.specs.Slots.{Slot, pushWords}
-use Rattle.stackmap.specs.Ways.{Module, Way, _gets_, parametersOf, ways}
+use Rattle.stackmap.specs.Ways.{Module, Way, _gets_, parametersIn, ways}
 
 -- The ways out of what is decoded at an offset of procedure p.
 abbrev pub waysOf : Module → ℕ → ℕ → List Slot → Decoded → Option (List Way)
@@ -42,7 +42,7 @@ pub record Obeys (M : Module) (p : ℕ) (π : Map) (at : ℕ) (l : List Slot) : 
 
 -- "The first instruction is given the parameter words of its ENTER (procedure 0: none)."
 abbrev pub firstSlots : Module → ℕ → List Slot
-firstSlots M p = pushWords (parametersOf M p) []
+firstSlots M p = pushWords (parametersIn (M .code) p) []
 
 -- A map of procedure p's region.
 pub record IsMap (M : Module) (p : ℕ) (π : Map) : Type 0 where

@@ -9,7 +9,9 @@ use lib.Dec.{eqb, leb}
 use lib.ListN.{getD}
 use Rattle.words.specs.Bytes.{byteAt}
 use Rattle.entries.specs.Entries.{entryAt}
-use Rattle.opcode.specs.Distance.{placeAt}
+use Rattle.operand.specs.Operand.{fixedOf, operand}
+use Rattle.operand.specs.Distance.{placeAt}
+use Rattle.opcode.specs.Table.{iterCode, switchCode, switchXCode, iterOperands, enterOperands}
 use Rattle.shape.specs.declared.Shape.{Shape}
 use Rattle.shape.specs.declared.Shape.the-variants.{Straight, Drop, Goto, Branch, Keep, Loop, Again, Select, Exit, Invoke, Begin, Return}
 use Rattle.layout.specs.Cut.{Marks}
@@ -22,31 +24,29 @@ pub record Module : Type 0 where
   pub results : List ℕ
   pub marks : Marks
 
--- "the parameter words of its ENTER (procedure 0: none)"; the parameter byte follows the code byte.
+-- "the parameter words of its ENTER (procedure 0: none)".
 abbrev pub parametersIn : List ℕ → ℕ → ℕ
-parametersIn code p = cond (eqb p 0) 0 (byteAt code (entryAt code p + 1))
-
-abbrev pub parametersOf : Module → ℕ → ℕ
-parametersOf M p = parametersIn (M .code) p
+parametersIn code p = cond (eqb p 0) 0 (operand enterOperands code (entryAt code p))
 
 -- "The results list, one byte 0 to 2 per procedure from 0 up".
 abbrev pub resultsIn : List ℕ → ℕ → ℕ
 resultsIn results p = getD results p 0
 
-abbrev pub resultsOf : Module → ℕ → ℕ
-resultsOf M p = resultsIn (M .results) p
-
--- ITER is E0; SWITCH is E2, SWITCH_X is E3: "SWITCH_X counts as SWITCH here". An origin is a start, and DOUBLE stands before none of
--- the three, so that its first byte is its code.
+-- "SWITCH_X counts as SWITCH here". An origin is a start, and DOUBLE stands before none of the three, so that its first byte is its
+-- code.
 abbrev pub isLoop : List ℕ → ℕ → Bool
-isLoop code origin = eqb (byteAt code origin) 0xE0
+isLoop code origin = eqb (byteAt code origin) iterCode
 
 abbrev pub isSelect : List ℕ → ℕ → Bool
-isSelect code origin = eqb (byteAt code origin) 0xE2 || eqb (byteAt code origin) 0xE3
+isSelect code origin = eqb (byteAt code origin) switchCode || eqb (byteAt code origin) switchXCode
 
--- The word that a label's origin pushes: ITER, of three bytes, the next place; a switch its exit label.
+-- The place after an ITER.
+abbrev pub loopStart : ℕ → ℕ
+loopStart origin = origin + fixedOf iterOperands
+
+-- The word that a label's origin pushes: ITER the next place, a switch its exit label.
 abbrev pub labelWord : List ℕ → ℕ → ℕ
-labelWord code origin = cond (isLoop code origin) (origin + 3) (exitLabel code origin)
+labelWord code origin = cond (isLoop code origin) (loopStart origin) (exitLabel code origin)
 
 -- A successor, and the list that it is given.
 pub data Way : Type 0 where
@@ -101,6 +101,6 @@ ways M p at next (Loop d) l = after (popWords 4 l) (λ rest. both (next gets (la
 ways M p at next Again l = again (M .code) next l
 ways M p at next (Select t n) l = after (popWords 1 l) (λ rest. toAll (selectTargets (M .code) at t n) (label at ∷ rest))
 ways M p at next Exit l = exit (M .code) l
-ways M p at next (Invoke c) l = straight next (parametersOf M c) (resultsOf M c) l
+ways M p at next (Invoke c) l = straight next (parametersIn (M .code) c) (resultsIn (M .results) c) l
 ways M p at next (Begin par) l = straight next par 0 l
-ways M p at next Return l = cond (isWords (resultsOf M p) l) (some []) none
+ways M p at next Return l = cond (isWords (resultsIn (M .results) p) l) (some []) none

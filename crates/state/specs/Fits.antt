@@ -6,7 +6,7 @@ use lib.Dec.{eqb, leb}
 use lib.ListN.{length}
 use Rattle.registers.specs.declared.Registers.{Registers}
 use Rattle.registers.specs.declared.Areas.{Areas}
-use Rattle.registers.specs.Program.{constantsStart, framesStart}
+use Rattle.registers.specs.Program.{globalsStart, constantsStart, framesStart}
 use Rattle.registers.specs.Memory.{read, chained}
 
 -- 01, number 8: "memory under 3+g+c or over 16,384, stack over 1,024".
@@ -20,7 +20,7 @@ headerKept A m = eqb (read m 0) 0 && (eqb (read m 1) 0 && eqb (read m 2) (consta
 -- "GP is 3, FP <= MP <= memory, the height is within the stack, at most 64 calls are active".
 unfoldable pub registersFit : Registers → List ℕ → List ℕ → Bool
 registersFit q m s =
-    eqb (q .gp) 3 && (leb (q .fp) (q .mp) && (leb (q .mp) (length m) && (leb (q .height) (length s) && leb (q .calls) 64)))
+    eqb (q .gp) globalsStart && (leb (q .fp) (q .mp) && (leb (q .mp) (length m) && (leb (q .height) (length s) && leb (q .calls) 64)))
 
 -- "A state fits when the lent sizes are ones load takes, words 0 to 2 are as loaded, .., and following the saved FP that many
 -- times, each at least 2 lower, ends at 3+g+c."

@@ -18,10 +18,11 @@ use Rattle.effect.specs.declared.effect.Write.the-variants.{NoWrite}
 use Rattle.effect.specs.declared.effect.Effect.the-variants.{Trap as trap, Go}
 use Rattle.registers.specs.Memory.{read, live}
 use Rattle.effect.specs.Data.{protectsAny, baseOf, valued, loaded, loadFrom, addressOf, stored, storeTo, inverted}
-use Rattle.registers.specs.Words.{moved}
+use Rattle.registers.specs.Changes.{moved}
 use Rattle.registers.specs.declared.Registers.{Registers}
 use Rattle.registers.specs.Program.{Program}
-use Rattle.control.specs.Control.{jumped, jumps, jumpsIfFalse, jumpsKeeping}
+use Rattle.operand.specs.Distance.{placeAt}
+use Rattle.control.specs.Control.{jumps, jumpsIfFalse, jumpsKeeping}
 use Rattle.execute.specs.declared.Group.the-variants.{Gives, Goes as goes, Stores}
 use Rattle.execute.specs.Group.{groupOf}
 use Rattle.execute.specs.Execute.{execute}
@@ -108,9 +109,9 @@ module _ (P : Program) (q : Registers) (m : List ℕ) (next : ℕ) (ws : List �
   goes-goes Alloc e = let z : _≡_ {A = ℕ} 0 1 = cc in absurd (omega arith)
   goes-goes Free e = let z : _≡_ {A = ℕ} 0 1 = cc in absurd (omega arith)
   goes-goes (Jump d) e = (refl, refl, refl)
-  goes-goes (JumpC d) e = goes-if q 34 (ltb (read ws 0) 2) 1 (cond (eqb (read ws 0) 0) (jumped q d) next)
-  goes-goes (JumpT d) e = goes-either q 34 (ltb (read ws 0) 2) (eqb (read ws 0) 1) 0 (jumped q d) 1 next
-  goes-goes (JumpF d) e = goes-either q 34 (ltb (read ws 0) 2) (eqb (read ws 0) 0) 0 (jumped q d) 1 next
+  goes-goes (JumpC d) e = goes-if q 34 (ltb (read ws 0) 2) 1 (cond (eqb (read ws 0) 0) (placeAt (q .pc) d) next)
+  goes-goes (JumpT d) e = goes-either q 34 (ltb (read ws 0) 2) (eqb (read ws 0) 1) 0 (placeAt (q .pc) d) 1 next
+  goes-goes (JumpF d) e = goes-either q 34 (ltb (read ws 0) 2) (eqb (read ws 0) 0) 0 (placeAt (q .pc) d) 1 next
   goes-goes (Iter d) e = let z : _≡_ {A = ℕ} 0 1 = cc in absurd (omega arith)
   goes-goes Next e = let z : _≡_ {A = ℕ} 0 1 = cc in absurd (omega arith)
   goes-goes (Switch n) e = let z : _≡_ {A = ℕ} 0 1 = cc in absurd (omega arith)

@@ -20,8 +20,8 @@ use Rattle.effect.specs.declared.effect.Effect.the-variants.{Trap, Finish, Go}
 use Rattle.registers.specs.declared.Registers.{Registers}
 use Rattle.registers.specs.Program.{program}
 use Rattle.effect.specs.Data.{pushes}
-use Rattle.registers.specs.Words.{raised}
-use Rattle.execute.specs.Depth.{top}
+use Rattle.registers.specs.Changes.{raised}
+use Rattle.execute.specs.Depth.{topWords}
 use Rattle.execute.specs.Execute.{execute}
 use Rattle.step.specs.declared.Machine.{Machine}
 use Rattle.step.specs.declared.Stepped.{Stepped}
@@ -63,7 +63,7 @@ settled size M m s (Go gone push write next) =
     cond (ltb (length s) (height - gone + pushes push)) (after (trapping M 36) m s)
     (cond (ltb (next .pc) size)
     (after (record { outcome = Went; machine = advanced M (raised next (height - gone + pushes push)) })
-    (written m (top gone height s) write) (sets s (height - gone) (pushed push)))
+    (written m (topWords gone height s) write) (sets s (height - gone) (pushed push)))
     (after (trapping M 21) m s))
 
 -- Code traps: 20 is "unserved", 21 "offset or bytes outside the code", 22 "too few stack words".
@@ -73,7 +73,7 @@ performed code M m s Past = after (trapping M 21) m s
 performed code M m s (At i next) =
     let q = M .registers in
     cond (ltb (q .height) (needed i)) (after (trapping M 22) m s)
-    (settled (length code) M m s (execute (program code (M .areas)) q m next (top (needed i) (q .height) s) i))
+    (settled (length code) M m s (execute (program code (M .areas)) q m next (topWords (needed i) (q .height) s) i))
 
 unfoldable pub stepOf : List ℕ → Machine → List ℕ → List ℕ → After
 stepOf code M m s = performed code M m s (decodeAt code (length code) (M .registers .pc))

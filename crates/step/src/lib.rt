@@ -9,10 +9,10 @@ ghost use Rattle.state.specs.Fits.{fits};
 ghost use Prim.Native.Nat.{_<_};
 ghost use Rattle.shape.specs.Counts.{needed};
 ghost use Rattle.registers.specs.Program.{program};
-ghost use Rattle.execute.specs.Depth.{top};
+ghost use Rattle.execute.specs.Depth.{topWords};
 ghost use Rattle.execute.specs.Execute.{execute};
 ghost use Rattle.effect.specs.Data.{pushes};
-ghost use Rattle.registers.specs.Words.{moved, raised};
+ghost use Rattle.registers.specs.Changes.{moved, raised};
 ghost use Rattle.step.specs.Carry.{finishing, going, Pushes, Goes, Writes};
 ghost use Rattle.step.specs.Step.{after, trapping, pushed, written, settled, stepOf};
 use effect::effect::Effect;
@@ -279,7 +279,7 @@ impl Machine {
         requires { ⌜ self .registers .pc < 4096 ⌝ }
         requires { ⌜ fits (self .areas) (self .registers) (now memory) (now stack) ≡ true ⌝ }
         requires { ⌜ needed i ≤ self .registers .height ⌝ }
-        ensures { λ r. ⌜ after r (now (memory .exit)) (now (stack .exit)) ≡ settled (length (now (code .entry))) self (now (memory .entry)) (now (stack .entry)) (execute (program (now (code .entry)) (self .areas)) (self .registers) (now (memory .entry)) next (top (needed i) (self .registers .height) (now (stack .entry))) i) ⌝ }
+        ensures { λ r. ⌜ after r (now (memory .exit)) (now (stack .exit)) ≡ settled (length (now (code .entry))) self (now (memory .entry)) (now (stack .entry)) (execute (program (now (code .entry)) (self .areas)) (self .registers) (now (memory .entry)) next (topWords (needed i) (self .registers .height) (now (stack .entry))) i) ⌝ }
     {
         let q = self.registers;
         let areas = self.areas;

@@ -1,7 +1,8 @@
 -- Where control may go from an instruction. 01: "where NEXT goes round to and LEAVE goes is for the picture".
 use mathlib.Core.List.{List, [], _∷_}
-use Prim.Native.Nat.{ℕ, zero, suc, _+_}
-use Rattle.opcode.specs.Distance.{placeAt}
+use Prim.Native.Nat.{ℕ, _+_}
+use Rattle.words.specs.Series.{series}
+use Rattle.operand.specs.Distance.{placeAt}
 use Rattle.switch_table.specs.Switch.{exitDistance, elseDistance, branchDistance, rangeDistance, orElse}
 use Rattle.shape.specs.declared.Shape.{Shape}
 use Rattle.shape.specs.declared.Shape.the-variants.{Straight, Drop, Goto, Branch, Keep, Loop, Again, Select, Exit, Invoke, Begin, Return}
@@ -18,9 +19,9 @@ abbrev pub tableTarget : List ℕ → ℕ → Table → ℕ → ℕ
 tableTarget code at Branches k = at + branchDistance code at k
 tableTarget code at Ranges k = at + orElse (rangeDistance code at k) (elseDistance code at)
 
+-- Where n branches from k on go.
 abbrev pub tableFrom : List ℕ → ℕ → Table → ℕ → ℕ → List ℕ
-tableFrom code at t k zero = []
-tableFrom code at t k (suc n) = tableTarget code at t k ∷ tableFrom code at t (k + 1) n
+tableFrom code at t k n = series (tableTarget code at t) 1 k n
 
 -- The label of a switch, where its LEAVE goes.
 abbrev pub exitLabel : List ℕ → ℕ → ℕ

@@ -1,7 +1,7 @@
 // Where control may go.
 ghost use mathlib.Core.Path.{_≡_};
 ghost use Prim.Native.Nat.{_<_, _+_};
-ghost use Rattle.opcode.specs.Distance.{placeAt};
+ghost use Rattle.operand.specs.Distance.{placeAt};
 ghost use Rattle.switch_table.specs.Switch.{elseDistance};
 ghost use Rattle.successors.specs.Successors.{tableSize, tableTarget, exitLabel};
 use shape::Table;
@@ -11,7 +11,7 @@ pub fn place_at(at: usize, distance: u32) -> usize
     requires { ⌜ at < 65536 ⌝ }
     ensures { λ r. ⌜ r ≡ placeAt at distance ⌝ }
 {
-    (at + (distance as usize)) % 0x1_0000_0000
+    operand::place_at(at as u32, distance) as usize
 }
 
 pub fn exit_label(code: &[u8], at: usize) -> usize

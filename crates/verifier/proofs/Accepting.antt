@@ -10,7 +10,8 @@ use Rattle.header.specs.Header.{codeOf}
 use Rattle.layout.specs.Cut.{Marks, Cut, bad, cut, cutOf}
 use Rattle.faults.specs.Faults.{codeNumber}
 use Rattle.stackmap.specs.Walk.{States, walkOf}
-use Rattle.verifier.specs.Check.{listNumber, moduleOf, refuted, accepted, verdictOf, checking, concluded, checkOf}
+use Rattle.verifier.specs.Check.{listNumber, moduleOf, refuted, accepted, verdictOf, concluded, checkOf}
+use Rattle.workspace.specs.Checking.{checking}
 use Rattle.verifier.proofs.Ranges.{list-range, code-range, cut-range}
 use Rattle.verifier.proofs.Records.{Listed, listed}
 

@@ -10,13 +10,13 @@ use native.Mathlib.Numerals.{add-one}
 use lib.Dec.{eqb, leb, leb·suc-suc}
 use lib.ListN.{length}
 use borrow.Author.Tests.{le-leb, lt-leb}
-use Rattle.opcode.specs.Distance.{placeAt}
+use Rattle.operand.specs.Distance.{placeAt}
 use Rattle.shape.specs.declared.Shape.{Shape}
 use Rattle.shape.specs.declared.Shape.the-variants.{Straight, Drop, Goto, Branch, Keep, Loop, Again, Select, Exit, Invoke, Begin, Return}
 use Rattle.shape.specs.declared.Table.{Table}
 use Rattle.successors.specs.Successors.{exitLabel, selectTargets}
 use Rattle.stackmap.specs.Slots.{Slot, word, label, pushWords, popWords, dropSlots, isWords, topOrigin}
-use Rattle.stackmap.specs.Ways.{Module, Way, _gets_, isLoop, isSelect, after, both, toAll, straight, again, exit, ways, parametersOf, resultsOf}
+use Rattle.stackmap.specs.Ways.{Module, Way, _gets_, isLoop, isSelect, after, both, toAll, straight, again, exit, ways, parametersIn, resultsIn}
 use Rattle.stackmap.specs.StackMap.{Map}
 use Rattle.compact.specs.declared.top.Top.{Top}
 use Rattle.compact_ways.specs.declared.Way.{Way as Compact}
@@ -205,6 +205,6 @@ ways-stand M p at next (Loop d) w π l c S = loop-stands (M .code) w π S at nex
 ways-stand M p at next Again w π l c S = again-stands (M .code) w π S at next l c
 ways-stand M p at next (Select t n) w π l c S = select-stands (M .code) w π S at n t l c
 ways-stand M p at next Exit w π l c S = exit-stands (M .code) w π S at l c
-ways-stand M p at next (Invoke q) w π l c S = straight-stands (M .code) w π S at next (parametersOf M q) (resultsOf M q) l c
+ways-stand M p at next (Invoke q) w π l c S = straight-stands (M .code) w π S at next (parametersIn (M .code) q) (resultsIn (M .results) q) l c
 ways-stand M p at next (Begin par) w π l c S = straight-stands (M .code) w π S at next par 0 l c
-ways-stand M p at next Return w π l c S = return-stands (M .code) at (resultsOf M p) l
+ways-stand M p at next Return w π l c S = return-stands (M .code) at (resultsIn (M .results) p) l

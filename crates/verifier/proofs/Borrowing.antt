@@ -5,7 +5,8 @@ use Prim.Native.Nat.{ℕ, _+_, _*_, _<_, _≤_}
 use native.Mathlib.Omega.{arith}
 use lib.ListN.{length, getD, take, drop, replicate, length-take, drop-of-length-le}
 use Rattle.header.specs.Header.{codeOf}
-use Rattle.verifier.specs.Check.{Verdict, refuted, accepted, verdictOf, listNumber, Checking, checking, concluded, shownFrom, checkOf}
+use Rattle.verifier.specs.Check.{Verdict, refuted, accepted, verdictOf, listNumber, concluded, shownFrom, checkOf}
+use Rattle.workspace.specs.Checking.{Checking, checking}
 use Rattle.verifier.specs.Examine.{examinedTop}
 use Rattle.record.proofs.Sound.{numberless, sound-code}
 use Rattle.verifier.proofs.Records.{listed, code-bytes}

@@ -17,7 +17,8 @@ use Rattle.layout.proofs.Cutting.{Cutted, cutting-starts}
 use Rattle.layout.proofs.Marking.{marking-cuts, marking-refuses, marking-keeps-length, marking-keeps-others}
 use Rattle.stackmap.specs.Theorems.{Sound}
 use Rattle.stackmap.specs.Walk.{States, walkOf}
-use Rattle.verifier.specs.Check.{moduleOf, refuted, walked, verdictOf, checking, concluded, shownFrom}
+use Rattle.verifier.specs.Check.{moduleOf, refuted, walked, verdictOf, concluded, shownFrom}
+use Rattle.workspace.specs.Checking.{checking}
 use Rattle.verifier.specs.Handing.{walkedTop}
 use Rattle.verifier.specs.Examine.{zeroed, unmarked, afterWalk, afterFaults, afterMarks, examinedTop}
 use Rattle.verifier.proofs.Simulation.{Alike, walks-alike}

@@ -20,7 +20,8 @@ use Rattle.stackmap.specs.StackMap.{Map, IsMap, Reached}
 use Rattle.stackmap.specs.Theorems.{Sound, mapIn}
 use Rattle.stackmap.specs.Walk.{State, States, mapOf, slotsIn, blank, waiting, done, walkOf}
 use Rattle.stackmap.proofs.Exact.{finds-maps, refutes-maps, finds-reached, has-reached}
-use Rattle.verifier.specs.Check.{listNumber, moduleOf, accepted, verdictOf, Checking, concluded, shownState, shownFrom, checkOf}
+use Rattle.verifier.specs.Check.{listNumber, moduleOf, accepted, verdictOf, concluded, shownState, shownFrom, checkOf}
+use Rattle.workspace.specs.Checking.{Checking}
 use Rattle.words.specs.Bytes.{Bytes}
 use Rattle.verifier.specs.Exact.{Ruled, subject, Mapped, Unmapped, Room, AcceptsOnly, AcceptsAll, RefusesOnly, RefusesAll, Shows, ShowsReached, ShowsNoMore}
 use Rattle.record.proofs.Sound.{numberless}

@@ -10,7 +10,7 @@ use lib.Dec.{leb}
 use borrow.Author.Tests.{eq-eqb}
 use Rattle.words.specs.Bytes.{byteAt}
 use Rattle.opcode.specs.Decode.{decodeAt}
-use Rattle.opcode.specs.Distance.{placeAt}
+use Rattle.operand.specs.Distance.{placeAt}
 use Rattle.opcode.specs.declared.Decoded.the-variants.{At}
 use Rattle.opcode.specs.declared.instruction.Instruction.{Instruction}
 use Rattle.shape.specs.Shape.{shapeOf}
@@ -19,7 +19,7 @@ use Rattle.shape.specs.declared.Shape.the-variants.{Straight, Drop, Goto, Branc
 use Rattle.shape.proofs.Origins.{loop-origin, select-origin}
 use Rattle.successors.specs.Successors.{selectTargets}
 use Rattle.stackmap.specs.Slots.{Slot, word, label, pushWords, popWords, dropSlots, isWords}
-use Rattle.stackmap.specs.Ways.{Module, Way, _gets_, isLoop, isSelect, labelWord, after, both, toAll, straight, again, exit, ways, parametersOf, resultsOf}
+use Rattle.stackmap.specs.Ways.{Module, Way, _gets_, isLoop, isSelect, labelWord, after, both, toAll, straight, again, exit, ways, parametersIn, resultsIn}
 use Rattle.stackmap.specs.StackMap.{Map}
 use Rattle.verifier.proofs.Coherence.{Lies, on-loop, on-select, Coherent, on-nothing, on-word, on-label, AllCoherent, no-way, a-way}
 
@@ -130,10 +130,10 @@ shape-passes M p at next limit i (Select t n) π l q d c e =
     (on-label (select-lies (M .code) π at l rest (o .0) (o .1) e h) (under-words (M .code) π 1 l rest c h))
 shape-passes M p at next limit i Exit π l q d c e = exit-passes (M .code) π l c
 shape-passes M p at next limit i (Invoke f) π l q d c e =
-    straight-passes (M .code) π next (parametersOf M f) (resultsOf M f) l c
+    straight-passes (M .code) π next (parametersIn (M .code) f) (resultsIn (M .results) f) l c
 shape-passes M p at next limit i (Begin par) π l q d c e = straight-passes (M .code) π next par 0 l c
 shape-passes M p at next limit i Return π l q d c e =
-    passes-where (M .code) π (isWords (resultsOf M p) l) (some []) (passing no-way)
+    passes-where (M .code) π (isWords (resultsIn (M .results) p) l) (some []) (passing no-way)
 
 pub ways-coherent : (M : Module) (p at next limit : ℕ) (i : Instruction) (π : Map) (l : List Slot) (out : List Way)
     → decodeAt (M .code) limit at ≡ At i next → Coherent (M .code) π l → π at ≡ some l

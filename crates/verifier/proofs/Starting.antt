@@ -9,7 +9,7 @@ use Rattle.entries.specs.Entries.{entryAt, entryCount}
 use Rattle.layout.specs.Cut.{updated}
 use Rattle.layout.specs.Workspace.{marksIn}
 use Rattle.stackmap.specs.Slots.{Slot, pushWords}
-use Rattle.stackmap.specs.Ways.{Module, parametersOf}
+use Rattle.stackmap.specs.Ways.{Module, parametersIn}
 use Rattle.stackmap.specs.StackMap.{Map}
 use Rattle.stackmap.specs.Walk.{blank, waiting, States, mapOf, entriesWait}
 use Rattle.stackmap.specs.Theorems.{Sound}
@@ -67,7 +67,7 @@ module _ (M : Module) (S : Sound M) (start : List ℕ) where
       → Fresh M start (entryGiven (M .code) p w) (entering M S p σ)
   unfolding entryGiven
   enter-one p w σ b F =
-      words-given M start w σ F (entryAt (M .code) p) (parametersOf M p) (S .within p (entryAt (M .code) p) (S .entries p b))
+      words-given M start w σ F (entryAt (M .code) p) (parametersIn (M .code) p) (S .within p (entryAt (M .code) p) (S .entries p b))
 
   enter-all : (n p : ℕ) (w : List ℕ) (σ : States) → p + n ≤ entryCount (M .code) → Fresh M start w σ
       → Fresh M start (entriesGiven (M .code) p n w) (entriesWait M p n σ)

@@ -11,6 +11,7 @@ use Rattle.words.specs.Refusal.{_when_}
 use Rattle.header.specs.Header.{codeOf}
 use Rattle.entries.specs.Entries.{entryCount}
 use Rattle.record.specs.Number.{afterRecord}
+use Rattle.workspace.specs.Checking.{Checking, checking}
 use Rattle.layout.specs.Cut.{Marks, Cut, bad, cut, cutOf}
 use Rattle.faults.specs.Faults.{codeNumber}
 use Rattle.stackmap.specs.Slots.{Slot, topOrigin}
@@ -64,14 +65,6 @@ shownState (done l) = shownSlots l
 abbrev pub shownFrom : States → ℕ → ℕ → List ℕ
 shownFrom σ at zero = []
 shownFrom σ at (suc n) = shownState (σ at) ++ shownFrom σ (at + 1) n
-
--- What the check answers, and the workspace that it leaves.
-pub record Checking : Type 0 where
-  pub number : ℕ
-  pub workspace : List ℕ
-
-abbrev pub checking : ℕ → List ℕ → Checking
-checking n w = record { number = n; workspace = w }
 
 abbrev pub concluded : ℕ → List ℕ → Verdict → Checking
 concluded size w (refuted n) = checking n (replicate (4 * size) 0 ++ drop (4 * size) w)

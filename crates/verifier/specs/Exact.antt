@@ -34,26 +34,31 @@ Mapped r results R = (p : ℕ) → p < entryCount (codeOf r) → (π : Map) × I
 abbrev pub Room : List ℕ → List ℕ → Type 0
 Room r w = 4 * length (codeOf r) ≤ length w
 
--- Accepted: then there is room, the rules are met and every region has a map; and the other way round.
-abbrev pub AcceptsOnly : Type 0
-AcceptsOnly =
-    (r results w : List ℕ) → Bytes r → checkOf r results w .number ≡ 0 → Room r w × (R : Ruled r results) × Mapped r results R
-
-abbrev pub AcceptsAll : Type 0
-AcceptsAll =
-    (r results w : List ℕ) → Bytes r → Room r w → (R : Ruled r results) → Mapped r results R → checkOf r results w .number ≡ 0
-
--- 15 is given exactly when there is room, the rules up to 14 are met, and some region has none.
+-- Some region has none.
 abbrev pub Unmapped : (r results : List ℕ) → Ruled r results → Type 0
 Unmapped r results R = (p : ℕ) × (p < entryCount (codeOf r)) × ((π : Map) → IsMap (subject r results R) p π → ⊥)
 
+-- The check answers a number: then there is room, the rules up to 14 are met and a property holds; and the other way round.
+abbrev pub GivesOnly : ℕ → ((r results : List ℕ) → Ruled r results → Type 0) → Type 0
+GivesOnly number Property =
+    (r results w : List ℕ) → Bytes r → checkOf r results w .number ≡ number → Room r w × (R : Ruled r results) × Property r results R
+
+abbrev pub GivesAll : ℕ → ((r results : List ℕ) → Ruled r results → Type 0) → Type 0
+GivesAll number Property =
+    (r results w : List ℕ) → Bytes r → Room r w → (R : Ruled r results) → Property r results R → checkOf r results w .number ≡ number
+
+-- Accepted exactly when every region has a map; 15 exactly when some region has none.
+abbrev pub AcceptsOnly : Type 0
+AcceptsOnly = GivesOnly 0 Mapped
+
+abbrev pub AcceptsAll : Type 0
+AcceptsAll = GivesAll 0 Mapped
+
 abbrev pub RefusesOnly : Type 0
-RefusesOnly =
-    (r results w : List ℕ) → Bytes r → checkOf r results w .number ≡ 15 → Room r w × (R : Ruled r results) × Unmapped r results R
+RefusesOnly = GivesOnly 15 Unmapped
 
 abbrev pub RefusesAll : Type 0
-RefusesAll =
-    (r results w : List ℕ) → Bytes r → Room r w → (R : Ruled r results) → Unmapped r results R → checkOf r results w .number ≡ 15
+RefusesAll = GivesAll 15 Unmapped
 
 -- After acceptance the workspace shows the map of just what is reached: height plus 1 and the topmost label where there is a list, and
 -- 0 and 0 at every other offset.

@@ -6,7 +6,7 @@ use lib.Dec.{eqb}
 use lib.ListN.{length, set, replicate}
 use Rattle.faults.specs.Faults.{codeNumber}
 use Rattle.layout.specs.Workspace.{marksIn, markAll}
-use Rattle.verifier.specs.Check.{Checking, checking}
+use Rattle.workspace.specs.Checking.{Checking, checking}
 use Rattle.verifier.specs.Handing.{Walking, walkedTop}
 
 abbrev pub zeroed : List ℕ → List ℕ
@@ -21,13 +21,15 @@ abbrev pub afterWalk : List ℕ → Walking → Checking
 afterWalk code a =
     cond (a .accepts) (checking 0 (unmarked 0 (length code) (a .workspace))) (checking 15 (zeroed (a .workspace)))
 
+-- A number ends the check, and what is left is zeroes; without one it goes on.
+abbrev pub unless : List ℕ → ℕ → Checking → Checking
+unless w number onward = cond (eqb number 0) onward (checking number (zeroed w))
+
 abbrev pub afterFaults : List ℕ → List ℕ → List ℕ → ℕ → Checking
-afterFaults code results w number =
-    cond (eqb number 0) (afterWalk code (walkedTop code results w)) (checking number (zeroed w))
+afterFaults code results w number = unless w number (afterWalk code (walkedTop code results w))
 
 abbrev pub afterMarks : List ℕ → List ℕ → List ℕ → ℕ → Checking
-afterMarks code results w number =
-    cond (eqb number 0) (afterFaults code results w (codeNumber code (marksIn w (length code)))) (checking number (zeroed w))
+afterMarks code results w number = unless w number (afterFaults code results w (codeNumber code (marksIn w (length code))))
 
 unfoldable pub examinedTop : List ℕ → List ℕ → List ℕ → Checking
 examinedTop code results w =

@@ -4,4 +4,4 @@ pub mod Bytes
 pub mod Left
 pub mod Slices
 pub mod Tests
-pub mod Words
+pub mod Series

@@ -1,8 +1,9 @@
 -- Numbers in a list of bytes, highest byte first (01: "Seven header words, highest byte first"; the manual's chapter 4: big endian;
 -- 5.2.2: halfword and word are 2-byte and 4-byte values). A read past the end gives 0, so that every read is total.
-use mathlib.Core.List.{List, [], _∷_}
-use Prim.Native.Nat.{ℕ, zero, suc, _+_, _*_, _≤_}
+use mathlib.Core.List.{List}
+use Prim.Native.Nat.{ℕ, _+_, _*_, _≤_}
 use lib.ListN.{getD}
+use Rattle.words.specs.Series.{series}
 
 abbrev pub byteAt : List ℕ → ℕ → ℕ
 byteAt s i = getD s i 0
@@ -19,5 +20,4 @@ wordAt s i = halfwordAt s i * 65536 + halfwordAt s (i + 2)
 
 -- n words from a place on.
 abbrev pub wordsFrom : List ℕ → ℕ → ℕ → List ℕ
-wordsFrom r place zero = []
-wordsFrom r place (suc n) = wordAt r place ∷ wordsFrom r (place + 4) n
+wordsFrom r place n = series (wordAt r) 4 place n

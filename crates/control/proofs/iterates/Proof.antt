@@ -8,15 +8,15 @@ use Rattle.control.proofs.iterates.Tie as tie
 is-beyond-requires : tie.Need-is-beyond-requires
 is-beyond-requires c κs = search needs
 
-jumped-requires : tie.Need-jumped-requires
-jumped-requires c κs = search needs
+place-at-requires : tie.Need-place-at-requires
+place-at-requires c κs = search needs
 
 jump-to-requires : tie.Need-jump-to-requires
 jump-to-requires c κs = search needs
 
 returns : tie.Need-returns
 unfolding iterates
-returns c = rw (← c .before .before .before .is-beyond .ensures, c .before .before .if1 .taken, c .jump-to .ensures, c .before .jumped .ensures)
+returns c = rw (← c .before .before .before .is-beyond .ensures, c .before .before .if1 .taken, c .jump-to .ensures, c .before .place-at .ensures)
 
 is-live-requires : tie.Need-is-live-requires
 is-live-requires c κs = search needs
@@ -44,7 +44,7 @@ iterates-spec =
     tie.close
     (tie.spec
     is-beyond-requires
-    jumped-requires
+    place-at-requires
     jump-to-requires
     returns
     is-live-requires

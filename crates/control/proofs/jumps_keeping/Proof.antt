@@ -10,15 +10,15 @@ returns : tie.Need-returns
 unfolding jumpsKeeping
 returns c = rw (le-ltb (c .before .args .b) 2 (omega arith))
 
-jumped-requires : tie.Need-jumped-requires
-jumped-requires c κs = search needs
+place-at-requires : tie.Need-place-at-requires
+place-at-requires c κs = search needs
 
 jump-to-requires : tie.Need-jump-to-requires
 jump-to-requires c κs = search needs
 
 returns-2 : tie.Need-returns-2
 unfolding jumpsKeeping
-returns-2 c = rw (lt-ltb (c .before .before .before .before .args .b) 2 (omega arith), eq-eqb (c .before .before .before .before .args .b) (c .before .before .before .before .args .when) (c .before .before .if2 .taken), c .jump-to .ensures, c .before .jumped .ensures)
+returns-2 c = rw (lt-ltb (c .before .before .before .before .args .b) 2 (omega arith), eq-eqb (c .before .before .before .before .args .b) (c .before .before .before .before .args .when) (c .before .before .if2 .taken), c .jump-to .ensures, c .before .place-at .ensures)
 
 jump-to-requires-2 : tie.Need-jump-to-requires-2
 jump-to-requires-2 c κs = search needs
@@ -30,4 +30,4 @@ returns-3 c = rw (lt-ltb (c .before .before .before .args .b) 2 (omega arith), n
 pub jumps-keeping-spec : {M : Type 1} → statement M
 jumps-keeping-spec =
     tie.close
-    (tie.spec returns jumped-requires jump-to-requires returns-2 jump-to-requires-2 returns-3)
+    (tie.spec returns place-at-requires jump-to-requires returns-2 jump-to-requires-2 returns-3)

@@ -7,7 +7,8 @@ use lib.ListN.{length, length-set}
 use borrow.Author.Needs.{needs}
 use borrow.Author.Tests.{eq-eqb, ne-eqb}
 use Rattle.icode.proofs.icode_bench_decode.Statement.{statement}
-use Rattle.icode.specs.Interface.{decodeReply, decoding}
+use Rattle.icode.specs.Interface.{decodeReply}
+use Rattle.report.specs.Report.{output}
 use Rattle.icode.proofs.Reach.{reach}
 use Rattle.icode.proofs.Written.{sets-all}
 use Rattle.icode.proofs.icode_bench_decode.Tie as tie
@@ -111,7 +112,7 @@ returns-4 c =
       c .before .operand-of .ensures,
       c .second-of .ensures,
     )
-    (ap (decoding 0) (sets-all out (_ ∷ _ ∷ _ ∷ _ ∷ _ ∷ []) (decode .before .if1 .left)))
+    (ap (output 0) (sets-all out (_ ∷ _ ∷ _ ∷ _ ∷ _ ∷ []) (decode .before .if1 .left)))
 
 pub icode-bench-decode-spec : {M : Type 1} → statement M
 icode-bench-decode-spec =

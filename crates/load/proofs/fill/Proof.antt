@@ -7,7 +7,8 @@ use lib.ListN.{length, take, length-set}
 use borrow.Author.Needs.{needs}
 use Rattle.load.proofs.fill.Statement.{statement}
 use Rattle.load.specs.Load.{loadedMemory}
-use Rattle.load.proofs.Loading.{loaded-word, loaded-length, filled-next, filled-all}
+use Rattle.words.proofs.Series.{filled-next, filled-all}
+use Rattle.load.proofs.Loading.{loaded-word, loaded-length}
 use Rattle.load.proofs.fill.Tie as tie
 
 abbrev Inv-loop : tie.InvT-loop

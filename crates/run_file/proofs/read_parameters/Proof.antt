@@ -1,18 +1,19 @@
 -- `run_file::read_parameters` meets its contract. The loop's invariant: the parameters keep their count, and up to the place reached
 -- they are the words of the file. The measure is what is left of them.
 use Prim.Native.Nat.{_+_, _-_, _≤_}
-use mathlib.Core.Path.{_≡_, _∙_}
+use mathlib.Core.Path.{_≡_, _∙_, sym}
 use native.Mathlib.Omega.{arith}
 use lib.ListN.{length, take, length-set}
 use borrow.Author.Needs.{needs}
 use Rattle.run_file.proofs.read_parameters.Statement.{statement}
-use Rattle.words.specs.Bytes.{wordsFrom}
-use Rattle.words.proofs.Words.{written-next, written-all}
+use Rattle.words.specs.Bytes.{wordAt, wordsFrom}
+use Rattle.words.proofs.Series.{series-at, series-length, filled-next, filled-all}
 use Rattle.run_file.proofs.read_parameters.Tie as tie
 
 abbrev Inv-loop : tie.InvT-loop
 Inv-loop f parameters₀ from i₀ i-end parameters i =
-    (length parameters ≡ length parameters₀) × (i ≤ length parameters₀) × (take i parameters ≡ wordsFrom f from i)
+    (length parameters ≡ length parameters₀) × (i ≤ length parameters₀)
+    × (take i parameters ≡ take i (wordsFrom f from (length parameters₀)))
 
 abbrev μ-loop : tie.MeasureT-loop
 μ-loop f parameters₀ from i₀ i-end parameters i = length parameters₀ - i
@@ -52,10 +53,13 @@ loop-again c =
     let f = c .before .before .before .before .before .before .args .f .now in
     let from = 7 + c .before .before .before .results-count .result in
     let l = c .before .before .loop in
+    let n = length (c .before .before .before .before .before .before .args .parameters .now) in
     let x = c .word-at in (
       length-set (l .parameters) (l .i) (x .result) ∙ l .inv .0,
       omega arith,
-      written-next f (l .parameters) from (l .i) (x .result) (l .inv .2) (omega arith) (x .ensures),
+      filled-next (l .parameters) (wordsFrom f from n) (l .i) (x .result) (l .inv .2) (omega arith)
+          (l .inv .0 ∙ sym (series-length (wordAt f) 4 from n))
+          (x .ensures ∙ sym (series-at (wordAt f) 4 from n (l .i) (omega arith))),
     )
 
 same-length : tie.Need-same-length Inv-loop μ-loop
@@ -66,8 +70,10 @@ returns c =
     let f = c .before .before .before .before .before .args .f .now in
     let count = c .before .before .results-count in
     let l = c .before .loop in
+    let n = length (c .before .before .before .before .before .args .parameters .now) in
     rw (← count .ensures)
-    (written-all f (l .parameters) (7 + count .result) (l .i) _ (l .inv .2) (l .inv .0) (c .loop-test .left) (l .inv .1))
+    (filled-all (l .parameters) (wordsFrom f (7 + count .result) n) (l .i) (l .inv .2) (omega arith)
+    (l .inv .0 ∙ sym (series-length (wordAt f) 4 (7 + count .result) n)))
 
 pub read-parameters-spec : {M : Type 1} → statement M
 read-parameters-spec =

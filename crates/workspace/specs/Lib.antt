@@ -1,0 +1,2 @@
+-- What a test over the workspace answers and leaves.
+pub mod Checking
