@@ -1,13 +1,13 @@
 -- A trapped step is a case of the definition that hands everything back; a completed one stores the pushed words alone, which end at the
 -- new height.
 use mathlib.Core.Path.{_≡_, _∙_, refl}
-use mathlib.Core.Bool.{Bool, true, false, cond}
 use mathlib.Core.List.{List, [], _∷_}
 use Prim.Native.Nat.{ℕ, suc, _+_, _-_, _≤_}
 use native.Mathlib.Omega.{arith}
 use lib.Dec.{ltb}
 use lib.ListN.{length, getD, set}
 use lib.Seq.{sets, getD-set-other}
+use Rattle.words.proofs.Tests.{either}
 use Rattle.opcode.specs.Decode.{decodeAt}
 use Rattle.opcode.specs.declared.Decoded.{Decoded}
 use Rattle.opcode.specs.declared.Decoded.the-variants.{Unserved, Past, At}
@@ -42,10 +42,6 @@ pushed-length (PushOne x) = refl
 pushed-length (PushTwo x y) = refl
 
 module _ (M : Machine) (m s : List ℕ) where
-  careful-cond : (t : Bool) (a b : After) → Careful M m s a → Careful M m s b → Careful M m s (cond t a b)
-  careful-cond true a b h k = h
-  careful-cond false a b h k = k
-
   trapped : (k : ℕ) → Careful M m s (after (trapping M k) m s)
   trapped k = record { undone = λ n e. let z : k ≡ n = cc in rw z; below = λ i h. refl }
 
@@ -55,8 +51,8 @@ module _ (M : Machine) (m s : List ℕ) where
   settled-careful size Finish =
       record { undone = λ n e. let z : _≡_ {A = ℕ} 0 1 = cc in absurd (omega arith); below = λ i h. refl }
   settled-careful size (Go gone push write next) =
-      careful-cond (ltb (length s) (M .registers .height - gone + pushes push)) _ _ (trapped 36)
-      (careful-cond (ltb (next .pc) size) _ _
+      either (Careful M m s) (ltb (length s) (M .registers .height - gone + pushes push)) _ _ (trapped 36)
+      (either (Careful M m s) (ltb (next .pc) size) _ _
       (record {
         undone = λ n e. let z : _≡_ {A = ℕ} 0 1 = cc in absurd (omega arith);
         below = λ i h. beyond s (M .registers .height - gone) (pushed push) i (omega (arith, pushed-length push, h));
@@ -71,7 +67,7 @@ module _ (M : Machine) (m s : List ℕ) where
       by Unserved = trapped 20
       by Past = trapped 21
       by (At i next) =
-          careful-cond (ltb (M .registers .height) (needed i)) _ _ (trapped 22)
+          either (Careful M m s) (ltb (M .registers .height) (needed i)) _ _ (trapped 22)
           (settled-careful (length code) (execute (program code (M .areas)) (M .registers) m next (topWords (needed i) (M .registers .height) s) i))
 
 pub trapped-step : TrappedStep

@@ -1,9 +1,9 @@
 -- How far a decoded instruction reaches, a prefix counted in.
 use mathlib.Core.Path.{_≡_}
 use mathlib.Core.List.{List}
-use Prim.Native.Nat.{ℕ, _+_, _<_, _≤_}
+use Prim.Native.Nat.{ℕ, _+_, _≤_}
 use native.Mathlib.Omega.{arith}
-use lib.ListN.{getD}
+use Rattle.words.specs.Bytes.{Bytes}
 use Rattle.opcode.specs.Decode.{decodeAt}
 use Rattle.opcode.specs.declared.Decoded.the-variants.{At}
 use Rattle.opcode.specs.declared.instruction.Mode.the-variants.{Normal, Double}
@@ -11,7 +11,7 @@ use Rattle.opcode.specs.declared.instruction.Instruction.{Instruction}
 use Rattle.opcode.proofs.Formats.{length-most}
 use Rattle.opcode.proofs.Found.{Origin, single, double, origin}
 
-module _ (code : List ℕ) (bytes : (k : ℕ) → getD code k 0 < 256) where
+module _ (code : List ℕ) (bytes : Bytes code) where
   pub reach : (limit at : ℕ) {i : Instruction} {next : ℕ} → decodeAt code limit at ≡ At i next → (at ≤ next) × (next ≤ at + 655366)
   reach limit at {i} {next} e = by (origin code limit i next at e)
     where

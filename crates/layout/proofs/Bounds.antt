@@ -1,17 +1,18 @@
 -- How large entries and region ends are, entries being halfwords.
 use mathlib.Core.List.{List}
-use Prim.Native.Nat.{ℕ, _+_, _*_, _/_, _<_, _≤_}
+use Prim.Native.Nat.{ℕ, _*_, _/_, _≤_}
 use native.Mathlib.Omega.{arith}
 use lib.Dec.{eqb}
-use lib.ListN.{length, getD}
+use lib.ListN.{length}
 use Rattle.words.proofs.Tests.{either}
-use Rattle.words.specs.Bytes.{halfwordAt}
+use Rattle.words.specs.Bytes.{Bytes}
+use Rattle.words.proofs.Bytes.{halfword-below}
 use Rattle.entries.specs.Entries.{entryAt, entryCount, regionEnd}
 
-module _ (code : List ℕ) (bytes : (k : ℕ) → getD code k 0 < 256) where
+module _ (code : List ℕ) (bytes : Bytes code) where
   pub entry-below : (p : ℕ) → entryAt code p ≤ 65535
-  unfolding entryAt halfwordAt
-  entry-below p = omega (arith, bytes (2 * p), bytes (2 * p + 1))
+  unfolding entryAt
+  entry-below p = omega (arith, halfword-below code bytes (2 * p))
 
   pub region-below : (p : ℕ) → length code ≤ 65535 → regionEnd code p ≤ 65535
   unfolding regionEnd

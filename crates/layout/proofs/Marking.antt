@@ -82,11 +82,6 @@ module _ (code : List ℕ) where
     pub marking-keeps-others : (a k : ℕ) → k < 3 → getD (markAll code w .workspace) (4 * a + k) 0 ≡ getD w (4 * a + k) 0
     marking-keeps-others a k h = keeps .same (4 * a + k) (λ p at l e. omega arith)
 
-    -- What lies past the code bytes' halfwords.
-    pub marking-keeps-past :
-        entriesSound code ≡ true → (i : ℕ) → 4 * length code ≤ i → getD (markAll code w .workspace) i 0 ≡ getD w i 0
-    marking-keeps-past s i h = keeps .same i (λ p at l e. omega (arith, ordered code s .ends p))
-
 -- One mark written is one mark changed.
 marked-at :
     (b : Bool) (w : List ℕ) (size at x a : ℕ) → eqb a at ≡ b → at < size → 4 * size ≤ length w →

@@ -9,6 +9,7 @@ use lib.Dec.{leb, ltb}
 use lib.ListN.{length, set}
 use lib.Seq.{sets, getD-set-same, getD-set-other}
 use borrow.Author.Tests.{ltb-true, ltb-false, le-leb}
+use Rattle.words.proofs.Tests.{by-test}
 use Rattle.opcode.specs.declared.instruction.Mode.{Mode}
 use Rattle.opcode.specs.declared.instruction.Mode.the-variants.{Normal, Double}
 use Rattle.shape.specs.Counts.{wordsIn}
@@ -47,11 +48,6 @@ abbrev pub Keeps : Areas → Registers → List ℕ → Effect → Type 0
 Keeps A q₀ m (Trap n) = Unit {0}
 Keeps A q₀ m Finish = Unit {0}
 Keeps A q₀ m (Go gone push write q) = (vs : List ℕ) → Steady A q₀ q m (written m vs write)
-
-pub keeps-cond : (A : Areas) (q : Registers) (m : List ℕ) (t : Bool) (e f : Effect) → (t ≡ true → Keeps A q m e) → (t ≡ false → Keeps A q m f)
-    → Keeps A q m (cond t e f)
-keeps-cond A q m true e f h k = h refl
-keeps-cond A q m false e f h k = k refl
 
 module _ (A : Areas) (q : Registers) (m s : List ℕ) (F : Fitting A q m s) where
   -- Memory intact, and MP where it was or moved within memory.
@@ -124,8 +120,8 @@ module _ (A : Areas) (q : Registers) (m s : List ℕ) (F : Fitting A q m s) wher
   pub storable-keeps : (a : ℕ) (mode : Mode) (e : Effect) → (protectsAny A q m a mode ≡ false → Keeps A q m e)
       → Keeps A q m (storable A q m a mode e)
   storable-keeps a mode e h =
-      keeps-cond A q m (live q a (wordsIn mode)) (cond (protectsAny A q m a mode) (Trap 33) e) (Trap 32)
-      (λ l. keeps-cond A q m (protectsAny A q m a mode) (Trap 33) e (λ p. tt) h) (λ l. tt)
+      by-test (Keeps A q m) (live q a (wordsIn mode)) (cond (protectsAny A q m a mode) (Trap 33) e) (Trap 32)
+      (λ l. by-test (Keeps A q m) (protectsAny A q m a mode) (Trap 33) e (λ p. tt) h) (λ l. tt)
 
   pub mode-keeps : (a : ℕ) (mode : Mode) (x y gone : ℕ) (push : Push) (place : ℕ) → protectsAny A q m a mode ≡ false
       → Keeps A q m (Go gone push (stored a mode x y) (moved q place))

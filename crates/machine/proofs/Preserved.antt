@@ -10,6 +10,7 @@ use lib.Seq.{length-sets}
 use mir.Syntax.{w32}
 use mir.Val.{toZ}
 use borrow.Author.Tests.{ltb-false, leb-true, leb-false, eqb-false}
+use Rattle.words.proofs.Tests.{by-test}
 use Rattle.entries.specs.Entries.{entryAt, entryCount}
 use Rattle.opcode.specs.Decode.{decodeAt}
 use Rattle.opcode.specs.declared.Decoded.{Decoded}
@@ -39,7 +40,7 @@ use Rattle.step.specs.Step.{After, after, written, pushed, settled, performed, 
 use Rattle.step.specs.declared.Machine.{Machine}
 use Rattle.step.specs.declared.Outcome.{Outcome}
 use Rattle.state.proofs.Fitting.{Fitting}
-use Rattle.machine.proofs.Keeping.{Steady, Keeps, keeps-cond, sized-keeps, moved-keeps, stored-keeps, storable-keeps, mode-keeps, entered-keeps, called-keeps, returned-keeps}
+use Rattle.machine.proofs.Keeping.{Steady, Keeps, sized-keeps, moved-keeps, stored-keeps, storable-keeps, mode-keeps, entered-keeps, called-keeps, returned-keeps}
 
 module _ (code : List ℕ) (A : Areas) (q : Registers) (m s : List ℕ) (F : Fitting A q m s) where
   value-keeps : (next gone : ℕ) (v : Value) → Keeps A q m (valued q next gone v)
@@ -47,34 +48,34 @@ module _ (code : List ℕ) (A : Areas) (q : Registers) (m s : List ℕ) (F : Fit
   value-keeps next gone (Stop n) = tt
 
   tested : (t : Bool) (e : Effect) (n : ℕ) → (t ≡ true → Keeps A q m e) → Keeps A q m (cond t e (Trap n))
-  tested t e n h = keeps-cond A q m t e (Trap n) h (λ l. tt)
+  tested t e n h = by-test (Keeps A q m) t e (Trap n) h (λ l. tt)
 
   kept-jump : (when d b next : ℕ) → Keeps A q m (jumpsKeeping q next when d b)
   unfolding jumpsKeeping
   kept-jump when d b next =
       tested (ltb b 2) (cond (eqb b when) (Go 0 NoPush NoWrite (moved q (placeAt (q .pc) d))) (Go 1 NoPush NoWrite (moved q next))) 34
-      (λ l. keeps-cond A q m (eqb b when) (Go 0 NoPush NoWrite (moved q (placeAt (q .pc) d))) (Go 1 NoPush NoWrite (moved q next))
+      (λ l. by-test (Keeps A q m) (eqb b when) (Go 0 NoPush NoWrite (moved q (placeAt (q .pc) d))) (Go 1 NoPush NoWrite (moved q next))
       (λ e. moved-keeps A q m s F 0 NoPush (placeAt (q .pc) d)) (λ e. moved-keeps A q m s F 1 NoPush next))
 
   round-keeps : (next a l st label x : ℕ) → protects A q m a ≡ false → Keeps A q m (wentRound q next a l st label x)
   round-keeps next a l st label x h =
-      keeps-cond A q m (beyond (toZ w32 st) (toZ w32 x) (toZ w32 l)) (Go 5 NoPush (WriteOne a x) (moved q next))
+      by-test (Keeps A q m) (beyond (toZ w32 st) (toZ w32 x) (toZ w32 l)) (Go 5 NoPush (WriteOne a x) (moved q next))
       (Go 0 NoPush (WriteOne a x) (moved q label)) (λ e. stored-keeps A q m s F a x 5 NoPush next h)
       (λ e. stored-keeps A q m s F a x 0 NoPush label h)
 
   summed-keeps : (next a l st label : ℕ) (v : Value) → Keeps A q m (summed A q m next a l st label v)
   summed-keeps next a l st label (Word x) =
-      keeps-cond A q m (protects A q m a) (Trap 33) (wentRound q next a l st label x) (λ e. tt) (round-keeps next a l st label x)
+      by-test (Keeps A q m) (protects A q m a) (Trap 33) (wentRound q next a l st label x) (λ e. tt) (round-keeps next a l st label x)
   summed-keeps next a l st label (Stop n) = tt
 
   call-keeps : (next p : ℕ) → Keeps A q m (calls code q m next p)
   unfolding calls
   call-keeps next p =
-      keeps-cond A q m (eqb p 0 || leb (entryCount code) p) (Trap 23)
+      by-test (Keeps A q m) (eqb p 0 || leb (entryCount code) p) (Trap 23)
       (cond (leb 64 (q .calls)) (Trap 37)
       (cond (leb (q .mp + 2) (length m)) (Go 0 NoPush (WriteTwo (q .mp) (q .fp) next) (called q (entryAt code p))) (Trap 35)))
       (λ e. tt)
-      (λ e. keeps-cond A q m (leb 64 (q .calls)) (Trap 37)
+      (λ e. by-test (Keeps A q m) (leb 64 (q .calls)) (Trap 37)
       (cond (leb (q .mp + 2) (length m)) (Go 0 NoPush (WriteTwo (q .mp) (q .fp) next) (called q (entryAt code p))) (Trap 35))
       (λ d. tt)
       (λ d. tested (leb (q .mp + 2) (length m)) (Go 0 NoPush (WriteTwo (q .mp) (q .fp) next) (called q (entryAt code p))) 35
@@ -119,7 +120,7 @@ module _ (code : List ℕ) (A : Areas) (q : Registers) (m s : List ℕ) (F : Fit
   execute-keeps next ws (JumpT d) = kept-jump 1 d (read ws 0) next
   execute-keeps next ws (JumpF d) = kept-jump 0 d (read ws 0) next
   execute-keeps next ws (Iter d) =
-      keeps-cond A q m (beyond (toZ w32 (read ws 3)) (toZ w32 (read ws 1)) (toZ w32 (read ws 2))) _ _
+      by-test (Keeps A q m) (beyond (toZ w32 (read ws 3)) (toZ w32 (read ws 1)) (toZ w32 (read ws 2))) _ _
       (λ e. moved-keeps A q m s F 4 NoPush (placeAt (q .pc) d))
       (λ e. storable-keeps A q m s F (read ws 0) Normal _ (stored-keeps A q m s F (read ws 0) (read ws 1) 0 (PushOne next) next))
   execute-keeps next ws Next =
@@ -134,18 +135,13 @@ module _ (code : List ℕ) (A : Areas) (q : Registers) (m s : List ℕ) (F : Fit
       (λ l. entered-keeps A q m s F par NoPush next (q .mp + par + dat) (omega (arith, F .frame))
       (leb-true (q .mp + par + dat) (length m) l))
   execute-keeps next ws Rtn =
-      keeps-cond A q m (eqb (q .calls) 0) Finish _ (λ e. tt) (λ e. returned-keeps A q m s F 0 NoPush (eqb-false (q .calls) 0 e))
+      by-test (Keeps A q m) (eqb (q .calls) 0) Finish _ (λ e. tt) (λ e. returned-keeps A q m s F 0 NoPush (eqb-false (q .calls) 0 e))
 
 -- What holds of a step's result: the same data areas, a state that fits, and the protected words as they were.
 pub record Holds (A : Areas) (q : Registers) (m : List ℕ) (a : After) : Type 0 where
   pub areas : a .stepped .machine .areas ≡ A
   pub fit : Fitting A (a .stepped .machine .registers) (a .memory) (a .stack)
   pub spared : (b : ℕ) → protects A q m b ≡ true → read (a .memory) b ≡ read m b
-
-holds-cond : (A : Areas) (q : Registers) (m : List ℕ) (t : Bool) (a b : After) → (t ≡ true → Holds A q m a)
-    → (t ≡ false → Holds A q m b) → Holds A q m (cond t a b)
-holds-cond A q m true a b h k = h refl
-holds-cond A q m false a b h k = k refl
 
 module _ (code : List ℕ) (M : Machine) (m s : List ℕ) (F : Fitting (M .areas) (M .registers) m s) where
   still : (o : Outcome) → Holds (M .areas) (M .registers) m (after (record { outcome = o; machine = M }) m s)
@@ -159,8 +155,8 @@ module _ (code : List ℕ) (M : Machine) (m s : List ℕ) (F : Fitting (M .areas
       let h : ℕ = M .registers .height - gone + pushes push in
       let n : List ℕ = written m (topWords gone (M .registers .height) s) write in
       let y : Steady (M .areas) (M .registers) next m n = k (topWords gone (M .registers .height) s) in
-      holds-cond (M .areas) (M .registers) m (ltb (length s) h) _ _ (λ t. still _)
-      (λ t. holds-cond (M .areas) (M .registers) m (ltb (next .pc) size) _ _
+      by-test (Holds (M .areas) (M .registers) m) (ltb (length s) h) _ _ (λ t. still _)
+      (λ t. by-test (Holds (M .areas) (M .registers) m) (ltb (next .pc) size) _ _
       (λ u. record {
         areas = refl;
         fit = record {
@@ -186,7 +182,7 @@ module _ (code : List ℕ) (M : Machine) (m s : List ℕ) (F : Fitting (M .areas
   performed-holds Unserved = still _
   performed-holds Past = still _
   performed-holds (At i next) =
-      holds-cond (M .areas) (M .registers) m (ltb (M .registers .height) (needed i)) _ _ (λ t. still _)
+      by-test (Holds (M .areas) (M .registers) m) (ltb (M .registers .height) (needed i)) _ _ (λ t. still _)
       (λ t. settled-holds (length code) _
       (execute-keeps code (M .areas) (M .registers) m s F next (topWords (needed i) (M .registers .height) s) i))
 

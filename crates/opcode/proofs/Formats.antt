@@ -1,13 +1,14 @@
 -- A row's lengths in one number, read off again.
 use mathlib.Core.Path.{_≡_, refl, ap}
-use mathlib.Core.List.{List, [], _∷_}
-use Prim.Native.Nat.{ℕ, zero, suc, _+_, _*_, _/_, _%_, _^_, _<_, _≤_}
-use native.Mathlib.Nat.{le-of-suc-le-suc, mul-le-mul}
+use mathlib.Core.List.{List}
+use Prim.Native.Nat.{ℕ, _+_, _*_, _/_, _%_, _^_, _<_, _≤_}
+use native.Mathlib.Nat.{mul-le-mul}
 use native.Mathlib.Omega.{arith}
 use lib.ListN.{getD}
 use Rattle.words.specs.Series.{series}
 use Rattle.words.proofs.Series.{series-at}
-use Rattle.words.specs.Bytes.{byteAt, halfwordAt}
+use Rattle.words.specs.Bytes.{byteAt, Bytes, halfwordAt}
+use Rattle.words.proofs.Bytes.{halfword-below}
 use Rattle.operand.specs.Operand.{fixedOf, eachOf}
 use Rattle.opcode.specs.Table.{Row, row, unserved, normal, both, rowOf}
 use Rattle.opcode.specs.Length.{lengthOf, lengthIn, formatOf}
@@ -87,12 +88,8 @@ pub double-short : (code : List ℕ) (at : ℕ) → lengthIn Double code at < 16
 unfolding lengthIn
 double-short code at = doubled (rowOf (byteAt code at)) code at (row-short (byteAt code at))
 
-halfword-below : (code : List ℕ) → ((k : ℕ) → byteAt code k < 256) → (i : ℕ) → halfwordAt code i < 65536
-unfolding halfwordAt
-halfword-below code bytes i = omega (arith, bytes i, bytes (i + 1))
-
 -- Among bytes, entries of ten bytes and as many as a halfword counts are the most.
-pub length-most : (m : Mode) (code : List ℕ) (at : ℕ) → ((k : ℕ) → byteAt code k < 256) → lengthIn m code at ≤ 15 + 10 * 65535
+pub length-most : (m : Mode) (code : List ℕ) (at : ℕ) → Bytes code → lengthIn m code at ≤ 15 + 10 * 65535
 unfolding lengthIn
 length-most m code at bytes =
     let b = byteAt code at in

@@ -2,11 +2,12 @@
 use mathlib.Core.Bool.{Bool, true, false, cond}
 use mathlib.Core.Path.{_≡_, refl}
 use mathlib.Core.List.{List, [], _∷_, _++_}
-use Prim.Native.Nat.{ℕ, zero, suc, _+_, _/_, _<_, _≤_, zero-le}
-use native.Mathlib.Nat.{add-zero, add-suc, suc-add}
+use Prim.Native.Nat.{ℕ, _+_, _/_, _<_, _≤_}
 use native.Mathlib.Omega.{arith}
 use borrow.Author.Tests.{ne-eqb}
 use lib.Dec.{eqb, ltb}
+use Rattle.words.proofs.Tests.{either}
+use Rattle.words.proofs.Arms.{Other, past}
 use Rattle.operand.specs.Operand.{none, fixedOf, eachOf}
 use Rattle.opcode.specs.Decode.{made}
 use Rattle.opcode.specs.declared.instruction.Mode.{Mode}
@@ -29,24 +30,12 @@ passed (entry k r ∷ rest) u key p =
 pub find-rest : (t u : List Entry) (key : ℕ) → Passed (Unit {0}) t key → find (t ++ u) key ≡ find u key
 find-rest t u key p = passed t u key p .1
 
--- A number is none of m from k on, in the same form.
-abbrev pub Other : Type 0 → ℕ → ℕ → ℕ → Type 0
-Other before k zero n = before
-Other before k (suc m) n = Other (before × (n ≡ k → ⊥)) (suc k) m n
-
-above : (k n : ℕ) → k ≤ n → (n ≡ k → ⊥) → suc k ≤ n
-above k n l e = omega arith
-
-past : {before : Type 0} (k m n : ℕ) → (before → k ≤ n) → Other before k m n → k + m ≤ n
-past k zero n l o = rw add-zero (l o)
-past k (suc m) n l o = rw (add-suc, ← suc-add) (past (suc k) m n (λ b. above k n (l (b .0)) (b .1)) o)
-
 seven : (n : ℕ) → n < 128 → 7 ≤ n / 16 → n / 16 ≡ 7
 seven n h l = omega arith
 
 -- The first digit of a code below 80 that is none of 0 to 6.
-pub digit-seven : (n : ℕ) → n < 128 → Other (Unit {0}) 0 7 (n / 16) → n / 16 ≡ 7
-digit-seven n h o = seven n h (past 0 7 (n / 16) (λ (u : Unit {0}). zero-le) o)
+pub digit-seven : (n : ℕ) → n < 128 → Other 7 (n / 16) → n / 16 ≡ 7
+digit-seven n h o = seven n h (past 7 (n / 16) o)
 
 -- NOP and a code that is not served make the same.
 pub rest-nop :
@@ -58,10 +47,6 @@ rest-nop false m code at = refl
 abbrev pub Every : (Row → Type 0) → List Entry → Type 0
 Every P [] = P unserved
 Every P (entry k r ∷ rest) = P r × Every P rest
-
-either : (P : Row → Type 0) (b : Bool) (r s : Row) → P r → P s → P (cond b r s)
-either P true r s p q = p
-either P false r s p q = q
 
 find-every : (P : Row → Type 0) (t : List Entry) → Every P t → (key : ℕ) → P (find t key)
 find-every P [] e key = e

@@ -7,8 +7,8 @@ use Prim.Native.Nat.{ℕ, _+_, _≤_, _<_}
 use native.Mathlib.Omega.{arith}
 use borrow.Author.Tests.{le-leb, lt-leb, leb-true}
 use lib.Dec.{eqb, leb}
-use lib.ListN.{length, take, drop, getD}
-use Rattle.words.specs.Bytes.{wordAt, halfwordAt, wordsFrom}
+use lib.ListN.{length, take, drop}
+use Rattle.words.specs.Bytes.{Bytes, wordAt, halfwordAt, wordsFrom}
 use Rattle.words.proofs.Tests.{both-true}
 use Rattle.machine.specs.declared.run.Answer.{Answer}
 use Rattle.safety.specs.Joined.{joined, joinedOf}
@@ -34,7 +34,7 @@ unfolding parametersOf
 given-parameters f n {k} e g h =
     rw (e) (series-part (wordAt f) 4 (7 + resultsCount f) k n h ∙ ap (λ (i : ℕ). wordsFrom f (7 + resultsCount f) i) g)
 
-pub count-small : (f : List ℕ) {k : ℕ} → k ≡ parametersCount f → ((i : ℕ) → getD f i 0 < 256) → k ≤ 255
+pub count-small : (f : List ℕ) {k : ℕ} → k ≡ parametersCount f → Bytes f → k ≤ 255
 count-small f e bytes = let b = bytes (6 + resultsCount f) in omega arith
 
 pub widens : (f w₀ m₀ s₀ out₀ : List ℕ) {ps : List ℕ} {k d n : ℕ} {out w m s : List ℕ} → ps ≡ parametersOf f → k ≡ memoryWords f → d ≡ stackWords f

@@ -1,12 +1,12 @@
 -- How a run of accepted code ends: in a configuration that it visits, finished, spent or in a data trap. A step that does not go on leaves
 -- everything as it was, and where it traps it is on data.
-use mathlib.Core.Bool.{Bool, true, false, cond}
 use mathlib.Core.List.{List}
 use mathlib.Core.Path.{_≡_, refl, subst}
 use Prim.Native.Nat.{ℕ, zero, suc, _+_, _-_}
 use native.Mathlib.Omega.{arith}
 use lib.Dec.{ltb}
 use lib.ListN.{length}
+use Rattle.words.proofs.Tests.{either}
 use Rattle.opcode.specs.Decode.{decodeAt}
 use Rattle.opcode.specs.declared.Decoded.{Decoded}
 use Rattle.opcode.specs.declared.Decoded.the-variants.{Unserved, Past, At}
@@ -48,17 +48,13 @@ module _ (M : Machine) (m s : List ℕ) where
   nothing-done : (o : Outcome) → Stops (after (record { outcome = o; machine = M }) m s)
   nothing-done o h = record { machine = refl; memory = refl; stack = refl }
 
-  stops-cond : (t : Bool) (a b : After) → Stops a → Stops b → Stops (cond t a b)
-  stops-cond true a b h k = h
-  stops-cond false a b h k = k
-
   settled-stops : (size : ℕ) (e : Effect) → Stops (settled size M m s e)
   unfolding settled
   settled-stops size (Trap n) = nothing-done _
   settled-stops size Finish = nothing-done _
   settled-stops size (Go gone push write next) =
-      stops-cond (ltb (length s) (M .registers .height - gone + pushes push)) _ _ (nothing-done _)
-      (stops-cond (ltb (next .pc) size) _ _ (λ h. absurd (h refl)) (nothing-done _))
+      either Stops (ltb (length s) (M .registers .height - gone + pushes push)) _ _ (nothing-done _)
+      (either Stops (ltb (next .pc) size) _ _ (λ h. absurd (h refl)) (nothing-done _))
 
   step-stops : (code : List ℕ) → Stops (stepOf code M m s)
   unfolding stepOf performed
@@ -68,7 +64,7 @@ module _ (M : Machine) (m s : List ℕ) where
       by Unserved = nothing-done _
       by Past = nothing-done _
       by (At i next) =
-          stops-cond (ltb (M .registers .height) (needed i)) _ _ (nothing-done _) (settled-stops (length code) _)
+          either Stops (ltb (M .registers .height) (needed i)) _ _ (nothing-done _) (settled-stops (length code) _)
 
 trap-proper : {n : ℕ} → DataTrap n → Proper (stop n)
 trap-proper (data-trapped l h) = data-trap l h

@@ -5,6 +5,7 @@ use mathlib.Core.Option.{some}
 use mathlib.Core.Path.{_≡_, refl}
 use Prim.Native.Nat.{ℕ}
 use lib.Dec.{eqb, leb}
+use Rattle.words.proofs.Tests.{by-test}
 use Rattle.operand.specs.Distance.{placeAt}
 use Rattle.effect.specs.declared.effect.Effect.the-variants.{Go}
 use Rattle.effect.specs.declared.effect.Push.the-variants.{NoPush}
@@ -16,7 +17,7 @@ use Rattle.stackmap.specs.Ways.{Way, _gets_, after, both}
 use Rattle.stackmap.specs.StackMap.{Among, here, there}
 use Rattle.safety.specs.Active.{Configuration}
 use Rattle.safety.proofs.Parts.{registersOf}
-use Rattle.safety.proofs.Settling.{good-cond, good-boolean}
+use Rattle.safety.proofs.Settling.{Good, good-boolean}
 use Rattle.safety.proofs.Moving.{Start, Taken, taken, among-taken, Stays, words-go, popped-go}
 
 pub among-on : (t u : ℕ) (k j : List Slot) → Among t k (both (t gets k) (u gets j))
@@ -66,6 +67,6 @@ module _ {code : List ℕ} {c : Configuration} {l : List Slot} {out : List Way} 
       let away : ℕ = placeAt (registersOf c .pc) d in
       let T : Taken (popWords 1 l) (λ rest. both (next gets rest) (away gets l)) out = taken (popWords 1 l) _ out w in
       good-boolean b _
-      (good-cond (eqb b when) _ _
+      (by-test (Good _ _ _ _) (eqb b when) _ _
       (λ t. words-go S 0 NoPush NoWrite (moved (registersOf c) away) l refl (among-taken T away l (among-away next away (T .rest) l)))
       (λ t. popped-go S 1 _ T NoPush NoWrite (moved (registersOf c) next) (among-on next away (T .rest) l)))

@@ -11,6 +11,7 @@ use lib.Seq.{getD-take, getD-drop}
 use mir.Syntax.{w32}
 use mir.Val.{toZ}
 use borrow.Author.Tests.{eq-eqb}
+use Rattle.words.proofs.Tests.{by-test}
 use Rattle.words.specs.Bytes.{byteAt}
 use Rattle.operand.specs.Distance.{placeAt}
 use Rattle.opcode.specs.declared.instruction.Arithmetic.the-variants.{Add}
@@ -40,7 +41,7 @@ use Rattle.safety.specs.Active.{shareOf, Configuration}
 use Rattle.safety.proofs.Parts.{registersOf, Doing}
 use Rattle.safety.proofs.Traps.{data-number, Valued, a-trap, signed-valued}
 use Rattle.safety.proofs.Sharing.{nothing, under, popped-drops, holds-top}
-use Rattle.safety.proofs.Settling.{good-trap, good-cond, good-storable}
+use Rattle.safety.proofs.Settling.{good-trap, Good, good-storable}
 use Rattle.safety.proofs.Moving.{Start, Taken, taken, among-taken, Stays, words-go, popped-go, label-goes}
 use Rattle.safety.proofs.Jumping.{among-on, among-away}
 use Rattle.safety.proofs.Tables.{In, among-all}
@@ -72,7 +73,7 @@ module _ {code : List ℕ} {c : Configuration} {l : List Slot} {out : List Way} 
       let q : Registers = registersOf c in
       let away : ℕ = placeAt (q .pc) d in
       let T : Taken (popWords 4 l) (λ rest. both (next gets (label (q .pc) ∷ l)) (away gets rest)) out = taken (popWords 4 l) _ out w in
-      good-cond (beyond (toZ w32 s) (toZ w32 f) (toZ w32 u)) _ _
+      by-test (Good _ _ _ _) (beyond (toZ w32 s) (toZ w32 f) (toZ w32 u)) _ _
       (λ t. popped-go S 4 _ T NoPush NoWrite (moved q away) (among-away next away (label (q .pc) ∷ l) (T .rest)))
       (λ t. good-storable A q m a Normal _
       (label-goes S 0 next (q .pc) (WriteOne a f) (moved q next) l refl e
@@ -96,14 +97,14 @@ module _ {code : List ℕ} {c : Configuration} {out : List Way} {Done : Type 0} 
   sum-goes : (A : Areas) (m : List ℕ) (a u s : ℕ) (v : Value) → Valued v
       → Stays code c out Done (summed A (registersOf c) m next a u s back v)
   sum-goes A m a u s (Word x) h =
-      good-cond (protects A (registersOf c) m a) _ _ (λ t. good-trap (data-number 33 refl refl))
-      (λ t. good-cond (beyond (toZ w32 s) (toZ w32 x) (toZ w32 u)) _ _ (λ b. on (WriteOne a x)) (λ b. round (WriteOne a x)))
+      by-test (Good _ _ _ _) (protects A (registersOf c) m a) _ _ (λ t. good-trap (data-number 33 refl refl))
+      (λ t. by-test (Good _ _ _ _) (beyond (toZ w32 s) (toZ w32 x) (toZ w32 u)) _ _ (λ b. on (WriteOne a x)) (λ b. round (WriteOne a x)))
   sum-goes A m a u s (Stop n) (a-trap d) = good-trap d
 
   repeats-goes : (A : Areas) (m : List ℕ) (a u s : ℕ) → Stays code c out Done (repeats A (registersOf c) m next a u s back)
   unfolding repeats nextSum
   repeats-goes A m a u s =
-      good-cond (live (registersOf c) a 1) _ _ (λ t. sum-goes A m a u s (nextSum m a s) (signed-valued Add (read m a) s))
+      by-test (Good _ _ _ _) (live (registersOf c) a 1) _ _ (λ t. sum-goes A m a u s (nextSum m a s) (signed-valued Add (read m a) s))
       (λ t. good-trap (data-number 32 refl refl))
 
 -- Their label is the top word.

@@ -1,6 +1,6 @@
 -- From an effect to its step: an effect that traps on data, finishes rightly, or goes to a place in the code and leaves the registers
 -- and the stack as they must be, is carried out so. Carrying it out adds the trap 36, and 21 for a place outside the code.
-use mathlib.Core.Bool.{Bool, true, false, cond}
+use mathlib.Core.Bool.{cond}
 use mathlib.Core.List.{List}
 use mathlib.Core.Path.{_≡_, refl, sym, subst}
 use Prim.Native.Nat.{ℕ, _+_, _-_, _≤_, _<_}
@@ -9,6 +9,7 @@ use lib.Dec.{ltb}
 use lib.ListN.{length}
 use lib.Seq.{sets}
 use borrow.Author.Tests.{ltb-true, ltb-false, lt-ltb}
+use Rattle.words.proofs.Tests.{by-test}
 use Rattle.opcode.specs.declared.Decoded.{Decoded}
 use Rattle.opcode.specs.declared.instruction.Instruction.{Instruction}
 use Rattle.opcode.specs.declared.instruction.Mode.{Mode}
@@ -45,19 +46,14 @@ pub data Good (code : List ℕ) (c : Configuration) (Done : Type 0) (Then : Regi
       → Good code c Done Then (Go gone push write q)
 
 module _ {code : List ℕ} {c : Configuration} {Done : Type 0} {Then : Registers → List ℕ → Type 0} where
-  pub good-cond : (t : Bool) (e f : Effect) → (t ≡ true → Good code c Done Then e) → (t ≡ false → Good code c Done Then f)
-      → Good code c Done Then (cond t e f)
-  good-cond true e f h k = h refl
-  good-cond false e f h k = k refl
-
   pub good-boolean : (b : ℕ) (e : Effect) → Good code c Done Then e → Good code c Done Then (boolean b e)
-  good-boolean b e h = good-cond (ltb b 2) e (Trap 34) (λ t. h) (λ t. good-trap (data-number 34 refl refl))
+  good-boolean b e h = by-test (Good _ _ _ _) (ltb b 2) e (Trap 34) (λ t. h) (λ t. good-trap (data-number 34 refl refl))
 
   pub good-storable : (A : Areas) (q : Registers) (m : List ℕ) (a : ℕ) (mode : Mode) (e : Effect) → Good code c Done Then e
       → Good code c Done Then (storable A q m a mode e)
   good-storable A q m a mode e h =
-      good-cond (live q a (wordsIn mode)) (cond (protectsAny A q m a mode) (Trap 33) e) (Trap 32)
-      (λ t. good-cond (protectsAny A q m a mode) (Trap 33) e (λ u. good-trap (data-number 33 refl refl)) (λ u. h))
+      by-test (Good _ _ _ _) (live q a (wordsIn mode)) (cond (protectsAny A q m a mode) (Trap 33) e) (Trap 32)
+      (λ t. by-test (Good _ _ _ _) (protectsAny A q m a mode) (Trap 33) e (λ u. good-trap (data-number 33 refl refl)) (λ u. h))
       (λ t. good-trap (data-number 32 refl refl))
 
 -- What a step leaves, by its outcome.
@@ -73,17 +69,13 @@ module _ (M : Module) (c : Configuration) (out : List Way) (shape : Shape) where
   abbrev pub Goes : Effect → Type 0
   Goes e = Good (M .code) c (shape ≡ Return) (λ q s. Moves M c out q s shape) e
 
-  leaves-cond : (t : Bool) (a b : After) → (t ≡ true → Leaves a) → (t ≡ false → Leaves b) → Leaves (cond t a b)
-  leaves-cond true a b h k = h refl
-  leaves-cond false a b h k = k refl
-
   settled-leaves : (e : Effect) → Goes e → Leaves (settled (length (M .code)) (c .machine) (c .memory) (c .stack) e)
   unfolding settled
   settled-leaves (Trap n) (good-trap d) = d
   settled-leaves Finish (good-finish d) = d
   settled-leaves (Go gone push write q) (good-go l h) =
       let height : ℕ = registersOf c .height - gone + pushes push in
-      leaves-cond (ltb (length (c .stack)) height) _ _ (λ t. data-number 36 refl refl)
+      by-test Leaves (ltb (length (c .stack)) height) _ _ (λ t. data-number 36 refl refl)
       (λ t. rw (lt-ltb (q .pc) (length (M .code)) l) (h (ltb-false (length (c .stack)) height t)))
 
   as-steps : (o : Outcome) → Left M c out shape (stepOn M c) o → Steps M c out shape o
@@ -99,5 +91,5 @@ module _ (M : Module) (c : Configuration) (out : List Way) (shape : Shape) where
   good-steps i next d enough h =
       as-steps (stepOn M c .stepped .outcome)
       (subst (λ (x : Decoded). Leaves (performed (M .code) (c .machine) (c .memory) (c .stack) x)) (sym (d .decoded))
-      (leaves-cond (ltb (registersOf c .height) (needed i)) _ _
+      (by-test Leaves (ltb (registersOf c .height) (needed i)) _ _
       (λ t. absurd (omega (arith, ltb-true (registersOf c .height) (needed i) t))) (λ t. settled-leaves _ h)))

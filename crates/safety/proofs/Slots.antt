@@ -8,6 +8,7 @@ use native.Mathlib.Omega.{arith}
 use lib.Dec.{eqb, leb}
 use lib.ListN.{length}
 use borrow.Author.Tests.{eqb-false, ne-eqb, lt-leb}
+use Rattle.words.proofs.Tests.{by-test}
 use Rattle.entries.specs.Entries.{entryAt, entryCount}
 use Rattle.opcode.specs.declared.instruction.Instruction.{Instruction}
 use Rattle.opcode.specs.declared.instruction.Instruction.the-variants.{LoadConstant, Load, LoadAddress, Store, Pop, Swap, Nop, Signed, Unsigned, Negate, Equal, NotEqual, CompareSigned, CompareUnsigned, Set, Not, Alloc, Free, Jump, JumpC, JumpT, JumpF, Iter, Next, Switch, SwitchX, Leave, Call, Enter, Rtn}
@@ -25,7 +26,7 @@ use Rattle.stackmap.specs.Ways.{Module, Way, ways}
 use Rattle.safety.specs.Active.{Configuration}
 use Rattle.safety.proofs.Parts.{registersOf, Doing, SlotsKept, FindsWords}
 use Rattle.safety.proofs.Traps.{data-number, signed-valued, unsigned-valued, negated-valued}
-use Rattle.safety.proofs.Settling.{good-trap, good-finish, good-go, good-cond, Goes, good-steps}
+use Rattle.safety.proofs.Settling.{good-trap, good-finish, good-go, Good, Goes, good-steps}
 use Rattle.safety.proofs.Plain.{plain-go, plain-valued, plain-load, plain-address, plain-store, plain-inverted, plain-allocated, plain-freed, plain-enters}
 use Rattle.safety.proofs.Moving.{Start, plain-goes}
 use Rattle.safety.proofs.Jumping.{drop-goes, jump-goes, branch-goes, keep-goes}
@@ -39,8 +40,8 @@ module _ (M : Module) (c : Configuration) (out : List Way) where
   unfolding calls
   call-goes next d z k h =
       rw (ne-eqb d 0 (λ e. omega arith), lt-leb (entryCount (M .code)) d k)
-      (good-cond (leb 64 (registersOf c .calls)) _ _ (λ t. good-trap (data-number 37 refl refl))
-      (λ t. good-cond (leb (registersOf c .mp + 2) (length (c .memory))) _ _
+      (by-test (Good _ _ _ _) (leb 64 (registersOf c .calls)) _ _ (λ t. good-trap (data-number 37 refl refl))
+      (λ t. by-test (Good _ _ _ _) (leb (registersOf c .mp + 2) (length (c .memory))) _ _
       (λ r. good-go h (λ room. (record { same-height = omega arith; same-stack = refl }, refl)))
       (λ r. good-trap (data-number 35 refl refl))))
 
@@ -49,7 +50,7 @@ module _ (M : Module) (c : Configuration) (out : List Way) where
       → Goes M c out Return (returns (registersOf c) (c .memory))
   unfolding returns
   return-goes h =
-      good-cond (eqb (registersOf c .calls) 0) _ _ (λ t. good-finish refl)
+      by-test (Good _ _ _ _) (eqb (registersOf c .calls) 0) _ _ (λ t. good-finish refl)
       (λ t. good-go (h (omega (arith, eqb-false (registersOf c .calls) 0 t)))
       (λ room. (record { same-height = omega arith; same-stack = refl }, refl)))
 

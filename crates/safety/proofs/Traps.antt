@@ -1,6 +1,6 @@
 -- The traps of an effect are data traps. A value is a word, or 30 or 31 in its place; every other test of the effects' definitions
 -- names its own number.
-use mathlib.Core.Bool.{Bool, true, false, cond, _&&_}
+use mathlib.Core.Bool.{true, _&&_}
 use mathlib.Core.Path.{_≡_, refl}
 use Prim.Native.Nat.{ℕ}
 use lib.Dec.{eqb, leb, ltb}
@@ -9,6 +9,7 @@ use lib.Signed.{mag}
 use mir.Syntax.{w32}
 use mir.Val.{toZ}
 use borrow.Author.Tests.{leb-true}
+use Rattle.words.proofs.Tests.{either}
 use Rattle.opcode.specs.declared.instruction.Arithmetic.{Arithmetic}
 use Rattle.operate.specs.declared.Value.{Value}
 use Rattle.operate.specs.declared.Value.the-variants.{Word, Trap as Stop}
@@ -24,31 +25,27 @@ pub data Valued : Value → Type 0 where
   a-word : {x : ℕ} → Valued (Word x)
   a-trap : {n : ℕ} → DataTrap n → Valued (Stop n)
 
-valued-cond : (t : Bool) (v w : Value) → Valued v → Valued w → Valued (cond t v w)
-valued-cond true v w h k = h
-valued-cond false v w h k = k
-
 too-large : Valued (Stop 31)
 too-large = a-trap (data-number 31 refl refl)
 
 signed-word : (z : ℤ) → Valued (signedWord z)
 unfolding signedWord
-signed-word z = valued-cond (ltb (mag z) 0x8000_0000) _ _ a-word too-large
+signed-word z = either Valued (ltb (mag z) 0x8000_0000) _ _ a-word too-large
 
 unsigned-word : (z : ℤ) → Valued (unsignedWord z)
 unfolding unsignedWord
-unsigned-word (pos n) = valued-cond (ltb n 0x1_0000_0000) _ _ a-word too-large
+unsigned-word (pos n) = either Valued (ltb n 0x1_0000_0000) _ _ a-word too-large
 unsigned-word (negsuc n) = too-large
 
 pub signed-valued : (op : Arithmetic) (x y : ℕ) → Valued (signedValue op x y)
 unfolding signedValue
 signed-valued op x y =
-    valued-cond (divides op && eqb y 0) _ _ (a-trap (data-number 30 refl refl)) (signed-word (signedNumber op (toZ w32 x) (toZ w32 y)))
+    either Valued (divides op && eqb y 0) _ _ (a-trap (data-number 30 refl refl)) (signed-word (signedNumber op (toZ w32 x) (toZ w32 y)))
 
 pub unsigned-valued : (op : Arithmetic) (x y : ℕ) → Valued (unsignedValue op x y)
 unfolding unsignedValue
 unsigned-valued op x y =
-    valued-cond (divides op && eqb y 0) _ _ (a-trap (data-number 30 refl refl)) (unsigned-word (unsignedNumber op x y))
+    either Valued (divides op && eqb y 0) _ _ (a-trap (data-number 30 refl refl)) (unsigned-word (unsignedNumber op x y))
 
 pub negated-valued : (x : ℕ) → Valued (negatedValue x)
 unfolding negatedValue

@@ -10,7 +10,7 @@ use lib.Dec.{eqb, ltb}
 use Rattle.words.specs.Bytes.{byteAt}
 use Rattle.words.proofs.Tests.{both-true, either}
 use Rattle.operand.specs.Operand.{operand, operand2}
-use Rattle.opcode.specs.Table.{Row, row, unserved, allows, Entry, entry, find, rowOf}
+use Rattle.opcode.specs.Table.{Row, row, unserved, allows, Entry, entry, find, rowOf, iterCode, switchCode, switchXCode, enterOperands}
 use Rattle.opcode.specs.Table.{shortTable, dataTable, operationTable, controlTable}
 use Rattle.opcode.specs.Length.{lengthOf, lengthIn}
 use Rattle.opcode.specs.Decode.{made, instructionAt, decodeAt}
@@ -26,8 +26,8 @@ use Rattle.shape.specs.Shape.{shapeOf}
 
 -- Whether the first byte may be the one given, by the shape.
 abbrev begins : Shape → ℕ → Bool
-begins (Loop d) first = eqb first 0xE0
-begins (Select t n) first = eqb first 0xE2 || eqb first 0xE3
+begins (Loop d) first = eqb first iterCode
+begins (Select t n) first = eqb first switchCode || eqb first switchXCode
 begins (Begin par) first = eqb first 0xE8
 begins (Straight pops pushes) first = true
 begins (Drop n) first = true
@@ -113,7 +113,7 @@ module _ (code : List ℕ) (limit at next : ℕ) (i : Instruction) (e : decodeAt
       let b = rw s at shape-begins in
       (ne-eqb (byteAt code at) 0xE0 (λ f. false≢true (rw f at b)), b)
 
-  pub begin-parameters : {par : ℕ} → shapeOf i ≡ Begin par → par ≡ byteAt code (at + 1)
+  pub begin-parameters : {par : ℕ} → shapeOf i ≡ Begin par → par ≡ operand enterOperands code at
   unfolding instructionAt rowOf shapeOf
   begin-parameters s =
       let f : byteAt code at ≡ 0xE8 = eqb-true (byteAt code at) 0xE8 (rw s at shape-begins) in

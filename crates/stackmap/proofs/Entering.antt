@@ -9,7 +9,7 @@ use native.Mathlib.Omega.{arith}
 use lib.Dec.{eqb}
 use lib.ListN.{length}
 use borrow.Author.Tests.{eqb-true, eqb-false}
-use Rattle.words.specs.Bytes.{byteAt}
+use Rattle.words.specs.Bytes.{byteAt, Bytes}
 use Rattle.entries.specs.Entries.{entryAt, entryCount}
 use Rattle.layout.specs.Cut.{updated}
 use Rattle.stackmap.specs.Slots.{Slot}
@@ -22,11 +22,15 @@ use Rattle.stackmap.proofs.Pushing.{words-height}
 use Rattle.stackmap.proofs.Updates.{Change, changed, spared, change, updated-here}
 use Rattle.stackmap.proofs.Placing.{owned, Placed, AllPlaced, placed, placed-update, waiting-early}
 
+-- The parameter words of an entry are a byte.
+pub parameters-few : (code : List ℕ) → Bytes code → (p : ℕ) → parametersIn code p ≤ 255
+parameters-few code bytes p =
+    let b = bytes (entryAt code p + 1) in
+    either (λ (k : ℕ). k ≤ 255) (eqb p 0) 0 (byteAt code (entryAt code p + 1)) (omega arith) (omega arith)
+
 module _ (M : Module) (S : Sound M) where
   first-short : (p : ℕ) → length (firstSlots M p) ≤ 255
-  first-short p =
-      rw (words-height (parametersIn (M .code) p))
-      (either (λ (k : ℕ). k ≤ 255) (eqb p 0) 0 (byteAt (M .code) (entryAt (M .code) p + 1)) (omega arith) (S .bytes (entryAt (M .code) p + 1)))
+  first-short p = rw (words-height (parametersIn (M .code) p)) (parameters-few (M .code) (S .bytes) p)
 
   first-placed : (p : ℕ) → p < entryCount (M .code) → Placed M (entryAt (M .code) p) (firstSlots M p)
   first-placed p h = placed M p (entryAt (M .code) p) (firstSlots M p) (S .entries p h) (first-short p) entered

@@ -1,12 +1,13 @@
--- Words stored one after the other: past the end nothing, at the end of a list one more, and in the second part of a list.
+-- Words stored one after the other: past the end nothing, one more, and in the second part of a list.
 use Prim.Native.Nat.{ℕ, suc, _+_, _-_, _≤_, _<_}
 use mathlib.Core.Path.{_≡_, _∙_, refl, sym, ap}
 use mathlib.Core.List.{List, [], _∷_, _++_, append-nil}
-use native.Mathlib.Nat.{zero-add, suc-add, add-suc, add-zero}
+use native.Mathlib.Nat.{zero-add, suc-add, add-suc}
 use native.Mathlib.Numerals.{add-one}
 use native.Mathlib.Omega.{arith}
 use lib.ListN.{length, getD, take, drop, set, length-drop, take-append-drop, drop-of-length-le}
 use lib.Seq.{sets, set-out, take-all, take-suc, length-take-le}
+use Rattle.words.proofs.Sets.{sets-then}
 use Rattle.effect.specs.declared.effect.Push.{Push}
 use Rattle.effect.specs.declared.effect.Push.the-variants.{NoPush, PushOne, PushTwo}
 use Rattle.effect.specs.Data.{pushes}
@@ -14,10 +15,6 @@ use Rattle.effect.specs.Data.{pushes}
 pub sets-out : (l : List ℕ) (i : ℕ) (vs : List ℕ) → length l ≤ i → sets l i vs ≡ l
 sets-out l i [] h = refl
 sets-out l i (v ∷ vs) h = rw (set-out l i v h) (sets-out l (suc i) vs (omega arith))
-
-pub sets-snoc : (l : List ℕ) (i : ℕ) (vs : List ℕ) (v : ℕ) → sets l i (vs ++ (v ∷ [])) ≡ set (sets l i vs) (i + length vs) v
-sets-snoc l i [] v = rw (add-zero i)
-sets-snoc l i (w ∷ vs) v = rw (add-suc i (length vs), ← suc-add i (length vs)) (sets-snoc (set l i w) (suc i) vs v)
 
 set-right : (p q : List ℕ) (i v : ℕ) → set (p ++ q) (length p + i) v ≡ p ++ set q i v
 set-right [] q i v = rw (zero-add i)
@@ -37,7 +34,7 @@ sets-part m a vs h =
 pub sets-one-more : (d s : List ℕ) (i : ℕ) → i < length s → set (sets d 0 (take i s)) i (getD s i 0) ≡ sets d 0 (take (i + 1) s)
 sets-one-more d s i h =
     let e : 0 + length (take i s) ≡ i = omega (arith, length-take-le i s (omega arith)) in
-    rw (add-one i, take-suc s i 0 h, sets-snoc d 0 (take i s) (getD s i 0), e)
+    rw (add-one i, take-suc s i 0 h, ← sets-then d 0 (take i s) (getD s i 0 ∷ []), e)
 
 -- What stores into the part from a on, lent and given back, make of the list.
 pub sets-within : (m : List ℕ) (a : ℕ) (vs p : List ℕ) → a ≤ length m → p ≡ sets (take (length m - a) (drop a m)) 0 vs

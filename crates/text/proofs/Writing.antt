@@ -1,20 +1,18 @@
 -- Text written piece by piece, and how long numbers are. Stores one after the other are the stores of the joined text, whether there is
 -- room for them or not, so a piece behind a piece is the two as one; a loop is told by what is left to write.
-use Prim.Native.Nat.{ℕ, zero, suc, _+_, _*_, _-_, _/_, _%_, _≤_, _<_, zero-le}
+use Prim.Native.Nat.{ℕ, zero, suc, _+_, _*_, _-_, _/_, _%_, _≤_, _<_}
 use mathlib.Core.Path.{_≡_, refl, sym, _∙_, ap}
 use mathlib.Core.List.{List, [], _∷_, _++_, append-assoc, append-nil}
-use native.Mathlib.Nat.{add-zero, add-suc, suc-add}
+use native.Mathlib.Nat.{add-zero}
 use native.Mathlib.Numerals.{add-one}
 use native.Mathlib.Omega.{arith}
 use lib.Dec.{ltb}
 use lib.ListN.{length, set, getD, drop, length-append}
-use lib.Seq.{sets, length-sets, drop-cons}
+use lib.Seq.{length-sets, drop-cons}
 use Rattle.words.proofs.Tests.{either}
+use Rattle.words.proofs.Sets.{sets-then}
+use Rattle.words.proofs.Arms.{Other, past}
 use Rattle.text.specs.Text.{power, digits, width, decimal, wordsText, Wrote}
-
-sets-then : (l : List ℕ) (i : ℕ) (x y : List ℕ) → sets (sets l i x) (i + length x) y ≡ sets l i (x ++ y)
-sets-then l i [] y = rw (add-zero i)
-sets-then l i (v ∷ x) y = rw (add-suc i (length x), ← suc-add i (length x)) (sets-then (set l i v) (suc i) x y)
 
 -- A piece behind a piece.
 pub wrote-then : {a b c x y : List ℕ} {at r q : ℕ} → Wrote a at x r b → Wrote b r y q c → Wrote a at (x ++ y) q c
@@ -108,18 +106,6 @@ pub words-short : (xs : List ℕ) → length (wordsText xs) ≤ 11 * length xs
 words-short [] = omega arith
 words-short (x ∷ xs) =
     rw (length-append (decimal x) (wordsText xs)) (omega (arith, decimal-short x, words-short xs))
-
--- What the last arm of a match on the first m numbers knows: none of them.
-abbrev pub Other : ℕ → ℕ → Type 0
-Other zero n = Unit {0}
-Other (suc m) n = Other m n × (n ≡ m → ⊥)
-
-above : (m n : ℕ) → m ≤ n → (n ≡ m → ⊥) → suc m ≤ n
-above m n l e = omega arith
-
-past : (m n : ℕ) → Other m n → m ≤ n
-past zero n o = zero-le
-past (suc m) n o = above m n (past m n (o .0)) (o .1)
 
 -- An exponent up to 9 that is none of 0 to 8.
 pub ninth : (k : ℕ) → k ≤ 9 → Other 9 k → k ≡ 9

@@ -1,9 +1,10 @@
 -- The check examines the code with just its part of the workspace, and what lies past it stays: this is the definition's answer.
 use mathlib.Core.List.{List, [], _++_, append-nil}
 use mathlib.Core.Path.{_≡_, _∙_, ap}
-use Prim.Native.Nat.{ℕ, _+_, _*_, _<_, _≤_}
+use Prim.Native.Nat.{ℕ, _+_, _*_, _≤_}
 use native.Mathlib.Omega.{arith}
-use lib.ListN.{length, getD, take, drop, replicate, length-take, drop-of-length-le}
+use lib.ListN.{length, take, drop, replicate, length-take, drop-of-length-le}
+use Rattle.words.specs.Bytes.{Bytes}
 use Rattle.header.specs.Header.{codeOf}
 use Rattle.verifier.specs.Check.{Verdict, refuted, accepted, verdictOf, listNumber, concluded, shownFrom, checkOf}
 use Rattle.workspace.specs.Checking.{Checking, checking}
@@ -35,7 +36,7 @@ module _ (r results w : List ℕ) (number : listNumber r results (length w) ≡ 
   pub small : length (codeOf r) ≤ 4096
   small = sound-code r (listed r results (length w) number .numberless)
 
-  pub lends : ((k : ℕ) → getD r k 0 < 256) → (n : ℕ) (p : List ℕ) → checking n p ≡ examinedTop (codeOf r) results (take (4 * length (codeOf r)) w)
+  pub lends : Bytes r → (n : ℕ) (p : List ℕ) → checking n p ≡ examinedTop (codeOf r) results (take (4 * length (codeOf r)) w)
       → checking n (p ++ drop (4 * length (codeOf r)) w) ≡ checkOf r results w
   unfolding checkOf
   lends bytes n p e =
@@ -44,6 +45,6 @@ module _ (r results w : List ℕ) (number : listNumber r results (length w) ≡ 
       let f : checking n p ≡ concluded (length code) (take (4 * length code) w) (verdictOf code results) =
       e
       ∙ examined-concludes code results (take (4 * length code) w) (numberless r (L .numberless) .entries)
-      (code-bytes r (λ i. let b = bytes i in omega arith)) (part-length w (4 * length code) (L .enough)) in
+      (code-bytes r bytes) (part-length w (4 * length code) (L .enough)) in
       ap (λ (c : Checking). joined c (drop (4 * length code) w)) f
       ∙ (joins (length code) w (verdictOf code results) (L .enough) ∙ rw number)

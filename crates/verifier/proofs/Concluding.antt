@@ -4,11 +4,11 @@ use mathlib.Core.Bool.{true, cond}
 use mathlib.Core.List.{List, _++_, append-nil}
 use mathlib.Core.Option.{Option, none, some}
 use mathlib.Core.Path.{_≡_, _∙_, refl, sym, ap}
-use Prim.Native.Nat.{ℕ, zero, suc, _+_, _*_, _<_, _≤_}
+use Prim.Native.Nat.{ℕ, zero, suc, _+_, _*_, _<_}
 use native.Mathlib.Omega.{arith}
 use lib.Dec.{eqb, eqb·suc-zero}
 use lib.ListN.{length, getD, drop, replicate, length-replicate, getD-replicate, drop-of-length-le}
-use Rattle.words.specs.Bytes.{byteAt}
+use Rattle.words.specs.Bytes.{Bytes}
 use Rattle.entries.specs.Entries.{entriesSound}
 use Rattle.layout.specs.Cut.{Marks, cut, cutOf}
 use Rattle.faults.specs.Faults.{codeNumber}
@@ -25,13 +25,13 @@ use Rattle.verifier.proofs.Simulation.{Alike, walks-alike}
 use Rattle.verifier.proofs.Showing.{unmarked-shows}
 
 -- What a cut of sound entries gives to the walk.
-pub sound : (code results : List ℕ) (marks : Marks) → entriesSound code ≡ true → ((i : ℕ) → byteAt code i ≤ 255) → cutOf code ≡ cut marks
+pub sound : (code results : List ℕ) (marks : Marks) → entriesSound code ≡ true → Bytes code → cutOf code ≡ cut marks
     → Sound (moduleOf code results marks)
 sound code results marks e b c =
     let C : Cutted code marks = cutting-starts code marks e c in
     record { counted = C .some; entries = C .entered; procedures = C .counted; within = C .inside; bytes = b }
 
-module _ (code results w : List ℕ) (e : entriesSound code ≡ true) (b : (i : ℕ) → byteAt code i ≤ 255) (size : length w ≡ 4 * length code) where
+module _ (code results w : List ℕ) (e : entriesSound code ≡ true) (b : Bytes code) (size : length w ≡ 4 * length code) where
   abbrev zeros : List ℕ
   zeros = zeroed w
 

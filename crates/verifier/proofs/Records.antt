@@ -2,7 +2,7 @@
 use mathlib.Core.Bool.{Bool, true, false, not}
 use mathlib.Core.List.{List, [], _∷_}
 use mathlib.Core.Path.{_≡_, refl}
-use Prim.Native.Nat.{ℕ, _+_, _*_, _≤_}
+use Prim.Native.Nat.{ℕ, _+_, _*_, _≤_, _<_}
 use native.Mathlib.Omega.{arith}
 use lib.Dec.{eqb, ltb}
 use lib.ListN.{length, getD, take, drop, length-take, List·getD-eq-default}
@@ -41,11 +41,11 @@ pub code-bytes : (r : List ℕ) → Bytes r → Bytes (codeOf r)
 unfolding codeOf
 code-bytes r b i = by (ltb i (headerOf r .code)) refl
   where
-    by : (t : Bool) → ltb i (headerOf r .code) ≡ t → getD (take (headerOf r .code) (drop (codeAt (headerOf r)) r)) i 0 ≤ 255
+    by : (t : Bool) → ltb i (headerOf r .code) ≡ t → getD (take (headerOf r .code) (drop (codeAt (headerOf r)) r)) i 0 < 256
     by true e =
         rw (getD-take (headerOf r .code) (drop (codeAt (headerOf r)) r) i 0 (ltb-true i (headerOf r .code) e), getD-drop (codeAt (headerOf r)) r i 0)
         (b (codeAt (headerOf r) + i))
     by false e =
         let z : length (take (headerOf r .code) (drop (codeAt (headerOf r)) r)) ≤ i =
         omega (arith, length-take (headerOf r .code) (drop (codeAt (headerOf r)) r), ltb-false i (headerOf r .code) e) in
-        rw (List·getD-eq-default (take (headerOf r .code) (drop (codeAt (headerOf r)) r)) 0 z) (let y : 0 ≤ 255 = omega arith in y)
+        rw (List·getD-eq-default (take (headerOf r .code) (drop (codeAt (headerOf r)) r)) 0 z) (let y : 0 < 256 = omega arith in y)

@@ -9,13 +9,12 @@ use native.Mathlib.Omega.{arith}
 use borrow.Author.Tests.{lt-ltb, le-ltb, ltb-true, eqb-true}
 use lib.Dec.{eqb, ltb}
 use lib.ListN.{length, getD}
-use Rattle.entries.specs.Entries.{entryAt, entryCount}
+use Rattle.entries.specs.Entries.{entryCount}
 use Rattle.words.proofs.Left.{one-left}
 use Rattle.shape.specs.declared.Table.{Table}
 use Rattle.layout.specs.Cut.{startsIn}
 use Rattle.successors.specs.Successors.{tableSize, tableTarget, tableFrom}
 use Rattle.layout.specs.Workspace.{marksIn}
-use Rattle.stackmap.specs.Ways.{parametersIn}
 use Rattle.compact.specs.declared.top.Top.{Top}
 use Rattle.compact_ways.specs.Ways.{way}
 use Rattle.verifier.specs.declared.hand.Handed.{Handed}
@@ -29,14 +28,6 @@ start-by false place size mark p l e = let z = eqb-true 0 (p + 1) e in omega ari
 
 pub start-near : (w : List ℕ) (size p place : ℕ) → startsIn (marksIn w size) p place ≡ true → place < size
 start-near w size p place e = start-by (ltb place size) place size (getD w (4 * place + 3) 0) p refl e
-
--- The parameter words of an entry are a byte.
-parameters-by : (b : Bool) (x : ℕ) → x < 256 → cond b 0 x ≤ 255
-parameters-by true x h = omega arith
-parameters-by false x h = omega arith
-
-pub parameters-near : (code : List ℕ) → ((k : ℕ) → getD code k 0 < 256) → (p : ℕ) → parametersIn code p ≤ 255
-parameters-near code bytes p = parameters-by (eqb p 0) _ (bytes (entryAt code p + 1))
 
 -- The branches of a switch's table before k are handed their list; nothing waits below `low`.
 pub record Branched (code before : List ℕ) (p at : ℕ) (table : Table) (n : ℕ) (t : Top) (from : ℕ) (w : List ℕ) (low k : ℕ) : Type 0 where

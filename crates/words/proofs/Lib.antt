@@ -1,7 +1,8 @@
--- Laws about numbers in a list of bytes, about words behind one another, about a part of a list, and about what is left of a counted
--- list.
+-- Laws about numbers in a list of bytes, values in a row, parts of a list and stores into it, tests, and what is left of a counted list.
 pub mod Bytes
+pub mod Series
 pub mod Left
 pub mod Slices
+pub mod Sets
 pub mod Tests
-pub mod Series
+pub mod Arms

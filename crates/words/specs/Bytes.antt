@@ -1,7 +1,7 @@
 -- Numbers in a list of bytes, highest byte first (01: "Seven header words, highest byte first"; the manual's chapter 4: big endian;
 -- 5.2.2: halfword and word are 2-byte and 4-byte values). A read past the end gives 0, so that every read is total.
 use mathlib.Core.List.{List}
-use Prim.Native.Nat.{ℕ, _+_, _*_, _≤_}
+use Prim.Native.Nat.{ℕ, _+_, _*_, _<_}
 use lib.ListN.{getD}
 use Rattle.words.specs.Series.{series}
 
@@ -10,7 +10,7 @@ byteAt s i = getD s i 0
 
 -- A list of bytes.
 abbrev pub Bytes : List ℕ → Type 0
-Bytes s = (i : ℕ) → byteAt s i ≤ 255
+Bytes s = (i : ℕ) → byteAt s i < 256
 
 unfoldable pub halfwordAt : List ℕ → ℕ → ℕ
 halfwordAt s i = byteAt s i * 256 + byteAt s (i + 1)

@@ -3,7 +3,7 @@ use native.Mathlib.Omega.{arith}
 use borrow.Author.Needs.{needs}
 use Rattle.verifier.proofs.walk.give_entry.Statement.{statement}
 use Rattle.verifier.specs.Handing.{entryGiven}
-use Rattle.verifier.proofs.Steps.{parameters-near}
+use Rattle.stackmap.proofs.Entering.{parameters-few}
 use Rattle.verifier.proofs.walk.give_entry.Tie as tie
 
 callee-parameters-requires : tie.Need-callee-parameters-requires
@@ -19,7 +19,7 @@ cast-give : tie.Need-cast-give
 cast-give c = search needs
 
 give-requires : tie.Need-give-requires
-give-requires c κs = (omega (arith, c .entry-at .ok), rw (c .before .before .callee-parameters .ensures) (parameters-near (c .before .before .before .before .before .args .code .now) (λ k. omega (arith, c .before .before .before .before .shared-slice-known .given k)) (c .before .before .before .before .before .args .p)))
+give-requires c κs = (omega (arith, c .entry-at .ok), rw (c .before .before .callee-parameters .ensures) (parameters-few (c .before .before .before .before .before .args .code .now) (λ k. omega (arith, c .before .before .before .before .shared-slice-known .given k)) (c .before .before .before .before .before .args .p)))
 
 same-length : tie.Need-same-length
 same-length c = search needs
