@@ -4,7 +4,7 @@ use mathlib.Core.List.{List, [], _∷_}
 use Prim.Native.Nat.{ℕ, zero, suc, _+_}
 use lib.Dec.{eqb}
 use lib.ListN.{length}
-use Rattle.words.specs.Refusal.{refusal, _when_}
+use Rattle.words.specs.Refusal.{Test, refusal, _when_}
 use Rattle.entries.specs.Entries.{entryAt, noCallee, regionEnd}
 use Rattle.opcode.specs.Decode.{decodeAt}
 use Rattle.opcode.specs.declared.Decoded.{Decoded}
@@ -76,10 +76,12 @@ anyFrom f at (suc n) = f at || anyFrom f (at + 1) n
 unfoldable pub anywhere : List ℕ → Marks → FaultTest → Bool
 anywhere code marks test = anyFrom (λ at. testAt code (marks at) test at) 0 (length code)
 
-unfoldable pub codeNumber : List ℕ → Marks → ℕ
-codeNumber code marks =
-    refusal
-    (12 when anywhere code marks (strays code marks)
+abbrev pub faultTests : List ℕ → Marks → List Test
+faultTests code marks =
+    12 when anywhere code marks (strays code marks)
     ∷ 13 when anywhere code marks (misplaced code)
     ∷ 14 when anywhere code marks (uncallable code)
-    ∷ [])
+    ∷ []
+
+unfoldable pub codeNumber : List ℕ → Marks → ℕ
+codeNumber code marks = refusal (faultTests code marks)

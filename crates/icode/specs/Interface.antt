@@ -10,7 +10,7 @@ use Rattle.record.specs.declared.Line.the-variants as line
 use Rattle.opcode.specs.declared.Decoded.{Decoded}
 use Rattle.opcode.specs.declared.Decoded.the-variants.{Unserved, Past, At}
 use Rattle.report.specs.Report.{Output, output}
-use Rattle.mnemonic.specs.Mnemonic.{mnemonicNumber, modeNumber, operandOf, secondOf}
+use Rattle.mnemonic.specs.Mnemonic.{partsOf}
 
 -- The number that refuses the record in the upper 32 bits; or 0 there, and the line in the lower ones.
 abbrev pub lineCode : Line → ℕ
@@ -23,7 +23,8 @@ abbrev pub decodeAnswer : Decoded → ℕ → List ℕ → Output
 decodeAnswer Unserved at out = output 10 out
 decodeAnswer Past at out = output 11 out
 decodeAnswer (At i next) at out =
-    output 0 (mnemonicNumber i ∷ modeNumber i ∷ operandOf i ∷ secondOf i ∷ (next - at) ∷ [])
+    let p = partsOf i in
+    output 0 (p .number ∷ p .mode ∷ p .operand ∷ p .second ∷ (next - at) ∷ [])
 
 -- First 8, where `out` has not five words.
 unfoldable pub decodeReply : Decoded → ℕ → List ℕ → Output

@@ -61,10 +61,11 @@ pub extern "C" fn icode_bench_decode(code: &[u8], limit: usize, at: usize, out: 
         Decoded::Unserved => 10,
         Decoded::Past => 11,
         Decoded::At(i, next) => {
-            out[0] = mnemonic::number_of(i);
-            out[1] = mnemonic::mode_of(i);
-            out[2] = mnemonic::operand_of(i);
-            out[3] = mnemonic::second_of(i);
+            let parts = mnemonic::parts_of(i);
+            out[0] = parts.number;
+            out[1] = parts.mode;
+            out[2] = parts.operand;
+            out[3] = parts.second;
             out[4] = (next - at) as u32;
             0
         }

@@ -6,7 +6,7 @@ use Prim.Native.Nat.{ℕ, _+_, _-_}
 use lib.Dec.{eqb, leb}
 use lib.ListN.{length, replicate}
 use Rattle.words.specs.Bytes.{wordsFrom}
-use Rattle.words.specs.Refusal.{_when_}
+use Rattle.words.specs.Refusal.{Test, _when_}
 use Rattle.header.specs.Header.{headerOf, constantsAt}
 use Rattle.entries.specs.Entries.{entryAt}
 use Rattle.record.specs.Number.{afterRecord}
@@ -35,9 +35,11 @@ startOf P =
     record { pc = entryAt (P .code) 0; fp = framesStart (P .areas); mp = framesStart (P .areas); gp = globalsStart; height = 0; calls = 0 }
 
 -- Numbers 1 to 8.
+abbrev pub loadTests : List ℕ → List ℕ → List ℕ → List ℕ → List Test
+loadTests r parameters m s = 8 when not (leb (length parameters) (areasOf r .globals) && sizesTaken (areasOf r) m s) ∷ []
+
 unfoldable pub loadNumber : List ℕ → List ℕ → List ℕ → List ℕ → ℕ
-loadNumber r parameters m s =
-    afterRecord r (8 when not (leb (length parameters) (areasOf r .globals) && sizesTaken (areasOf r) m s) ∷ [])
+loadNumber r parameters m s = afterRecord r (loadTests r parameters m s)
 
 -- What load answers, and the memory that it leaves. "Refused loads and runs change nothing." (Of the stack words "load writes
 -- none".)

@@ -46,7 +46,8 @@ abbrev pub modePlace : Mode → ℕ
 modePlace Normal = 0
 modePlace Double = 1
 
--- The number of the mnemonic, which all sizes of an operand share; the mode; the operand and the second one, 0 where there is none.
+-- The number of the mnemonic, which all sizes of an operand share; the mode, 1 where DOUBLE stands before it; the operand and the
+-- second one, 0 where there is none.
 abbrev pub parts : ℕ → ℕ → ℕ → ℕ → Parts
 parts number mode operand second = record { number = number; mode = mode; operand = operand; second = second }
 
@@ -81,16 +82,3 @@ partsOf (SwitchX n) = parts 54 0 n 0  -- SWITCH_X
 partsOf Leave = parts 55 0 0 0  -- LEAVE
 partsOf (Enter n k) = parts 56 0 n k  -- ENTER
 partsOf Rtn = parts 57 0 0 0  -- RTN
-
-abbrev pub mnemonicNumber : Instruction → ℕ
-mnemonicNumber i = partsOf i .number
-
--- 1 where DOUBLE stands before it, else 0.
-abbrev pub modeNumber : Instruction → ℕ
-modeNumber i = partsOf i .mode
-
-abbrev pub operandOf : Instruction → ℕ
-operandOf i = partsOf i .operand
-
-abbrev pub secondOf : Instruction → ℕ
-secondOf i = partsOf i .second

@@ -2,7 +2,7 @@
 ghost use mathlib.Core.Path.{_≡_};
 ghost use Prim.Native.Nat.{_+_, _<_};
 ghost use Rattle.mnemonic.specs.Mnemonic.{basePlace, arithmeticPlace, orderPlace, setPlace, modePlace};
-ghost use Rattle.mnemonic.specs.Mnemonic.{parts, partsOf, mnemonicNumber, modeNumber, operandOf, secondOf};
+ghost use Rattle.mnemonic.specs.Mnemonic.{parts, partsOf};
 use opcode::instruction::Arithmetic;
 use opcode::instruction::Base;
 use opcode::instruction::Instruction;
@@ -10,12 +10,12 @@ use opcode::instruction::Mode;
 use opcode::instruction::Order;
 use opcode::instruction::SetOperation;
 
-// The number of the mnemonic, the mode, and the operands.
-struct Parts {
-    number: u32,
-    mode: u32,
-    operand: u32,
-    second: u32,
+// The number of the mnemonic; the mode, 1 where DOUBLE stands before it; the operand and the second one, 0 where there is none.
+pub struct Parts {
+    pub number: u32,
+    pub mode: u32,
+    pub operand: u32,
+    pub second: u32,
 }
 
 fn base_place(base: Base) -> u32
@@ -103,7 +103,7 @@ fn load_or_store(first: u32, base: Base, mode: Mode, operand: u32) -> Parts
     }
 }
 
-fn parts_of(i: Instruction) -> Parts
+pub fn parts_of(i: Instruction) -> Parts
     ensures { λ p. ⌜ p ≡ partsOf i ⌝ }
 {
     match i {
@@ -143,31 +143,4 @@ fn parts_of(i: Instruction) -> Parts
         },
         Instruction::Rtn => plain(57, 0),
     }
-}
-
-pub fn number_of(i: Instruction) -> u32
-    ensures { λ n. ⌜ n ≡ mnemonicNumber i ⌝ }
-{
-    parts_of(i).number
-}
-
-// 1 where DOUBLE stands before it, else 0.
-pub fn mode_of(i: Instruction) -> u32
-    ensures { λ n. ⌜ n ≡ modeNumber i ⌝ }
-{
-    parts_of(i).mode
-}
-
-// The operand; 0 where there is none.
-pub fn operand_of(i: Instruction) -> u32
-    ensures { λ n. ⌜ n ≡ operandOf i ⌝ }
-{
-    parts_of(i).operand
-}
-
-// The second operand of ENTER; 0 elsewhere.
-pub fn second_of(i: Instruction) -> u32
-    ensures { λ n. ⌜ n ≡ secondOf i ⌝ }
-{
-    parts_of(i).second
 }

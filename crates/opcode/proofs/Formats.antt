@@ -1,12 +1,9 @@
 -- A row's lengths in one number, read off again.
-use mathlib.Core.Path.{_≡_, refl, ap}
+use mathlib.Core.Path.{_≡_, refl}
 use mathlib.Core.List.{List}
 use Prim.Native.Nat.{ℕ, _+_, _*_, _/_, _%_, _^_, _<_, _≤_}
 use native.Mathlib.Nat.{mul-le-mul}
 use native.Mathlib.Omega.{arith}
-use lib.ListN.{getD}
-use Rattle.words.specs.Series.{series}
-use Rattle.words.proofs.Series.{series-at}
 use Rattle.words.specs.Bytes.{byteAt, Bytes, halfwordAt}
 use Rattle.words.proofs.Bytes.{halfword-below}
 use Rattle.operand.specs.Operand.{fixedOf, eachOf}
@@ -14,10 +11,7 @@ use Rattle.opcode.specs.Table.{Row, row, unserved, normal, both, rowOf}
 use Rattle.opcode.specs.Length.{lengthOf, lengthIn, formatOf}
 use Rattle.opcode.specs.declared.instruction.Mode.{Mode}
 use Rattle.opcode.specs.declared.instruction.Mode.the-variants.{Normal, Double}
-use Rattle.opcode.proofs.Rows.{Short, row-short}
-
-value-at : (f : ℕ → ℕ) (n k : ℕ) → k < n → getD (series f 1 0 n) k 0 ≡ f k
-value-at f n k h = let e : 0 + 1 * k ≡ k = omega arith in rw e at (series-at f 1 0 n k h)
+use Rattle.opcode.proofs.Rows.{Short, row-every, row-short}
 
 -- The mode is one that a format serves.
 pub data Marked (format : ℕ) : Mode → Type 0 where
@@ -64,14 +58,10 @@ bounded (row operands both make) m code at s f = summed (fixedOf operands) (each
 bounded (row operands normal make) Normal code at s f = summed (fixedOf operands) (eachOf operands) _ s (omega arith)
 bounded (row operands normal make) Double code at s f = omega arith
 
--- At most ten bytes for each entry, by computing the 256 formats.
-format-below : (code : ℕ) → code < 256 → formatOf (rowOf code) < 32 * 11
-unfolding rowOf
-format-below code h =
-    let f : ℕ → ℕ = λ n. formatOf (rowOf n) in
-    let g : ℕ → ℕ = λ n. f n % (32 * 11) in
-    let e : series f 1 0 256 ≡ series g 1 0 256 = refl in
-    omega (arith, value-at f 256 code h, value-at g 256 code h, ap (λ (l : List ℕ). getD l code 0) e)
+-- At most ten bytes for each entry.
+format-below : (code : ℕ) → formatOf (rowOf code) < 32 * 11
+format-below code =
+    row-every (λ k r. formatOf r < 32 * 11) code (omega arith) (omega arith) (omega arith) (omega arith) (omega arith)
 
 module _ (code : List ℕ) (at format : ℕ) (e : format ≡ formatOf (rowOf (byteAt code at))) where
   -- Without the mark of DOUBLE there is no length in that mode.
@@ -95,7 +85,7 @@ length-most m code at bytes =
     let b = byteAt code at in
     omega (
       arith,
-      bounded (rowOf b) m code at (row-short b) (format-below b (bytes at)),
+      bounded (rowOf b) m code at (row-short b) (format-below b),
       halfword-below code bytes (at + 1),
     )
 

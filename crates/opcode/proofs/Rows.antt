@@ -4,7 +4,7 @@ use mathlib.Core.Path.{_≡_, refl}
 use mathlib.Core.List.{List, [], _∷_, _++_}
 use Prim.Native.Nat.{ℕ, _+_, _/_, _<_, _≤_}
 use native.Mathlib.Omega.{arith}
-use borrow.Author.Tests.{ne-eqb}
+use borrow.Author.Tests.{ne-eqb, eqb-true}
 use lib.Dec.{eqb, ltb}
 use Rattle.words.proofs.Tests.{either}
 use Rattle.words.proofs.Arms.{Other, past}
@@ -43,25 +43,30 @@ pub rest-nop :
 rest-nop true m code at = refl
 rest-nop false m code at = refl
 
--- What holds of every row of a table, and where there is none.
-abbrev pub Every : (Row → Type 0) → List Entry → Type 0
-Every P [] = P unserved
-Every P (entry k r ∷ rest) = P r × Every P rest
+-- What holds of every row of a table with its key holds of the row that is found.
+abbrev pub Every : (ℕ → Row → Type 0) → List Entry → Type 0
+Every P [] = Unit {0}
+Every P (entry k r ∷ rest) = P k r × Every P rest
 
-find-every : (P : Row → Type 0) (t : List Entry) → Every P t → (key : ℕ) → P (find t key)
-find-every P [] e key = e
-find-every P (entry k r ∷ rest) e key = either P (eqb key k) r (find rest key) (e .0) (find-every P rest (e .1) key)
+picked : (P : ℕ → Row → Type 0) (key k : ℕ) (r s : Row) (b : Bool) → eqb key k ≡ b → P k r → P key s → P key (cond b r s)
+picked P key k r s true e p q = rw (eqb-true key k e) p
+picked P key k r s false e p q = q
 
--- What holds of every row of the four tables holds of the row of a code.
-row-every :
-    (P : Row → Type 0) → P unserved → Every P shortTable → Every P dataTable → Every P operationTable → Every P controlTable →
-    (code : ℕ) → P (rowOf code)
+find-every : (P : ℕ → Row → Type 0) (t : List Entry) (key : ℕ) → P key unserved → Every P t → P key (find t key)
+find-every P [] key u e = u
+find-every P (entry k r ∷ rest) key u e = picked P key k r (find rest key) (eqb key k) refl (e .0) (find-every P rest key u (e .1))
+
+-- The same of all codes; the short table has keys of another kind, first digits, so that nothing is said of them.
+pub row-every :
+    (P : ℕ → Row → Type 0) (code : ℕ) →
+    P code unserved → Every (λ k. P code) shortTable → Every P dataTable → Every P operationTable → Every P controlTable →
+    P code (rowOf code)
 unfolding rowOf
-row-every P u s d o c code =
-    either P (eqb code 0x70) _ _ u
-    (either P (ltb code 0x80) _ _ (find-every P shortTable s (code / 16))
-    (either P (ltb code 0xA0) _ _ (find-every P dataTable d code)
-    (either P (ltb code 0xDA) _ _ (find-every P operationTable o code) (find-every P controlTable c code))))
+row-every P code u s d o c =
+    either (P code) (eqb code 0x70) _ _ u
+    (either (P code) (ltb code 0x80) _ _ (find-every (λ k. P code) shortTable (code / 16) u s)
+    (either (P code) (ltb code 0xA0) _ _ (find-every P dataTable code u d)
+    (either (P code) (ltb code 0xDA) _ _ (find-every P operationTable code u o) (find-every P controlTable code u c))))
 
 -- The fixed length of a served code is a digit, and no table stands behind one that DOUBLE may stand before.
 abbrev pub Short : Row → Type 0
@@ -70,4 +75,4 @@ Short (row operands normal make) = fixedOf operands < 16
 Short (row operands both make) = (fixedOf operands < 16) × (eachOf operands ≡ 0)
 
 pub row-short : (code : ℕ) → Short (rowOf code)
-row-short = row-every Short tt (omega arith) (omega arith) (omega arith) (omega arith)
+row-short code = row-every (λ k. Short) code tt (omega arith) (omega arith) (omega arith) (omega arith)

@@ -37,7 +37,7 @@ fn character(name: u32, k: u32) -> u8 {
 }
 
 fn write_mnemonic(code: u8, i: Instruction, length: usize) {
-    let name = mnemonic::number_of(i);
+    let name = mnemonic::parts_of(i).number;
     for k in 0..8 {
         let character = [character(name, k)];
         if character[0] != b' ' {

@@ -29,56 +29,38 @@ fn extend_halfword(h: u16) -> u32
 pub fn unsigned_byte(code: &[u8], at: usize) -> u32
     ensures { λ r. ⌜ r ≡ byteAt (now (code .entry)) (at + 1) ⌝ }
 {
-    if code.len() <= at {
-        return 0;
-    }
-    words::byte_at(code, at + 1) as u32
+    words::byte_behind(code, at, 1) as u32
 }
 
 // The second of two bytes.
 pub fn second_byte(code: &[u8], at: usize) -> u32
     ensures { λ r. ⌜ r ≡ byteAt (now (code .entry)) (at + 2) ⌝ }
 {
-    if code.len() <= at {
-        return 0;
-    }
-    words::byte_at(code, at + 2) as u32
+    words::byte_behind(code, at, 2) as u32
 }
 
 pub fn unsigned_halfword(code: &[u8], at: usize) -> u32
     ensures { λ r. ⌜ r ≡ halfwordAt (now (code .entry)) (at + 1) ⌝ }
 {
-    if code.len() <= at {
-        return 0;
-    }
-    words::halfword_at(code, at + 1) as u32
+    words::halfword_behind(code, at, 1) as u32
 }
 
 pub fn signed_byte(code: &[u8], at: usize) -> u32
     ensures { λ r. ⌜ r ≡ extended w8 (byteAt (now (code .entry)) (at + 1)) ⌝ }
 {
-    if code.len() <= at {
-        return 0;
-    }
-    extend_byte(words::byte_at(code, at + 1))
+    extend_byte(words::byte_behind(code, at, 1))
 }
 
 pub fn signed_halfword(code: &[u8], at: usize) -> u32
     ensures { λ r. ⌜ r ≡ extended w16 (halfwordAt (now (code .entry)) (at + 1)) ⌝ }
 {
-    if code.len() <= at {
-        return 0;
-    }
-    extend_halfword(words::halfword_at(code, at + 1))
+    extend_halfword(words::halfword_behind(code, at, 1))
 }
 
 pub fn word(code: &[u8], at: usize) -> u32
     ensures { λ r. ⌜ r ≡ wordAt (now (code .entry)) (at + 1) ⌝ }
 {
-    if code.len() <= at {
-        return 0;
-    }
-    words::word_at(code, at + 1)
+    words::word_behind(code, at, 1)
 }
 
 // The place at a distance, modulo 2^32.

@@ -1,27 +1,20 @@
--- What the numbers 1 to 7 being absent says: the sizes of the record and its entries. A refusal of 0 passes each of its tests.
-use mathlib.Core.Bool.{Bool, true, false, cond, not, _&&_, false≢true}
+-- What the numbers 1 to 7 being absent says, the sizes of the record and its entries; and how large numbers are. A refusal of 0 passes
+-- each of its tests.
+use mathlib.Core.Bool.{Bool, true, false, _&&_}
 use mathlib.Core.List.{List}
-use mathlib.Core.Path.{_≡_, refl, sym}
+use mathlib.Core.Path.{_≡_, refl}
 use Prim.Native.Nat.{ℕ, _≤_}
 use native.Mathlib.Omega.{arith}
-use lib.Dec.{eqb, leb, ltb}
+use lib.Dec.{eqb, leb}
 use lib.ListN.{length, drop, length-take}
-use borrow.Author.Tests.{leb-true}
-use Rattle.words.proofs.Tests.{both-true}
-use Rattle.header.specs.Header.{headerOf, sizesFit, recordLength, codeAt, codeOf}
+use borrow.Author.Tests.{leb-true, eqb-true, eqb-false, not-false}
+use Rattle.words.specs.Refusal.{Test, refusal}
+use Rattle.words.proofs.Refusal.{Clear, positive, within, cleared, most}
+use Rattle.words.proofs.Tests.{both-true, either}
+use Rattle.header.specs.Header.{headerOf, sizesFit, codeAt, codeOf}
 use Rattle.header.specs.declared.Header.{Header}
-use Rattle.version.specs.Version.{versionSound}
-use Rattle.source.specs.Source.{sourceSound}
 use Rattle.entries.specs.Entries.{entriesSound}
-use Rattle.record.specs.Number.{recordNumber}
-
-pub passes : (n : ℕ) (given : Bool) (rest : ℕ) → (n ≡ 0 → ⊥) → cond given n rest ≡ 0 → (given ≡ false) × (rest ≡ 0)
-passes n true rest h e = absurd (h e)
-passes n false rest h e = (refl, e)
-
-pub unless : (b : Bool) → not b ≡ false → b ≡ true
-unless true e = refl
-unless false e = absurd (false≢true (sym e))
+use Rattle.record.specs.Number.{recordTests, recordNumber, afterRecord}
 
 pub record Numberless (r : List ℕ) : Type 0 where
   pub sizes : sizesFit (headerOf r) ≡ true
@@ -30,15 +23,27 @@ pub record Numberless (r : List ℕ) : Type 0 where
 pub numberless : (r : List ℕ) → recordNumber r ≡ 0 → Numberless r
 unfolding recordNumber
 numberless r e =
-    let h = headerOf r in
-    let a = passes 1 (ltb (length r) 28) _ (λ z. omega arith) e in
-    let b = passes 2 (not (sizesFit h)) _ (λ z. omega arith) (a .1) in
-    let c = passes 3 (not (eqb (length r) (recordLength h))) _ (λ z. omega arith) (b .1) in
-    let d = passes 4 (not (eqb (h .imports) 0 && eqb (h .relocation) 0)) _ (λ z. omega arith) (c .1) in
-    let f = passes 5 (not (versionSound r h)) _ (λ z. omega arith) (d .1) in
-    let g = passes 6 (not (sourceSound r h)) _ (λ z. omega arith) (f .1) in
-    let k = passes 7 (not (entriesSound (codeOf r))) 0 (λ z. omega arith) (g .1) in
-    record { sizes = unless (sizesFit h) (b .0); entries = unless (entriesSound (codeOf r)) (k .0) }
+    let c = cleared (recordTests r) refl e in
+    record {
+      sizes = not-false (sizesFit (headerOf r)) (c .1 .0);
+      entries = not-false (entriesSound (codeOf r)) (c .1 .1 .1 .1 .1 .1 .0);
+    }
+
+pub record-range : (r : List ℕ) → recordNumber r ≤ 7
+unfolding recordNumber
+record-range r = most 7 (recordTests r) refl
+
+-- The same with the tests that a call makes after those of the record.
+pub after-cleared : (r : List ℕ) (tests : List Test) → positive tests ≡ true → afterRecord r tests ≡ 0 → (recordNumber r ≡ 0) × Clear tests
+after-cleared r tests p e = by (eqb (recordNumber r) 0) refl
+  where
+    by : (t : Bool) → eqb (recordNumber r) 0 ≡ t → (recordNumber r ≡ 0) × Clear tests
+    by true q = (eqb-true (recordNumber r) 0 q, cleared tests p (rw q at e))
+    by false q = absurd (eqb-false (recordNumber r) 0 q (rw q at e))
+
+pub after-range : (r : List ℕ) (k : ℕ) (tests : List Test) → 7 ≤ k → within k tests ≡ true → afterRecord r tests ≤ k
+after-range r k tests l w =
+    either (λ (n : ℕ). n ≤ k) (eqb (recordNumber r) 0) (refusal tests) (recordNumber r) (most k tests w) (omega (arith, record-range r))
 
 -- Sizes that fit are at most the largest.
 pub record Sizes (h : Header) : Type 0 where

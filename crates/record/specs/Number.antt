@@ -16,18 +16,20 @@ use Rattle.record.specs.declared.Line.the-variants.{At, Refused as NoLin
 
 -- 01's table: record under 28 bytes; a size above its maximum; length not that of the parts; imports or relocation present;
 -- version word malformed; source table odd or not as above; entries not as above.
-unfoldable pub recordNumber : List ℕ → ℕ
-recordNumber r =
+abbrev pub recordTests : List ℕ → List Test
+recordTests r =
     let h = headerOf r in
-    refusal
-    (1 when ltb (length r) 28
+    1 when ltb (length r) 28
     ∷ 2 when not (sizesFit h)
     ∷ 3 when not (eqb (length r) (recordLength h))
     ∷ 4 when not (eqb (h .imports) 0 && eqb (h .relocation) 0)
     ∷ 5 when not (versionSound r h)
     ∷ 6 when not (sourceSound r h)
     ∷ 7 when not (entriesSound (codeOf r))
-    ∷ [])
+    ∷ []
+
+unfoldable pub recordNumber : List ℕ → ℕ
+recordNumber r = refusal (recordTests r)
 
 -- The tests that a call makes after those of the record.
 abbrev pub afterRecord : List ℕ → List Test → ℕ

@@ -9,40 +9,29 @@ use Rattle.source.specs.Source.{lineAt}
 use Rattle.header.specs.declared.Header.{Header}
 use Rattle.machine.specs.declared.run.Ended.{Ended as Ending}
 use Rattle.machine.specs.Run.{endNumber}
-use Rattle.text.specs.Text.{decimal, checkText, endText, atText, lineText, stepsText, newline, wordsText, listLine, checkLine, lineAndSteps, endLine, Wrote}
+use Rattle.text.specs.Text.{decimal, checkText, endText, atText, lineText, stepsText, newline, wordsText, listLine, labelled, checkLine, endLine, Wrote}
 use Rattle.text.proofs.Writing.{wrote-then, decimal-short, words-short}
 use Rattle.report.specs.Report.{endedText}
 
+labelled-short : (text : List ℕ) (n : ℕ) (rest : List ℕ) → length (labelled text n ++ rest) ≤ length text + 10 + length rest
+unfolding labelled
+labelled-short text n rest = omega (arith, decimal-short n, length-append text (decimal n), length-append (labelled text n) rest)
+
 check-short : (n : ℕ) → length (checkLine n) ≤ 17
 unfolding checkLine
-check-short n =
-    omega (arith, decimal-short n, length-append checkText (decimal n ++ newline), length-append (decimal n) newline)
-
-line-short : (line steps : ℕ) → length (lineAndSteps line steps) ≤ 34
-unfolding lineAndSteps
-line-short line steps =
-    omega (
-      arith,
-      decimal-short line,
-      decimal-short steps,
-      length-append lineText (decimal line ++ (stepsText ++ (decimal steps ++ newline))),
-      length-append (decimal line) (stepsText ++ (decimal steps ++ newline)),
-      length-append stepsText (decimal steps ++ newline),
-      length-append (decimal steps) newline,
-    )
+check-short n = labelled-short checkText n newline
 
 end-short : (end place line steps : ℕ) → length (endLine end place line steps) ≤ 62
 unfolding endLine
 end-short end place line steps =
+    let last = labelled stepsText steps ++ newline in
+    let second = labelled lineText line ++ last in
     omega (
       arith,
-      decimal-short end,
-      decimal-short place,
-      line-short line steps,
-      length-append endText (decimal end ++ (atText ++ (decimal place ++ lineAndSteps line steps))),
-      length-append (decimal end) (atText ++ (decimal place ++ lineAndSteps line steps)),
-      length-append atText (decimal place ++ lineAndSteps line steps),
-      length-append (decimal place) (lineAndSteps line steps),
+      labelled-short endText end (labelled atText place ++ second),
+      labelled-short atText place second,
+      labelled-short lineText line last,
+      labelled-short stepsText steps newline,
     )
 
 list-short : (letter : ℕ) (xs : List ℕ) → length (listLine letter xs) ≤ 2 + 11 * length xs

@@ -50,11 +50,7 @@ pub fn stack_words(f: &[u8]) -> u16
 pub fn record_of(f: &[u8]) -> &[u8]
     ensures { λ s. ⌜ now s ≡ recordOf (now (f .entry)) ⌝ }
 {
-    let at = budget_at(f) + 8;
-    if f.len() <= at {
-        return &f[f.len()..];
-    }
-    &f[at..]
+    words::part(f, budget_at(f) + 8, f.len())
 }
 
 fn is_named(f: &[u8]) -> bool

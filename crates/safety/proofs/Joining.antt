@@ -1,15 +1,12 @@
 -- The joined call ends properly, by demand 3 for the record that the check accepted; refused, it leaves memory and stack, for after an
 -- accepted check only the load refuses.
-use mathlib.Core.Bool.{Bool, true, false, cond, not, _&&_}
 use mathlib.Core.List.{List}
 use mathlib.Core.Path.{_≡_, refl, sym, ap, subst, _∙_}
 use Prim.Native.Nat.{ℕ, zero, suc, _≤_}
 use native.Mathlib.Omega.{arith}
-use lib.Dec.{eqb, eqb·suc-zero, leb}
-use lib.ListN.{length}
-use Rattle.record.specs.Number.{recordNumber}
-use Rattle.registers.specs.Program.{areasOf, programOf}
-use Rattle.verifier.proofs.Ranges.{record-range}
+use lib.Dec.{eqb·suc-zero}
+use Rattle.registers.specs.Program.{programOf}
+use Rattle.record.proofs.Sound.{after-range}
 use Rattle.verifier.proofs.Accepting.{check-range}
 use Rattle.verifier.specs.Check.{checkOf}
 use Rattle.workspace.specs.Checking.{Checking, checking}
@@ -20,8 +17,7 @@ use Rattle.load.specs.declared.Loaded.the-variants.{Refused as NotLoaded, Ready
 use Rattle.machine.specs.declared.run.Answer.{Answer}
 use Rattle.machine.specs.declared.run.Answer.the-variants.{Refused, Ended}
 use Rattle.machine.specs.declared.run.Ended.{Ended as Ending}
-use Rattle.state.specs.Fits.{sizesTaken}
-use Rattle.load.specs.Load.{Loading, loading, startOf, loadNumber, loadOf}
+use Rattle.load.specs.Load.{Loading, loading, startOf, loadTests, loadNumber, loadOf}
 use Rattle.machine.specs.Run.{Result, ran, runOf}
 use Rattle.safety.specs.Joined.{Joined, joinedOf, ProperAnswer, not-run, well-ended, RefusedJoined}
 use Rattle.safety.proofs.Ending.{claim}
@@ -29,13 +25,7 @@ use Rattle.safety.proofs.Ending.{claim}
 -- The load's numbers are 1 to 8.
 load-number-range : (r parameters m s : List ℕ) → loadNumber r parameters m s ≤ 8
 unfolding loadNumber
-load-number-range r parameters m s =
-    by (eqb (recordNumber r) 0) (not (leb (length parameters) (areasOf r .globals) && sizesTaken (areasOf r) m s))
-  where
-    by : (t u : Bool) → cond t (cond u 8 0) (recordNumber r) ≤ 8
-    by true true = omega arith
-    by true false = omega arith
-    by false u = omega (arith, record-range r)
+load-number-range r parameters m s = after-range r 8 (loadTests r parameters m s) (omega arith) refl
 
 ready-not : {q : Registers} {n : ℕ} → Ready q ≡ NotLoaded n → ⊥
 ready-not e = let z : _≡_ {A = ℕ} 0 1 = cc in omega arith

@@ -3,17 +3,18 @@
 use mathlib.Core.Bool.{Bool, true, false, cond, false≢true, _&&_, _||_}
 use mathlib.Core.Path.{_≡_, refl, ap}
 use mathlib.Core.List.{List, [], _∷_}
-use Prim.Native.Nat.{ℕ, _+_, _/_, _≤_}
+use Prim.Native.Nat.{ℕ, _+_, _≤_}
 use native.Mathlib.Omega.{arith}
 use borrow.Author.Tests.{ne-eqb, eqb-true}
-use lib.Dec.{eqb, ltb}
+use lib.Dec.{eqb}
 use Rattle.words.specs.Bytes.{byteAt}
-use Rattle.words.proofs.Tests.{both-true, either}
+use Rattle.words.proofs.Tests.{both-true}
 use Rattle.operand.specs.Operand.{operand, operand2}
-use Rattle.opcode.specs.Table.{Row, row, unserved, allows, Entry, entry, find, rowOf, iterCode, switchCode, switchXCode, enterOperands}
+use Rattle.opcode.specs.Table.{Row, row, unserved, allows, Entry, entry, rowOf, iterCode, switchCode, switchXCode, enterOperands}
 use Rattle.opcode.specs.Table.{shortTable, dataTable, operationTable, controlTable}
 use Rattle.opcode.specs.Length.{lengthOf, lengthIn}
 use Rattle.opcode.specs.Decode.{made, instructionAt, decodeAt}
+use Rattle.opcode.proofs.Rows.{Every, row-every}
 use Rattle.opcode.proofs.Found.{Found, Origin, single, double, origin, decoded, unprefixed}
 use Rattle.opcode.specs.declared.Decoded.the-variants.{At}
 use Rattle.opcode.specs.declared.instruction.Mode.{Mode}
@@ -39,35 +40,28 @@ begins Exit first = true
 begins (Invoke p) first = true
 begins Return first = true
 
--- A test of every row of a table, with its key, holds of the row that is found.
+-- A test of every row of a table, with its key, by computing.
 abbrev every : (ℕ → Row → Bool) → List Entry → Bool
 every f [] = true
 every f (entry k r ∷ rest) = f k r && every f rest
 
-picked :
-    (f : ℕ → Row → Bool) (key k : ℕ) (r s : Row) (b : Bool) →
-    eqb key k ≡ b → f k r ≡ true → f key s ≡ true → f key (cond b r s) ≡ true
-picked f key k r s true e p q = rw (eqb-true key k e) p
-picked f key k r s false e p q = q
+abbrev Passes : (ℕ → Row → Bool) → ℕ → Row → Type 0
+Passes f k r = f k r ≡ true
 
-find-every : (f : ℕ → Row → Bool) (t : List Entry) (key : ℕ) → f key unserved ≡ true → every f t ≡ true → f key (find t key) ≡ true
-find-every f [] key u e = u
-find-every f (entry k r ∷ rest) key u e =
+all-pass : (f : ℕ → Row → Bool) (t : List Entry) → every f t ≡ true → Every (Passes f) t
+all-pass f [] e = tt
+all-pass f (entry k r ∷ rest) e =
     let p = both-true (f k r) (every f rest) e in
-    picked f key k r (find rest key) (eqb key k) refl (p .0) (find-every f rest key u (p .1))
+    (p .0, all-pass f rest (p .1))
 
--- The same of all codes; the short table has keys of another kind, first digits, so the test is not told them.
-row-every :
+row-passes :
     (f : ℕ → Row → Bool) (code : ℕ) →
     f code unserved ≡ true →
     every (λ k. f code) shortTable ≡ true → every f dataTable ≡ true → every f operationTable ≡ true → every f controlTable ≡ true →
     f code (rowOf code) ≡ true
-unfolding rowOf
-row-every f code u s d o c =
-    either (λ (r : Row). f code r ≡ true) (eqb code 0x70) _ _ u
-    (either (λ (r : Row). f code r ≡ true) (ltb code 0x80) _ _ (find-every (λ k. f code) shortTable (code / 16) u s)
-    (either (λ (r : Row). f code r ≡ true) (ltb code 0xA0) _ _ (find-every f dataTable code u d)
-    (either (λ (r : Row). f code r ≡ true) (ltb code 0xDA) _ _ (find-every f operationTable code u o) (find-every f controlTable code u c))))
+row-passes f code u s d o c =
+    row-every (Passes f) code u (all-pass (λ k. f code) shortTable s) (all-pass f dataTable d) (all-pass f operationTable o)
+    (all-pass f controlTable c)
 
 module _ (m : Mode) (code : List ℕ) (at : ℕ) where
   -- The test: what a row makes in a mode that it serves may begin with the byte.
@@ -92,11 +86,11 @@ module _ (code : List ℕ) (limit at next : ℕ) (i : Instruction) (e : decodeAt
       by : Origin code limit at i next → begins (shapeOf i) (byteAt code at) ≡ true
       by (single f r) =
           let b = byteAt code at in
-          rw (← r .same) (agreed Normal code at (rowOf b) b (r .served) (row-every (agrees Normal code at) b refl refl refl refl refl))
+          rw (← r .same) (agreed Normal code at (rowOf b) b (r .served) (row-passes (agrees Normal code at) b refl refl refl refl refl))
       by (double f r) =
           let b = byteAt code (at + 1) in
           let test : ℕ → Row → Bool = λ k. agrees Double code (at + 1) 0xF5 in
-          rw (← r .same, f) (agreed Double code (at + 1) (rowOf b) 0xF5 (r .served) (row-every test b refl refl refl refl refl))
+          rw (← r .same, f) (agreed Double code (at + 1) (rowOf b) 0xF5 (r .served) (row-passes test b refl refl refl refl refl))
 
   pub loop-origin : {d : ℕ} → shapeOf i ≡ Loop d → (byteAt code at ≡ 0xE0) × (next ≡ at + 3)
   unfolding lengthIn rowOf

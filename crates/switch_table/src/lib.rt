@@ -5,53 +5,38 @@ ghost use Rattle.switch_table.specs.Switch.{exitDistance, elseDistance, 
 pub fn exit_distance(code: &[u8], at: usize) -> u16
     ensures { λ n. ⌜ n ≡ exitDistance (now (code .entry)) at ⌝ }
 {
-    if code.len() <= at {
-        return 0;
-    }
-    words::halfword_at(code, at + 3)
+    words::halfword_behind(code, at, 3)
 }
 
 pub fn else_distance(code: &[u8], at: usize) -> u16
     ensures { λ n. ⌜ n ≡ elseDistance (now (code .entry)) at ⌝ }
 {
-    if code.len() <= at {
-        return 0;
-    }
-    words::halfword_at(code, at + 5)
+    words::halfword_behind(code, at, 5)
 }
 
 // The distance to branch `k` of a SWITCH.
 pub fn branch_distance(code: &[u8], at: usize, k: u32) -> u16
     ensures { λ n. ⌜ n ≡ branchDistance (now (code .entry)) at k ⌝ }
 {
-    if code.len() <= at {
-        return 0;
-    }
-    words::halfword_at(code, at + 7 + 2 * (k as usize))
+    words::halfword_behind(code, at, 7 + 2 * (k as usize))
 }
 
 // The distance to the branch of range `k` of a SWITCH_X.
 pub fn range_distance(code: &[u8], at: usize, k: u32) -> u16
     ensures { λ n. ⌜ n ≡ rangeDistance (now (code .entry)) at k ⌝ }
 {
-    if code.len() <= at {
-        return 0;
-    }
-    words::halfword_at(code, at + 7 + 10 * (k as usize) + 8)
+    words::halfword_behind(code, at, 15 + 10 * (k as usize))
 }
 
 // Whether range `k` of a SWITCH_X holds `x`.
 fn range_holds(code: &[u8], at: usize, k: u32, x: u32) -> bool
     ensures { λ b. ⌜ b ≡ rangeHolds (now (code .entry)) at k x ⌝ }
 {
-    if code.len() <= at {
-        return x == 0;
-    }
-    let place = at + 7 + 10 * (k as usize);
-    if !integer::at_most(words::word_at(code, place), x) {
+    let lower = words::word_behind(code, at, 7 + 10 * (k as usize));
+    if !integer::at_most(lower, x) {
         return false;
     }
-    integer::at_most(x, words::word_at(code, place + 4))
+    integer::at_most(x, words::word_behind(code, at, 11 + 10 * (k as usize)))
 }
 
 // The distance of the first of `n` ranges that holds `x`; 0 where none does.

@@ -1,55 +1,28 @@
 -- Which numbers each test of the check can give: up to 9 before the code is cut, 10 or 11 from the cut, 12 to 14 behind it.
-use mathlib.Core.Bool.{Bool, true, false, cond, not, _&&_}
+use mathlib.Core.Bool.{Bool, true, false, cond}
 use mathlib.Core.List.{List}
-use mathlib.Core.Path.{_≡_, subst}
-use Prim.Native.Nat.{ℕ, zero, suc, _+_, _-_, _*_, _≤_}
+use mathlib.Core.Path.{_≡_, refl, subst}
+use Prim.Native.Nat.{ℕ, zero, suc, _+_, _-_, _≤_}
 use native.Mathlib.Omega.{arith}
-use lib.Dec.{eqb, ltb}
+use lib.Dec.{ltb}
 use lib.ListN.{length}
-use Rattle.header.specs.Header.{headerOf, sizesFit, recordLength, codeOf}
-use Rattle.version.specs.Version.{versionSound}
-use Rattle.source.specs.Source.{sourceSound}
-use Rattle.entries.specs.Entries.{entryAt, entryCount, regionEnd, entriesSound}
-use Rattle.record.specs.Number.{recordNumber}
+use Rattle.entries.specs.Entries.{entryAt, entryCount, regionEnd}
+use Rattle.words.proofs.Refusal.{most}
+use Rattle.record.proofs.Sound.{after-range}
 use Rattle.opcode.specs.Decode.{decodeAt}
 use Rattle.opcode.specs.declared.Decoded.{Decoded}
 use Rattle.opcode.specs.declared.Decoded.the-variants.{Unserved, Past, At}
 use Rattle.layout.specs.Cut.{Marks, Cut, bad, cut, cutAt, cutFrom, thenCut, cutProcedures, cutOf, updated}
-use Rattle.faults.specs.Faults.{anywhere, strays, misplaced, uncallable, codeNumber}
-use Rattle.verifier.specs.Check.{resultsSound, listNumber}
-
-at-most : (k n : ℕ) (given : Bool) (rest : ℕ) → n ≤ k → rest ≤ k → cond given n rest ≤ k
-at-most k n true rest a b = a
-at-most k n false rest a b = b
-
-pub record-range : (r : List ℕ) → recordNumber r ≤ 7
-unfolding recordNumber
-record-range r =
-    let h = headerOf r in
-    at-most 7 1 (ltb (length r) 28) _ (omega arith)
-    (at-most 7 2 (not (sizesFit h)) _ (omega arith)
-    (at-most 7 3 (not (eqb (length r) (recordLength h))) _ (omega arith)
-    (at-most 7 4 (not (eqb (h .imports) 0 && eqb (h .relocation) 0)) _ (omega arith)
-    (at-most 7 5 (not (versionSound r h)) _ (omega arith)
-    (at-most 7 6 (not (sourceSound r h)) _ (omega arith)
-    (at-most 7 7 (not (entriesSound (codeOf r))) 0 (omega arith) (omega arith)))))))
+use Rattle.faults.specs.Faults.{faultTests, codeNumber}
+use Rattle.verifier.specs.Check.{listTests, listNumber}
 
 pub list-range : (r results : List ℕ) (room : ℕ) → listNumber r results room ≤ 9
 unfolding listNumber
-list-range r results room = by (eqb (recordNumber r) 0)
-  where
-    by : (b : Bool) → cond b (cond (ltb room (4 * length (codeOf r))) 8 (cond (not (resultsSound (codeOf r) results)) 9 0)) (recordNumber r) ≤ 9
-    by true =
-        at-most 9 8 (ltb room (4 * length (codeOf r))) _ (omega arith)
-        (at-most 9 9 (not (resultsSound (codeOf r) results)) 0 (omega arith) (omega arith))
-    by false = omega (arith, record-range r)
+list-range r results room = after-range r 9 (listTests r results room) (omega arith) refl
 
 pub code-range : (code : List ℕ) (marks : Marks) → codeNumber code marks ≤ 14
 unfolding codeNumber
-code-range code marks =
-    at-most 14 12 (anywhere code marks (strays code marks)) _ (omega arith)
-    (at-most 14 13 (anywhere code marks (misplaced code)) _ (omega arith)
-    (at-most 14 14 (anywhere code marks (uncallable code)) 0 (omega arith) (omega arith)))
+code-range code marks = most 14 (faultTests code marks) refl
 
 -- A cut that is bad has number 10 or 11.
 pub data Proper : Cut → Type 0 where

@@ -7,7 +7,7 @@ use mathlib.Core.Option.{Option, none, some}
 use Prim.Native.Nat.{ℕ, zero, suc, _+_, _*_}
 use lib.Dec.{eqb, leb, ltb}
 use lib.ListN.{length, getD, drop, replicate}
-use Rattle.words.specs.Refusal.{_when_}
+use Rattle.words.specs.Refusal.{Test, _when_}
 use Rattle.header.specs.Header.{codeOf}
 use Rattle.entries.specs.Entries.{entryCount}
 use Rattle.record.specs.Number.{afterRecord}
@@ -28,9 +28,11 @@ resultsSound code results =
     eqb (length results) (entryCount code) && (eqb (getD results 0 0) 0 && allAtMost 2 results)
 
 -- Numbers 1 to 9 for a workspace of so many halfwords; 8: "workspace under four halfwords per code byte".
+abbrev pub listTests : List ℕ → List ℕ → ℕ → List Test
+listTests r results room = 8 when ltb room (4 * length (codeOf r)) ∷ 9 when not (resultsSound (codeOf r) results) ∷ []
+
 unfoldable pub listNumber : List ℕ → List ℕ → ℕ → ℕ
-listNumber r results room =
-    afterRecord r (8 when ltb room (4 * length (codeOf r)) ∷ 9 when not (resultsSound (codeOf r) results) ∷ [])
+listNumber r results room = afterRecord r (listTests r results room)
 
 abbrev pub moduleOf : List ℕ → List ℕ → Marks → Module
 moduleOf code results marks = record { code = code; results = results; marks = marks }

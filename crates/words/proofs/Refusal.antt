@@ -16,11 +16,11 @@ Clear [] = Unit {0}
 Clear (n when given ∷ rest) = (given ≡ false) × Clear rest
 
 -- Every number is at least 1; every number is at most k.
-abbrev positive : List Test → Bool
+abbrev pub positive : List Test → Bool
 positive [] = true
 positive (n when given ∷ rest) = leb 1 n && positive rest
 
-abbrev within : ℕ → List Test → Bool
+abbrev pub within : ℕ → List Test → Bool
 within k [] = true
 within k (n when given ∷ rest) = leb n k && within k rest
 

@@ -42,6 +42,43 @@ pub fn word_at(s: &[u8], i: usize) -> u32
     join(halfword_at(s, i), halfword_at(s, i + 2))
 }
 
+// The byte, the halfword and the word `k` places behind a place. The sum may be past every place, so it is made where it is in the slice.
+pub fn byte_behind(s: &[u8], at: usize, k: usize) -> u8
+    ensures { λ r. ⌜ r ≡ byteAt (now (s .entry)) (at + k) ⌝ }
+{
+    if s.len() <= at {
+        return 0;
+    }
+    if s.len() - at <= k {
+        return 0;
+    }
+    s[at + k]
+}
+
+pub fn halfword_behind(s: &[u8], at: usize, k: usize) -> u16
+    ensures { λ r. ⌜ r ≡ halfwordAt (now (s .entry)) (at + k) ⌝ }
+{
+    if s.len() <= at {
+        return 0;
+    }
+    if s.len() - at <= k {
+        return 0;
+    }
+    halfword_at(s, at + k)
+}
+
+pub fn word_behind(s: &[u8], at: usize, k: usize) -> u32
+    ensures { λ r. ⌜ r ≡ wordAt (now (s .entry)) (at + k) ⌝ }
+{
+    if s.len() <= at {
+        return 0;
+    }
+    if s.len() - at <= k {
+        return 0;
+    }
+    word_at(s, at + k)
+}
+
 // At most `n` elements from `at` on: those that there are.
 pub fn part(s: &[u8], at: usize, n: usize) -> &[u8]
     ensures { λ r. ⌜ now r ≡ take n (drop at (now (s .entry))) ⌝ }

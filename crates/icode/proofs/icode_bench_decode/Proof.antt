@@ -15,16 +15,16 @@ use Rattle.icode.proofs.icode_bench_decode.Tie as tie
 
 -- The place after the instruction, a word's reach away.
 near :
-    (c : tie.After-second-of) →
-    let at = c .before .before .before .before .before .before .before .before .before .before .before .args .at in
-    let next = c .before .before .before .before .before .decoded .given .0 .1 .0 in
+    (c : tie.After-parts-of) →
+    let at = c .before .before .before .before .before .before .before .before .args .at in
+    let next = c .before .before .decoded .given .0 .1 .0 in
     (at ≤ next) × (next ≤ at + 655366)
 near c =
-    let decode = c .before .before .before .before .before .before .before in
+    let decode = c .before .before .before .before in
     let bytes = decode .before .before .before .shared-slice-known in
     let a = decode .before .before .before .before .args in
-    reach (a .code .now) (λ k. omega (arith, bytes .given k)) (a .limit) (a .at)
-    (sym (decode .decode .ensures) ∙ c .before .before .before .before .before .decoded .given .1)
+    reach (a .code .now) (λ k. bytes .given k .fits) (a .limit) (a .at)
+    (sym (decode .decode .ensures) ∙ c .before .before .decoded .given .1)
 
 returns : tie.Need-returns
 unfolding decodeReply
@@ -42,26 +42,17 @@ enum-told-2 c = search needs
 enum-known-decoded : tie.Need-enum-known-decoded
 enum-known-decoded c = search needs
 
-number-of-requires : tie.Need-number-of-requires
-number-of-requires c κs = search needs
+parts-of-requires : tie.Need-parts-of-requires
+parts-of-requires c κs = search needs
 
 slice-write-out : tie.Need-slice-write-out
 slice-write-out c = search needs
 
-mode-of-requires : tie.Need-mode-of-requires
-mode-of-requires c κs = search needs
-
 slice-write-out-2 : tie.Need-slice-write-out-2
 slice-write-out-2 c = search needs
 
-operand-of-requires : tie.Need-operand-of-requires
-operand-of-requires c κs = search needs
-
 slice-write-out-3 : tie.Need-slice-write-out-3
 slice-write-out-3 c = simp length-set (omega arith)
-
-second-of-requires : tie.Need-second-of-requires
-second-of-requires c κs = search needs
 
 slice-write-out-4 : tie.Need-slice-write-out-4
 slice-write-out-4 c = simp length-set (omega arith)
@@ -101,16 +92,13 @@ same-length c = search needs
 returns-4 : tie.Need-returns-4
 unfolding decodeReply
 returns-4 c =
-    let decode = c .before .before .before .before .before .before .before in
+    let decode = c .before .before .before .before in
     let out = decode .before .before .before .before .args .out .now in
     rw (
       eq-eqb (length out) 5 (decode .before .if1 .left),
       ← decode .decode .ensures,
-      c .before .before .before .before .before .decoded .given .1,
-      c .before .before .before .number-of .ensures,
-      c .before .before .mode-of .ensures,
-      c .before .operand-of .ensures,
-      c .second-of .ensures,
+      c .before .before .decoded .given .1,
+      ← c .parts-of .ensures,
     )
     (ap (output 0) (sets-all out (_ ∷ _ ∷ _ ∷ _ ∷ _ ∷ []) (decode .before .if1 .left)))
 
@@ -123,13 +111,10 @@ icode-bench-decode-spec =
     enum-told
     enum-told-2
     enum-known-decoded
-    number-of-requires
+    parts-of-requires
     slice-write-out
-    mode-of-requires
     slice-write-out-2
-    operand-of-requires
     slice-write-out-3
-    second-of-requires
     slice-write-out-4
     sub-out
     cast-out

@@ -10,8 +10,8 @@ Inv-loop code length name k₀ k = Unit {0}
 abbrev μ-loop : tie.MeasureT-loop
 μ-loop code length name k₀ k = 8 - k
 
-number-of-requires : tie.Need-number-of-requires Inv-loop μ-loop
-number-of-requires c κs = search needs
+parts-of-requires : tie.Need-parts-of-requires Inv-loop μ-loop
+parts-of-requires c κs = search needs
 
 loop-holds : tie.Need-loop-holds Inv-loop μ-loop
 loop-holds c = search needs
@@ -52,7 +52,7 @@ write-mnemonic-spec =
     (tie.spec
     Inv-loop
     μ-loop
-    number-of-requires
+    parts-of-requires
     loop-holds
     character-requires
     array-read-if1
