@@ -11,7 +11,7 @@ use Rattle.opcode.specs.declared.Decoded.{Decoded}
 use Rattle.opcode.specs.declared.Decoded.the-variants.{Unserved, Past, At}
 use Rattle.shape.specs.Shape.{shapeOf}
 use Rattle.shape.specs.declared.Shape.{Shape}
-use Rattle.shape.specs.declared.Shape.the-variants.{Straight, Drop, Goto, Branch, Keep, Loop, Again, Select, Exit, Invoke, Begin, Return}
+use Rattle.shape.specs.Linkage.{Linkage, inside, calling, entering, returning, linkageOf}
 use Rattle.layout.specs.Cut.{Marks, startsIn}
 use Rattle.successors.specs.Successors.{targets}
 
@@ -27,34 +27,24 @@ strays code marks p at next s = not (allStart marks p (targets code at next s))
 abbrev pub bare : List ℕ → ℕ → ℕ → Bool
 bare code p at = eqb at (entryAt code p) && not (eqb p 0)
 
+abbrev pub misplacedBy : List ℕ → ℕ → ℕ → Linkage → Bool
+misplacedBy code p at inside = bare code p at
+misplacedBy code p at (calling c) = bare code p at
+misplacedBy code p at (entering par) = not (eqb at (entryAt code p)) || (eqb p 0 && not (eqb par 0))
+misplacedBy code p at returning = bare code p at
+
 unfoldable pub misplaced : List ℕ → ℕ → ℕ → ℕ → Shape → Bool
-misplaced code p at next (Straight pops pushes) = bare code p at
-misplaced code p at next (Drop n) = bare code p at
-misplaced code p at next (Goto d) = bare code p at
-misplaced code p at next (Branch d) = bare code p at
-misplaced code p at next (Keep d) = bare code p at
-misplaced code p at next (Loop d) = bare code p at
-misplaced code p at next Again = bare code p at
-misplaced code p at next (Select t n) = bare code p at
-misplaced code p at next Exit = bare code p at
-misplaced code p at next (Invoke c) = bare code p at
-misplaced code p at next (Begin par) = not (eqb at (entryAt code p)) || (eqb p 0 && not (eqb par 0))
-misplaced code p at next Return = bare code p at
+misplaced code p at next s = misplacedBy code p at (linkageOf s)
 
 -- 14: "callee 0 or not in the entries".
+abbrev pub uncallableBy : List ℕ → Linkage → Bool
+uncallableBy code inside = false
+uncallableBy code (calling c) = noCallee code c
+uncallableBy code (entering par) = false
+uncallableBy code returning = false
+
 unfoldable pub uncallable : List ℕ → ℕ → ℕ → ℕ → Shape → Bool
-uncallable code p at next (Straight pops pushes) = false
-uncallable code p at next (Drop n) = false
-uncallable code p at next (Goto d) = false
-uncallable code p at next (Branch d) = false
-uncallable code p at next (Keep d) = false
-uncallable code p at next (Loop d) = false
-uncallable code p at next Again = false
-uncallable code p at next (Select t n) = false
-uncallable code p at next Exit = false
-uncallable code p at next (Invoke c) = noCallee code c
-uncallable code p at next (Begin par) = false
-uncallable code p at next Return = false
+uncallable code p at next s = uncallableBy code (linkageOf s)
 
 -- A test of an instruction by its procedure, its offset, the next one and its shape. Only starts are looked at.
 abbrev pub FaultTest : Type 0

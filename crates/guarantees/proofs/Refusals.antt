@@ -5,11 +5,8 @@ use mathlib.Core.List.{List}
 use Prim.Native.Nat.{ℕ, zero, suc, _+_, _≤_}
 use native.Mathlib.Omega.{arith}
 use lib.Dec.{eqb}
-use lib.ListN.{length}
 use Rattle.header.specs.Header.{codeOf}
-use Rattle.registers.specs.declared.Registers.{Registers}
-use Rattle.registers.specs.Program.{areasOf, programOf}
-use Rattle.load.specs.declared.Loaded.the-variants.{Refused, Ready}
+use Rattle.registers.specs.Program.{areasOf}
 use Rattle.machine.specs.declared.run.Answer.{Answer}
 use Rattle.machine.specs.declared.run.Answer.the-variants.{Refused as NotRun, Ended}
 use Rattle.machine.specs.declared.run.Ended.{Ended as Ending}
@@ -18,7 +15,7 @@ use Rattle.step.specs.declared.Machine.{Machine}
 use Rattle.step.specs.declared.Outcome.{Outcome}
 use Rattle.step.specs.declared.Outcome.the-variants.{Went, Finished, Trapped}
 use Rattle.step.specs.Step.{After, stepOf}
-use Rattle.load.specs.Load.{loading, loadOf, loadNumber, loadedMemory, startOf}
+use Rattle.load.proofs.Loading.{refused-memory}
 use Rattle.machine.specs.Run.{Result, ran, endedAt, machine, proceed, runFrom, runNumber, runOf}
 use Rattle.guarantees.specs.Guarantees.{RefusedLoad, RefusedRun, CountWithinBudget}
 
@@ -41,17 +38,8 @@ counted code (suc left) count M m s =
     by Finished M′ m′ s′ c = record { ending = endedAt finish (count + 1) M′; is = refl; few = omega arith }
     by (Trapped n) M′ m′ s′ c = record { ending = endedAt (stop n) count M′; is = refl; few = omega arith }
 
-pick-load : (t : Bool) (q : Registers) (k n : ℕ) (o m : List ℕ)
-    → cond t (loading (Ready q) o) (loading (Refused k) m) .answer ≡ Refused n
-    → cond t (loading (Ready q) o) (loading (Refused k) m) .memory ≡ m
-pick-load true q k n o m e = cc
-pick-load false q k n o m e = refl
-
 pub refused-load : RefusedLoad
-unfolding loadOf
-refused-load r parameters m s n e =
-    pick-load (eqb (loadNumber r parameters m s) 0) (startOf (programOf r)) (loadNumber r parameters m s) n
-    (loadedMemory r parameters (length m)) m e
+refused-load = refused-memory
 
 module _ (R : Result) (most k : ℕ) (m s : List ℕ) (c : Counted (R .answer) most) where
   pick-run : (t : Bool) (n : ℕ) → cond t R (ran (NotRun k) m s) .answer ≡ NotRun n

@@ -23,7 +23,7 @@ pub record Placed (code : List ℕ) (p at : ℕ) : Type 0 where
   pub below : at < regionEnd code p
   pub decoded : (i : Instruction) × (next : ℕ) × (decodeAt code (regionEnd code p) at ≡ At i next)
 
-same-marks : {m m′ : Marks} → cut m ≡ cut m′ → m ≡ m′
+pub same-marks : {m m′ : Marks} → cut m ≡ cut m′ → m ≡ m′
 same-marks e = cc
 
 thens : (go : Marks → Cut) (c : Cut) {m′ : Marks} → thenCut go c ≡ cut m′ → (m : Marks) × (c ≡ cut m) × (go m ≡ cut m′)

@@ -7,9 +7,9 @@ use native.Mathlib.Omega.{arith}
 use lib.Dec.{eqb, leb}
 use lib.ListN.{length, replicate, length-append, length-replicate, List·getD-append, List·getD-eq-default}
 use lib.Seq.{getD-append-add}
-use borrow.Author.Tests.{eqb-true, eqb-false, leb-true, le-leb, lt-leb, eq-eqb, ne-eqb}
+use borrow.Author.Tests.{eqb-true, eqb-false, le-leb, lt-leb, eq-eqb, ne-eqb}
 use Rattle.words.specs.Bytes.{wordAt, wordsFrom}
-use Rattle.words.proofs.Tests.{both-true}
+use Rattle.words.proofs.Tests.{either}
 use Rattle.words.proofs.Series.{series-at, series-length}
 use Rattle.record.proofs.Sound.{sound-sizes}
 use Rattle.record.specs.declared.Reading.the-variants.{Sound, Refused as NotRead}
@@ -21,7 +21,8 @@ use Rattle.registers.specs.Memory.{read}
 use Rattle.registers.specs.Program.{areasIn, areasOf, programOf, framesStart}
 use Rattle.load.specs.declared.Loaded.the-variants.{Refused, Ready}
 use Rattle.state.specs.Fits.{sizesTaken}
-use Rattle.load.specs.Load.{constantWords, initialData, loadedMemory, startOf, loadNumber, loading, loadOf}
+use Rattle.state.proofs.Fitting.{sizes-taken}
+use Rattle.load.specs.Load.{constantWords, initialData, loadedMemory, startOf, loadNumber, Loading, loading, loadOf}
 
 apart : (n : ℕ) (h : Header) → NotRead n ≡ Sound h → ⊥
 apart n h e = let z : _≡_ {A = ℕ} 0 1 = cc in omega arith
@@ -42,18 +43,6 @@ refused-number r n e = by (eqb (recordNumber r) 0) refl
     by : (t : Bool) → eqb (recordNumber r) 0 ≡ t → (recordNumber r ≡ 0 → ⊥) × (n ≡ recordNumber r)
     by true q = absurd (apart n (headerOf r) (sym (rw q at e)))
     by false q = let s : NotRead (recordNumber r) ≡ NotRead n = rw q at e in (eqb-false (recordNumber r) 0 q, cc)
-
--- Sizes that load takes hold the data areas, and are at most the largest.
-pub taken-sizes : (A : Areas) (m s : List ℕ) (t : Bool) → t ≡ sizesTaken A m s → t ≡ true →
-    (framesStart A ≤ length m) × (length m ≤ 16384) × (length s ≤ 1024)
-unfolding sizesTaken
-taken-sizes A m s t e h =
-    let all : (leb (framesStart A) (length m) && (leb (length m) 16384 && leb (length s) 1024)) ≡ true = sym e ∙ h in
-    let some : (leb (length m) 16384 && leb (length s) 1024) ≡ true = both-true (leb (framesStart A) (length m)) _ all .1 in (
-      leb-true (framesStart A) (length m) (both-true (leb (framesStart A) (length m)) _ all .0),
-      leb-true (length m) 16384 (both-true (leb (length m) 16384) (leb (length s) 1024) some .0),
-      leb-true (length s) 1024 (both-true (leb (length m) 16384) (leb (length s) 1024) some .1),
-    )
 
 -- An element behind the first part of a list; zeros, and zeros behind a list.
 behind : (xs ys : List ℕ) (k : ℕ) → length xs ≤ k → read (xs ++ ys) k ≡ read ys (k - length xs)
@@ -157,6 +146,12 @@ module _ (r ps m s : List ℕ) where
   unfolding loadOf
   none-given e = rw (eq-eqb (loadNumber r ps m s) 0 e)
 
+  -- A refused load leaves memory.
+  pub refused-memory : (n : ℕ) → loadOf r ps m s .answer ≡ Refused n → loadOf r ps m s .memory ≡ m
+  unfolding loadOf
+  refused-memory n =
+      either (λ (l : Loading). l .answer ≡ Refused n → l .memory ≡ m) (eqb (loadNumber r ps m s) 0) _ _ (λ e. cc) (λ e. refl)
+
   pub load-refused : (n : ℕ) → readingOf r ≡ NotRead n → loading (Refused n) m ≡ loadOf r ps m s
   load-refused n e =
       let k : (recordNumber r ≡ 0 → ⊥) × (n ≡ recordNumber r) = refused-number r n e in
@@ -182,7 +177,7 @@ module _ (r ps m s : List ℕ) where
 
       pub load-frames : t ≡ true → (framesStart (areasOf r) ≤ length m) × (framesStart A ≤ 16384)
       load-frames f =
-          let k = taken-sizes A m s t sizes f in
+          let k = sizes-taken A m s (sym sizes ∙ f) in
           (rw (areas, sound-header r h sound .1) at (k .0), omega (arith, k .0, k .1))
 
       pub load-sizes : t ≡ false → loading (Refused 8) m ≡ loadOf r ps m s

@@ -2,13 +2,15 @@
 -- returns take one away.
 use Prim.Native.Nat.{ℕ, suc, _+_, _-_, _≤_, _<_}
 use mathlib.Core.Path.{_≡_, _∙_, refl, sym}
-use mathlib.Core.Bool.{Bool, true, false, cond, _&&_, _||_}
+use mathlib.Core.Bool.{true, false, cond, _&&_, _||_, true≢false}
 use mathlib.Core.List.{List, [], _∷_}
+use native.Mathlib.Nat.{lt-of-not-le}
 use native.Mathlib.Omega.{arith}
 use lib.Dec.{leb, ltb}
 use lib.ListN.{length, set}
 use lib.Seq.{sets, getD-set-same, getD-set-other}
-use borrow.Author.Tests.{ltb-true, ltb-false, le-leb}
+use borrow.Author.Tests.{ltb-false, le-leb}
+use Rattle.words.proofs.Sets.{sets-other}
 use Rattle.words.proofs.Tests.{by-test}
 use Rattle.opcode.specs.declared.instruction.Mode.{Mode}
 use Rattle.opcode.specs.declared.instruction.Mode.the-variants.{Normal, Double}
@@ -27,7 +29,7 @@ use Rattle.registers.proofs.Links.{chain-lower, chain-rest}
 use Rattle.registers.proofs.Protected.{free-above}
 use Rattle.step.specs.Step.{written}
 use Rattle.state.proofs.Fitting.{Fitting}
-use Rattle.machine.proofs.Stored.{apart, Intact, intact-none, intact-then, stored-above, sets-under}
+use Rattle.machine.proofs.Stored.{apart, Intact, intact-none, intact-then, stored-above}
 use Rattle.machine.proofs.Stored.{stored as stored-one}
 
 -- The registers q lie rightly in the memory n, which came of m under the registers q₀ with each protected word as it was.
@@ -83,17 +85,10 @@ module _ (A : Areas) (q : Registers) (m s : List ℕ) (F : Fitting A q m s) wher
 
   -- A protected word is another than one that is not, and lies below FP.
   other : (a b : ℕ) → protects A q m a ≡ true → protects A q m b ≡ false → a ≡ b → ⊥
-  other a b p h e = let z : _≡_ {A = Bool} true false = sym p ∙ (rw e h) in let w : _≡_ {A = ℕ} 0 1 = cc in absurd (omega arith)
+  other a b p h e = true≢false (sym p ∙ rw e h)
 
   low : (a : ℕ) → protects A q m a ≡ true → a < q .fp
-  low a p = by (ltb a (q .fp)) refl
-    where
-      by : (t : Bool) → ltb a (q .fp) ≡ t → a < q .fp
-      by true e = ltb-true a (q .fp) e
-      by false e =
-          let z : _≡_ {A = Bool} true false = sym p ∙ free-above A q m a (F .links) (ltb-false a (q .fp) e) in
-          let w : _≡_ {A = ℕ} 0 1 = cc in
-          absurd (omega arith)
+  low a p = lt-of-not-le (λ l. true≢false (sym p ∙ free-above A q m a (F .links) l))
 
   -- A store to an address that is not protected.
   pub stored-keeps : (a x gone : ℕ) (push : Push) (place : ℕ) → protects A q m a ≡ false
@@ -136,7 +131,7 @@ module _ (A : Areas) (q : Registers) (m s : List ℕ) (F : Fitting A q m s) wher
   entered-keeps gone push place mp l r =
       λ vs. intact-sized (sets m (q .mp) vs) place mp
       (stored-above m (framesStart A) (q .fp) (q .calls) (q .mp) vs (F .links) (omega arith) (F .frame)) l r
-      (λ b p. sets-under m (q .mp) vs b (omega (arith, low b p, F .frame)))
+      (λ b p. sets-other m (q .mp) vs b (λ l r. omega (arith, low b p, F .frame)))
 
   -- CALL: the new frame's links are its own two words.
   pub called-keeps : (gone : ℕ) (push : Push) (next entry : ℕ) → q .calls < 64 → q .mp + 2 ≤ length m
@@ -160,7 +155,7 @@ module _ (A : Areas) (q : Registers) (m s : List ℕ) (F : Fitting A q m s) wher
         within = r;
         depth = omega arith;
         links = rw (k, saved, le-leb (q .fp + 2) (q .mp + 2) (omega (arith, F .frame))) (i .links ∙ F .links);
-        spared = λ b p. sets-under m (q .mp) (q .fp ∷ next ∷ []) b (omega (arith, low b p, F .frame));
+        spared = λ b p. sets-other m (q .mp) (q .fp ∷ next ∷ []) b (λ l r. omega (arith, low b p, F .frame));
       }
 
   -- RTN: the frame below.

@@ -1,7 +1,7 @@
 -- A step leaves a state that fits: each instruction's effect keeps memory and frames, and carrying it out keeps the stack.
 use Prim.Native.Nat.{ℕ, _+_, _-_}
 use mathlib.Core.Path.{_≡_, refl}
-use mathlib.Core.Bool.{Bool, true, false, cond, _||_}
+use mathlib.Core.Bool.{Bool, true, false, cond}
 use mathlib.Core.List.{List}
 use native.Mathlib.Omega.{arith}
 use lib.Dec.{eqb, leb, ltb}
@@ -11,7 +11,7 @@ use mir.Syntax.{w32}
 use mir.Val.{toZ}
 use borrow.Author.Tests.{ltb-false, leb-true, leb-false, eqb-false}
 use Rattle.words.proofs.Tests.{by-test}
-use Rattle.entries.specs.Entries.{entryAt, entryCount}
+use Rattle.entries.specs.Entries.{entryAt, noCallee}
 use Rattle.opcode.specs.Decode.{decodeAt}
 use Rattle.opcode.specs.declared.Decoded.{Decoded}
 use Rattle.opcode.specs.declared.Decoded.the-variants.{Unserved, Past, At}
@@ -39,7 +39,8 @@ use Rattle.execute.specs.Execute.{execute}
 use Rattle.step.specs.Step.{After, after, written, pushed, settled, performed, stepOf}
 use Rattle.step.specs.declared.Machine.{Machine}
 use Rattle.step.specs.declared.Outcome.{Outcome}
-use Rattle.state.proofs.Fitting.{Fitting}
+use Rattle.state.specs.Fits.{fits}
+use Rattle.state.proofs.Fitting.{Fitting, fitting, fitted}
 use Rattle.machine.proofs.Keeping.{Steady, Keeps, sized-keeps, moved-keeps, stored-keeps, storable-keeps, mode-keeps, entered-keeps, called-keeps, returned-keeps}
 
 module _ (code : List ℕ) (A : Areas) (q : Registers) (m s : List ℕ) (F : Fitting A q m s) where
@@ -71,7 +72,7 @@ module _ (code : List ℕ) (A : Areas) (q : Registers) (m s : List ℕ) (F : Fit
   call-keeps : (next p : ℕ) → Keeps A q m (calls code q m next p)
   unfolding calls
   call-keeps next p =
-      by-test (Keeps A q m) (eqb p 0 || leb (entryCount code) p) (Trap 23)
+      by-test (Keeps A q m) (noCallee code p) (Trap 23)
       (cond (leb 64 (q .calls)) (Trap 37)
       (cond (leb (q .mp + 2) (length m)) (Go 0 NoPush (WriteTwo (q .mp) (q .fp) next) (called q (entryAt code p))) (Trap 35)))
       (λ e. tt)
@@ -140,12 +141,15 @@ module _ (code : List ℕ) (A : Areas) (q : Registers) (m s : List ℕ) (F : Fit
 -- What holds of a step's result: the same data areas, a state that fits, and the protected words as they were.
 pub record Holds (A : Areas) (q : Registers) (m : List ℕ) (a : After) : Type 0 where
   pub areas : a .stepped .machine .areas ≡ A
-  pub fit : Fitting A (a .stepped .machine .registers) (a .memory) (a .stack)
+  pub fit : fits A (a .stepped .machine .registers) (a .memory) (a .stack) ≡ true
   pub spared : (b : ℕ) → protects A q m b ≡ true → read (a .memory) b ≡ read m b
 
-module _ (code : List ℕ) (M : Machine) (m s : List ℕ) (F : Fitting (M .areas) (M .registers) m s) where
+module _ (code : List ℕ) (M : Machine) (m s : List ℕ) (f : fits (M .areas) (M .registers) m s ≡ true) where
+  F : Fitting (M .areas) (M .registers) m s
+  F = fitting (M .areas) (M .registers) m s f
+
   still : (o : Outcome) → Holds (M .areas) (M .registers) m (after (record { outcome = o; machine = M }) m s)
-  still o = record { areas = refl; fit = F; spared = λ b p. refl }
+  still o = record { areas = refl; fit = f; spared = λ b p. refl }
 
   settled-holds : (size : ℕ) (e : Effect) → Keeps (M .areas) (M .registers) m e → Holds (M .areas) (M .registers) m (settled size M m s e)
   unfolding settled
@@ -159,7 +163,7 @@ module _ (code : List ℕ) (M : Machine) (m s : List ℕ) (F : Fitting (M .areas
       (λ t. by-test (Holds (M .areas) (M .registers) m) (ltb (next .pc) size) _ _
       (λ u. record {
         areas = refl;
-        fit = record {
+        fit = fitted (M .areas) _ _ _ (record {
           areas = rw (y .size) (F .areas);
           room = rw (y .size) (F .room);
           deep = rw (length-sets s (M .registers .height - gone) (pushed push)) (F .deep);
@@ -172,7 +176,7 @@ module _ (code : List ℕ) (M : Machine) (m s : List ℕ) (F : Fitting (M .areas
           height = rw (length-sets s (M .registers .height - gone) (pushed push)) (ltb-false (length s) h t);
           depth = y .depth;
           links = y .links;
-        };
+        });
         spared = y .spared;
       })
       (λ u. still _))

@@ -1,11 +1,12 @@
 -- A run unrolled step by step: what is left of the budget, from where the steps have come, decides what the whole run answers.
-use Prim.Native.Nat.{ℕ, zero, suc, _+_, _-_, _≤_, _<_}
+use Prim.Native.Nat.{ℕ, zero, _+_, _-_, _≤_, _<_}
 use mathlib.Core.Path.{_≡_, _∙_, refl, sym}
 use mathlib.Core.Bool.{Bool, true, false}
 use mathlib.Core.List.{List}
 use native.Mathlib.Omega.{arith}
 use lib.ListN.{length}
 use borrow.Author.Tests.{ne-eqb}
+use Rattle.words.proofs.Left.{one-left}
 use Rattle.header.specs.declared.Header.{Header}
 use Rattle.record.specs.declared.Reading.the-variants.{Refused as NotRead, Sound}
 use Rattle.header.specs.Header.{codeOf}
@@ -22,7 +23,6 @@ use Rattle.machine.specs.declared.run.End.the-variants.{Finished as fini
 use Rattle.step.specs.Step.{after, stepOf}
 use Rattle.state.specs.Fits.{fits}
 use Rattle.machine.specs.Run.{ran, result, machine, proceed, runFrom, runNumber, runOf}
-use Rattle.state.proofs.Fitting.{fitting, fitted}
 use Rattle.machine.proofs.Preserved.{Holds, step-holds}
 use Rattle.load.proofs.Loading.{sound-header, refused-number}
 
@@ -50,8 +50,7 @@ module _ (code : List ℕ) (budget : ℕ) (M₀ : Machine) (m₀ s₀ : List ℕ
     turn : runFrom code budget 0 M₀ m₀ s₀
         ≡ proceed (runFrom code (budget - (steps + 1)) (steps + 1)) steps (r .outcome) (r .machine) m′ s′
     turn =
-        let left : budget - steps ≡ suc (budget - (steps + 1)) = omega arith in
-        R .same ∙ rw (left, ← e)
+        R .same ∙ rw (one-left steps budget h, ← e)
 
     pub finished : r .outcome ≡ Finished → result finish (steps + 1) (r .machine) m′ s′ ≡ runFrom code budget 0 M₀ m₀ s₀
     finished o = sym (turn ∙ rw o)
@@ -63,10 +62,10 @@ module _ (code : List ℕ) (budget : ℕ) (M₀ : Machine) (m₀ s₀ : List ℕ
         → Running code budget M₀ m₀ s₀ (r .machine) m′ s′ (steps + 1)
     went o k l =
         let H : Holds (M .areas) (M .registers) m (after r m′ s′) =
-        rw e (step-holds code M m s (fitting (M .areas) (M .registers) m s (R .fit))) in
+        rw e (step-holds code M m s (R .fit)) in
         record {
           count = omega arith;
-          fit = rw (H .areas) (fitted (M .areas) (r .machine .registers) m′ s′ (H .fit));
+          fit = rw (H .areas) (H .fit);
           same = turn ∙ rw o;
           memory = k ∙ R .memory;
           stack = l ∙ R .stack;

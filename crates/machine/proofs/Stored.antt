@@ -1,5 +1,5 @@
 -- A store to a word that is no link, at or past address 3, keeps header words and the chain of links.
-use Prim.Native.Nat.{ℕ, zero, suc, _+_, _-_, _≤_, _<_}
+use Prim.Native.Nat.{ℕ, zero, suc, _+_, _-_, _≤_}
 use mathlib.Core.Path.{_≡_, _∙_, refl}
 use mathlib.Core.Bool.{Bool, true, false, _||_}
 use mathlib.Core.List.{List, [], _∷_}
@@ -82,8 +82,3 @@ stored-above m start fp n a (v ∷ vs) h k l =
     let one : Intact m (set m a v) start fp n = stored m start fp n a v h (link-above m start fp n a h l) (omega arith) in
     intact-then m (set m a v) (sets (set m a v) (suc a) vs) start fp n one
     (stored-above (set m a v) start fp n (suc a) vs (one .links ∙ h) k (omega arith))
-
--- A word below the place of the first store.
-pub sets-under : (m : List ℕ) (a : ℕ) (vs : List ℕ) (b : ℕ) → b < a → read (sets m a vs) b ≡ read m b
-sets-under m a [] b h = refl
-sets-under m a (v ∷ vs) b h = sets-under (set m a v) (suc a) vs b (omega arith) ∙ getD-set-other m a b v 0 (λ e. omega arith)

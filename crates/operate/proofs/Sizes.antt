@@ -1,6 +1,6 @@
 -- How large the result of an operation on two signed words can be: it fits 64 bits whatever the operation is.
 use Prim.Native.Nat.{ℕ, zero, suc, _+_, _*_, _-_, _/_, _≤_}
-use mathlib.Core.Bool.{Bool, true, false, cond, Bool·beq, _||_}
+use mathlib.Core.Bool.{Bool, cond, Bool·beq, _||_}
 use native.Mathlib.Omega.{arith}
 use native.Mathlib.Nat.{le-trans, mul-le-mul, div-le-self}
 use lib.IntN.{ℤ, pos, negsuc, negℤ, natAbs, subℕ, _+ℤ_, _*ℤ_}
@@ -8,13 +8,13 @@ use lib.Dec.{ltb, eqb}
 use lib.Signed.{mag, quotZ, remZ, nonNeg, mag-rem}
 use mir.Syntax.{w32, w64}
 use mir.Val.{SFits}
+use Rattle.words.proofs.Tests.{either}
 use Rattle.opcode.specs.declared.instruction.Arithmetic.{Arithmetic}
 use Rattle.opcode.specs.declared.instruction.Arithmetic.the-variants.{Add, Subtract, Multiply, Divide, Modulus}
 use Rattle.operate.specs.Arithmetic.{signedNumber, matched, modZ}
 
 mag-cond : (t : Bool) (x y : ℤ) → mag (cond t x y) ≤ mag x + mag y
-mag-cond true x y = omega arith
-mag-cond false x y = omega arith
+mag-cond t x y = either (λ (z : ℤ). mag z ≤ mag x + mag y) t x y (omega arith) (omega arith)
 
 mag-sub : (a b : ℕ) → mag (subℕ a b) ≤ a + b
 mag-sub a b = omega (arith, mag-cond (ltb a b) (negsuc (b - suc a)) (pos (a - b)))

@@ -8,6 +8,7 @@ use native.Mathlib.Omega.{arith}
 use lib.Dec.{eqb, leb}
 use borrow.Author.Tests.{eqb-true, leb-true, eq-eqb, ne-eqb}
 use Rattle.words.proofs.Tests.{both-true}
+use Rattle.words.proofs.Left.{one-left}
 use Rattle.registers.specs.Memory.{savedFp, isLink, chained}
 
 -- A frame of a chain, and the rest of the chain below it.
@@ -58,9 +59,6 @@ pub record Walked (m : List ℕ) (start fp calls a frame counter : ℕ) : Type 0
   pub chain : chained m start frame (calls - counter) ≡ true
   pub same : isLink m fp calls a ≡ isLink m frame (calls - counter) a
 
-one-more : (calls counter : ℕ) → counter < calls → calls - counter ≡ suc (calls - (counter + 1))
-one-more calls counter h = omega arith
-
 pub walked-start : (m : List ℕ) (start fp calls a : ℕ) → chained m start fp calls ≡ true → Walked m start fp calls a fp 0
 walked-start m start fp calls a h =
     let none : calls - 0 ≡ calls = omega arith in
@@ -76,12 +74,12 @@ module _ (m : List ℕ) (start fp calls a frame counter : ℕ) (w : Walked m sta
       w .same ∙ rw none
 
   pub walked-near : counter < calls → a < frame → frame ≤ a + 2 → isLink m fp calls a ≡ true
-  walked-near h l r = w .same ∙ rw (one-more calls counter h) (link-near m frame (calls - (counter + 1)) a l r)
+  walked-near h l r = w .same ∙ rw (one-left counter calls h) (link-near m frame (calls - (counter + 1)) a l r)
 
   pub walked-next : counter < calls → a + 2 < frame → Walked m start fp calls a (savedFp m frame) (counter + 1)
   walked-next h l =
       record {
         count = omega arith;
-        chain = chain-rest m start frame (calls - (counter + 1)) (rw (one-more calls counter h) at (w .chain));
-        same = w .same ∙ rw (one-more calls counter h) (link-lower m frame (calls - (counter + 1)) a l);
+        chain = chain-rest m start frame (calls - (counter + 1)) (rw (one-left counter calls h) at (w .chain));
+        same = w .same ∙ rw (one-left counter calls h) (link-lower m frame (calls - (counter + 1)) a l);
       }

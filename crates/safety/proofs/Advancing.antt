@@ -1,17 +1,18 @@
 -- A completed step keeps the invariant. Within a procedure control goes to a way out of the stack picture; CALL and RTN go from one share
 -- to another; what a step leaves alone below the share keeps the callers.
+use mathlib.Core.Bool.{true}
 use mathlib.Core.List.{List}
 use mathlib.Core.Option.{some}
 use mathlib.Core.Path.{_≡_, _∙_, refl, subst}
 use Prim.Native.Nat.{ℕ, _≤_, _<_}
 use native.Mathlib.Omega.{arith}
 use lib.ListN.{length, getD}
-use Rattle.opcode.specs.declared.Decoded.the-variants.{At}
 use Rattle.opcode.specs.declared.instruction.Instruction.{Instruction}
 use Rattle.shape.specs.Counts.{needed}
 use Rattle.shape.specs.Shape.{shapeOf}
 use Rattle.shape.specs.declared.Shape.{Shape}
 use Rattle.shape.specs.declared.Shape.the-variants.{Straight, Drop, Goto, Branch, Keep, Loop, Again, Select, Exit, Invoke, Begin, Return}
+use Rattle.shape.specs.Linkage.{Linkage, inside, calling, entering, returning, linkageOf}
 use Rattle.registers.specs.declared.Areas.{Areas}
 use Rattle.registers.specs.declared.Registers.{Registers}
 use Rattle.registers.specs.Program.{framesStart}
@@ -19,27 +20,47 @@ use Rattle.stackmap.specs.Ways.{Module, ways}
 use Rattle.stackmap.specs.StackMap.{stepped}
 use Rattle.step.specs.declared.Outcome.{Outcome}
 use Rattle.step.specs.declared.Outcome.the-variants.{Went}
-use Rattle.step.specs.Step.{After, performed, stepOf}
-use Rattle.state.proofs.Fitting.{Fitting, fitting, fitted}
+use Rattle.state.specs.Fits.{fits}
 use Rattle.machine.proofs.Preserved.{step-holds}
-use Rattle.safety.specs.Active.{running, shareOf, Configuration, callsAfter, stepOn, advance}
+use Rattle.safety.specs.Active.{running, shareOf, Configuration, callsBy, stepOn, advance}
 use Rattle.safety.specs.Demand3.{SameFrom, Unread}
-use Rattle.safety.proofs.Parts.{registersOf, Inv, Doing, Within, Moves, Steps}
+use Rattle.safety.proofs.Parts.{registersOf, Placed, Inv, Doing, Within, Moves, Steps}
 use Rattle.safety.proofs.Words.{finds-words}
 use Rattle.safety.proofs.Below.{step-unread}
 use Rattle.safety.proofs.Effects.{Framing}
-use Rattle.safety.proofs.Frames.{Did, performed-did, frames-kept}
+use Rattle.safety.proofs.Frames.{step-did, frames-kept}
 use Rattle.safety.proofs.Slots.{slots-kept}
 use Rattle.safety.proofs.Places.{Checked, AtPlace, placed}
-use Rattle.safety.proofs.Suspending.{suspended-kept, Placed, returns-inside, returned-placed, called-placed}
+use Rattle.safety.proofs.Suspending.{suspended-kept, returns-inside, returned-placed, called-placed}
+
+-- What calls or returns has one shape.
+abbrev Is : Shape → Linkage → Type 0
+Is s inside = Unit {0}
+Is s (calling p) = s ≡ Invoke p
+Is s (entering par) = Unit {0}
+Is s returning = s ≡ Return
+
+shape-is : (s : Shape) → Is s (linkageOf s)
+shape-is (Straight pops pushes) = tt
+shape-is (Drop n) = tt
+shape-is (Goto d) = tt
+shape-is (Branch d) = tt
+shape-is (Keep d) = tt
+shape-is (Loop d) = tt
+shape-is Again = tt
+shape-is (Select t n) = tt
+shape-is Exit = tt
+shape-is (Invoke p) = refl
+shape-is (Begin par) = tt
+shape-is Return = refl
 
 module _ (M : Module) (C : Checked M) (A : Areas) (c : Configuration) (I : Inv M A c) where
   abbrev q : Registers
   q = registersOf c
 
   -- What is about to be done.
-  pub at-place : AtPlace M (running (c .calls)) (q .pc) (I .slots)
-  at-place = placed M C (running (c .calls)) (I .procedure) (q .pc) (I .slots) (I .reached)
+  pub at-place : AtPlace M (running (c .calls)) (q .pc) (I .placed .slots)
+  at-place = placed M C (running (c .calls)) (I .placed .procedure) (q .pc) (I .placed .slots) (I .placed .reached)
 
   abbrev i : Instruction
   i = at-place .instruction
@@ -49,15 +70,15 @@ module _ (M : Module) (C : Checked M) (A : Areas) (c : Configuration) (I : Inv M
 
   pub unread : (s' : List ℕ) → SameFrom (shareOf (c .calls)) (c .stack) s' → Unread M c s'
   unread =
-      let enough : needed i ≤ length (I .slots) =
-      finds-words M (running (c .calls)) (q .pc) (at-place .next) i (I .slots) (at-place .out) (at-place .ways-out) in
-      step-unread M c i (at-place .next) doing (omega (arith, I .height))
+      let enough : needed i ≤ length (I .placed .slots) =
+      finds-words M (running (c .calls)) (q .pc) (at-place .next) i (I .placed .slots) (at-place .out) (at-place .ways-out) in
+      step-unread M c i (at-place .next) doing (omega (arith, I .placed .height))
 
-  pub steps : Steps M c (at-place .out) (shapeOf i) (stepOn M c .stepped .outcome)
+  pub steps : Steps M c (at-place .out) (linkageOf (shapeOf i)) (stepOn M c .stepped .outcome)
   steps =
-      slots-kept finds-words M A c i (at-place .next) (running (c .calls)) (I .slots) (at-place .out) doing (I .areas) (I .fitted) (I .height)
-      (I .holds) (at-place .ways-out) (at-place .stays) (at-place .callable)
-      (λ e some. returns-inside M C (c .memory) (c .stack) (framesStart A) (q .fp) (c .calls) (I .framed) (I .suspended)
+      slots-kept finds-words M A c i (at-place .next) (running (c .calls)) (I .placed .slots) (at-place .out) doing (I .areas) (I .fitted) (I .placed .height)
+      (I .placed .holds) (at-place .ways-out) (at-place .stays) (at-place .callable)
+      (λ e some. returns-inside M C (c .memory) (c .stack) (framesStart A) (q .fp) (c .calls) (I .framed) (I .placed .suspended)
       (omega (arith, I .counted)))
 
   -- Nothing below the share changes.
@@ -73,69 +94,49 @@ module _ (M : Module) (C : Checked M) (A : Areas) (c : Configuration) (I : Inv M
 
     -- RTN goes on only where a call is active.
     active : shapeOf i ≡ Return → length (c .calls) ≡ 0 → ⊥
-    unfolding stepOf
     active e none =
-        let a : After = performed (M .code) (c .machine) (c .memory) (c .stack) (At i (at-place .next)) in
-        let is : stepOn M c ≡ a = rw (doing .decoded) in
-        let did : Did (Framing q (c .memory) (at-place .next) (shapeOf i)) (c .memory) a =
-        performed-did (c .machine) (c .memory) (c .stack) (M .code) i (at-place .next) (rw (← is) w) in
-        subst (λ (x : Shape). Framing q (c .memory) (at-place .next) x (did .write) (did .registers)) e (did .done) .active
+        let did = step-did M c i (at-place .next) doing w in
+        subst (λ (x : Shape). Framing q (c .memory) (at-place .next) (linkageOf x) (did .write) (did .registers)) e (did .done) .active
         (omega (arith, I .counted))
 
     within-placed : Within (M .code) (shareOf (c .calls)) (at-place .out) q' s' → Placed M (c .calls) q' s'
     within-placed W =
         record {
-          procedure = I .procedure;
+          procedure = I .placed .procedure;
           slots = W .slots;
-          reached = stepped (I .reached) (at-place .found) (W .among);
+          reached = stepped (I .placed .reached) (at-place .found) (W .among);
           height = W .height;
           holds = W .holds;
-          suspended = suspended-kept M (c .stack) s' (c .calls) kept-below (I .suspended);
+          suspended = suspended-kept M (c .stack) s' (c .calls) kept-below (I .placed .suspended);
         }
 
-    -- By the shape of the instruction, as the active calls are.
-    placed-after : (shape : Shape) → shapeOf i ≡ shape → Moves M c (at-place .out) q' s' shape
-        → Placed M (callsAfter M q (at-place .next) shape (c .calls)) q' s'
+    -- By what the instruction does with procedures, as the active calls are.
+    placed-after : (k : Linkage) → Is (shapeOf i) k → Moves M c (at-place .out) q' s' k
+        → Placed M (callsBy M q (at-place .next) k (c .calls)) q' s'
     unfolding ways
-    placed-after (Straight pops pushes) e m = within-placed m
-    placed-after (Drop n) e m = within-placed m
-    placed-after (Goto d) e m = within-placed m
-    placed-after (Branch d) e m = within-placed m
-    placed-after (Keep d) e m = within-placed m
-    placed-after (Loop d) e m = within-placed m
-    placed-after Again e m = within-placed m
-    placed-after (Select t n) e m = within-placed m
-    placed-after Exit e m = within-placed m
-    placed-after (Invoke d) e m =
+    placed-after inside e m = within-placed m
+    placed-after (calling d) e m =
         rw (m .0 .same-stack)
-        (called-placed M C (c .stack) (c .calls) (I .slots) (at-place .out) q q' (at-place .next) d (at-place .callable d e .1)
-        (rw e at (at-place .ways-out)) (λ k a. stepped (I .reached) (at-place .found) a) (I .height) (I .holds) (I .suspended)
+        (called-placed M C (c .stack) (c .calls) (I .placed .slots) (at-place .out) q q' (at-place .next) d (at-place .callable d e .1)
+        (rw e at (at-place .ways-out)) (λ k a. stepped (I .placed .reached) (at-place .found) a) (I .placed .height) (I .placed .holds) (I .placed .suspended)
         (m .0 .same-height) (m .1))
-    placed-after (Begin par) e m = within-placed m
-    placed-after Return e m =
+    placed-after (entering par) e m = within-placed m
+    placed-after returning e m =
         rw (m .0 .same-stack)
-        (returned-placed M C (c .memory) (c .stack) (framesStart A) (q .fp) (q .height) (c .calls) (I .slots) (at-place .out) q' (I .framed)
-        (I .suspended) (active e) (rw e at (at-place .ways-out)) (I .height) (m .0 .same-height) (m .1))
+        (returned-placed M C (c .memory) (c .stack) (framesStart A) (q .fp) (q .height) (c .calls) (I .placed .slots) (at-place .out) q' (I .framed)
+        (I .placed .suspended) (active e) (rw e at (at-place .ways-out)) (I .placed .height) (m .0 .same-height) (m .1))
 
     pub advances : Inv M A (advance M c)
     advances =
-        let moves : Moves M c (at-place .out) q' s' (shapeOf i) =
-        subst (λ (o : Outcome). Steps M c (at-place .out) (shapeOf i) o) w steps in
-        let P : Placed M (advance M c .calls) q' s' = rw (doing .decoded) (placed-after (shapeOf i) refl moves) in
+        let moves : Moves M c (at-place .out) q' s' (linkageOf (shapeOf i)) =
+        subst (λ (o : Outcome). Steps M c (at-place .out) (linkageOf (shapeOf i)) o) w steps in
+        let P : Placed M (advance M c .calls) q' s' = rw (doing .decoded) (placed-after (linkageOf (shapeOf i)) (shape-is (shapeOf i)) moves) in
         let (framed, counted) = frames-kept M A c i (at-place .next) doing (I .areas) (I .fitted) (I .framed) (I .counted) w in
-        let H =
-        step-holds (M .code) (c .machine) (c .memory) (c .stack) (rw (I .areas) (fitting A q (c .memory) (c .stack) (I .fitted))) in
-        let fit : Fitting A q' (stepOn M c .memory) s' =
-        subst (λ (B : Areas). Fitting B q' (stepOn M c .memory) s') (I .areas) (H .fit) in
+        let H = step-holds (M .code) (c .machine) (c .memory) (c .stack) (rw (I .areas) (I .fitted)) in
         record {
           areas = H .areas ∙ I .areas;
-          fitted = fitted A q' (stepOn M c .memory) s' fit;
+          fitted = subst (λ (B : Areas). fits B q' (stepOn M c .memory) s' ≡ true) (I .areas) (H .fit);
           framed = framed;
           counted = counted;
-          procedure = P .procedure;
-          slots = P .slots;
-          reached = P .reached;
-          height = P .height;
-          holds = P .holds;
-          suspended = P .suspended;
+          placed = P;
         }

@@ -1,7 +1,7 @@
 -- Protected words are as they were after a step: the header, the constants, and the link words of active calls.
-use mathlib.Core.Bool.{Bool, true, false, _&&_, _||_}
+use mathlib.Core.Bool.{true, _&&_, or-true}
 use mathlib.Core.List.{List}
-use mathlib.Core.Path.{_≡_, refl}
+use mathlib.Core.Path.{_≡_}
 use Prim.Native.Nat.{ℕ, _≤_, _<_}
 use lib.Dec.{leb, ltb}
 use borrow.Author.Tests.{lt-ltb}
@@ -17,10 +17,6 @@ use Rattle.machine.proofs.Preserved.{step-holds}
 use Rattle.safety.specs.Active.{Configuration, stepOn}
 use Rattle.safety.proofs.Parts.{registersOf}
 
-pub or-true : (a b : Bool) → b ≡ true → (a || b) ≡ true
-or-true true b e = refl
-or-true false b e = e
-
 header-protected : (A : Areas) (q : Registers) (m : List ℕ) (a : ℕ) → a < 3 → protects A q m a ≡ true
 unfolding protects
 header-protected A q m a l = rw (lt-ltb a 3 l)
@@ -28,14 +24,13 @@ header-protected A q m a l = rw (lt-ltb a 3 l)
 link-protected : (A : Areas) (q : Registers) (m : List ℕ) (a : ℕ) → isLink m (q .fp) (q .calls) a ≡ true → protects A q m a ≡ true
 unfolding protects
 link-protected A q m a h =
-    or-true (ltb a 3) _ (or-true (leb (constantsStart A) a && ltb a (framesStart A)) (isLink m (q .fp) (q .calls) a) h)
+    rw (h, or-true (leb (constantsStart A) a && ltb a (framesStart A))) (or-true (ltb a 3))
 
 module _ (M : Module) (A : Areas) (c : Configuration) (e : c .machine .areas ≡ A)
     (f : fits A (registersOf c) (c .memory) (c .stack) ≡ true) where
   protected-kept : (a : ℕ) → protects A (registersOf c) (c .memory) a ≡ true → read (stepOn M c .memory) a ≡ read (c .memory) a
   protected-kept a p =
-      step-holds (M .code) (c .machine) (c .memory) (c .stack) (rw e (fitting A (registersOf c) (c .memory) (c .stack) f)) .spared a
-      (rw e p)
+      step-holds (M .code) (c .machine) (c .memory) (c .stack) (rw e f) .spared a (rw e p)
 
   pub header-kept : (a : ℕ) → a < 3 → read (stepOn M c .memory) a ≡ read (c .memory) a
   header-kept a l = protected-kept a (header-protected A (registersOf c) (c .memory) a l)

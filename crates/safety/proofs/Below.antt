@@ -9,6 +9,7 @@ use lib.Dec.{eqb, ltb}
 use lib.ListN.{length, getD, drop, set, length-drop, length-set}
 use lib.Seq.{sets, ext-getD, getD-drop, getD-set-same, getD-set-other, set-out}
 use borrow.Author.Tests.{eqb-true, eqb-false, ltb-true, ltb-false}
+use Rattle.words.proofs.Sets.{sets-other}
 use Rattle.opcode.specs.declared.Decoded.the-variants.{At}
 use Rattle.opcode.specs.declared.instruction.Instruction.{Instruction}
 use Rattle.shape.specs.Counts.{needed}
@@ -22,7 +23,6 @@ use Rattle.execute.specs.Depth.{topWords}
 use Rattle.step.specs.declared.Machine.{Machine}
 use Rattle.step.specs.declared.Stepped.{Stepped}
 use Rattle.step.specs.Step.{After, after, pushed, settled, performed, stepOf}
-use Rattle.machine.proofs.Stored.{sets-under}
 use Rattle.safety.specs.Active.{shareOf}
 use Rattle.safety.specs.Demand3.{SameFrom}
 use Rattle.safety.proofs.Effects.{Does, traps, finishes, goes, execute-does}
@@ -83,7 +83,7 @@ module _ (share : ℕ) (M : Machine) (m s s' : List ℕ) (same : SameFrom share 
         step = refl;
         memory = rw (top-same share s s' gone (M .registers .height) same (omega arith));
         above = sets-same share s s' (M .registers .height - gone) (pushed push) same;
-        own = λ i b. sets-under s' (M .registers .height - gone) (pushed push) i (omega arith);
+        own = λ i b. sets-other s' (M .registers .height - gone) (pushed push) i (λ low high. omega arith);
       })
       (as-before _)))
 

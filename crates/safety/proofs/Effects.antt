@@ -1,5 +1,5 @@
 -- Of the words that an instruction finds at most these go; and CALL and RTN alone move FP and count calls.
-use mathlib.Core.Bool.{Bool, true, false, cond, _||_}
+use mathlib.Core.Bool.{Bool, cond}
 use mathlib.Core.List.{List}
 use mathlib.Core.Path.{_≡_, refl}
 use Prim.Native.Nat.{ℕ, _≤_, _+_, _-_}
@@ -9,7 +9,8 @@ use lib.ListN.{length}
 use mir.Syntax.{w32}
 use mir.Val.{toZ}
 use borrow.Author.Tests.{leb-true, eqb-false}
-use Rattle.entries.specs.Entries.{entryCount}
+use Rattle.words.proofs.Tests.{by-test}
+use Rattle.entries.specs.Entries.{noCallee}
 use Rattle.opcode.specs.declared.instruction.Instruction.{Instruction}
 use Rattle.opcode.specs.declared.instruction.Instruction.the-variants.{LoadConstant, Load, LoadAddress, Store, Pop, Swap, Nop, Signed, Unsigned, Negate, Equal, NotEqual, CompareSigned, CompareUnsigned, Set, Not, Alloc, Free, Jump, JumpC, JumpT, JumpF, Iter, Next, Switch, SwitchX, Leave, Call, Enter, Rtn}
 use Rattle.opcode.specs.declared.instruction.Mode.{Mode}
@@ -19,8 +20,7 @@ use Rattle.operate.specs.declared.Value.{Value}
 use Rattle.operate.specs.declared.Value.the-variants.{Word, Trap as Stop}
 use Rattle.shape.specs.Counts.{needed, popped, wordsIn}
 use Rattle.shape.specs.Shape.{shapeOf}
-use Rattle.shape.specs.declared.Shape.{Shape}
-use Rattle.shape.specs.declared.Shape.the-variants.{Straight, Drop, Goto, Branch, Keep, Loop, Again, Select, Exit, Invoke, Begin, Return}
+use Rattle.shape.specs.Linkage.{Linkage, inside, calling, entering, returning, linkageOf}
 use Rattle.effect.specs.declared.effect.Effect.{Effect}
 use Rattle.effect.specs.declared.effect.Effect.the-variants.{Trap, Finish, Go}
 use Rattle.effect.specs.declared.effect.Push.{Push}
@@ -40,11 +40,6 @@ pub data Does (k : ℕ) (P : Write → Registers → Type 0) : Effect → Type 0
   traps : {n : ℕ} → Does k P (Trap n)
   finishes : Does k P Finish
   goes : {gone : ℕ} {push : Push} {write : Write} {q : Registers} → gone ≤ k → P write q → Does k P (Go gone push write q)
-
-does-cond : (k : ℕ) (P : Write → Registers → Type 0) (t : Bool) (e f : Effect) → (t ≡ true → Does k P e) → (t ≡ false → Does k P f)
-    → Does k P (cond t e f)
-does-cond k P true e f h g = h refl
-does-cond k P false e f h g = g refl
 
 -- FP and the number of calls stay.
 pub record Stays (q q' : Registers) : Type 0 where
@@ -68,19 +63,11 @@ pub record Leaves (q : Registers) (m : List ℕ) (write : Write) (q' : Registers
 abbrev pub Still : Registers → Write → Registers → Type 0
 Still q = λ write q'. Stays q q'
 
-abbrev pub Framing : Registers → List ℕ → ℕ → Shape → Write → Registers → Type 0
-Framing q m next (Straight pops pushes) = Still q
-Framing q m next (Drop n) = Still q
-Framing q m next (Goto d) = Still q
-Framing q m next (Branch d) = Still q
-Framing q m next (Keep d) = Still q
-Framing q m next (Loop d) = Still q
-Framing q m next Again = Still q
-Framing q m next (Select t n) = Still q
-Framing q m next Exit = Still q
-Framing q m next (Invoke p) = Begins q m next
-Framing q m next (Begin par) = Still q
-Framing q m next Return = Leaves q m
+abbrev pub Framing : Registers → List ℕ → ℕ → Linkage → Write → Registers → Type 0
+Framing q m next inside = Still q
+Framing q m next (calling p) = Begins q m next
+Framing q m next (entering par) = Still q
+Framing q m next returning = Leaves q m
 
 module _ (q : Registers) (m : List ℕ) (next : ℕ) where
   stays : (k gone : ℕ) (push : Push) (write : Write) (place mp : ℕ) → gone ≤ k → Does k (Still q) (Go gone push write (sized q place mp))
@@ -90,7 +77,7 @@ module _ (q : Registers) (m : List ℕ) (next : ℕ) where
   goes-on k gone push write place l = stays k gone push write place (q .mp) l
 
   tested : (k : ℕ) (t : Bool) (e : Effect) (n : ℕ) → Does k (Still q) e → Does k (Still q) (cond t e (Trap n))
-  tested k t e n h = does-cond k (Still q) t e (Trap n) (λ l. h) (λ l. traps)
+  tested k t e n h = by-test (Does k (Still q)) t e (Trap n) (λ l. h) (λ l. traps)
 
   value-does : (k gone : ℕ) (v : Value) → gone ≤ k → Does k (Still q) (valued q next gone v)
   value-does k gone (Word x) l = goes-on k gone _ _ next l
@@ -98,36 +85,36 @@ module _ (q : Registers) (m : List ℕ) (next : ℕ) where
 
   storable-does : (k : ℕ) (A : Areas) (a : ℕ) (mode : Mode) (e : Effect) → Does k (Still q) e → Does k (Still q) (storable A q m a mode e)
   storable-does k A a mode e h =
-      tested k (live q a (wordsIn mode)) _ 32 (does-cond k (Still q) (protectsAny A q m a mode) (Trap 33) e (λ l. traps) (λ l. h))
+      tested k (live q a (wordsIn mode)) _ 32 (by-test (Does k (Still q)) (protectsAny A q m a mode) (Trap 33) e (λ l. traps) (λ l. h))
 
   keeping-does : (when d b : ℕ) → Does 1 (Still q) (jumpsKeeping q next when d b)
   unfolding jumpsKeeping
   keeping-does when d b =
       tested 1 (ltb b 2) _ 34
-      (does-cond 1 (Still q) (eqb b when) _ _ (λ l. goes-on 1 0 _ _ _ (omega arith)) (λ l. goes-on 1 1 _ _ next (omega arith)))
+      (by-test (Does 1 (Still q)) (eqb b when) _ _ (λ l. goes-on 1 0 _ _ _ (omega arith)) (λ l. goes-on 1 1 _ _ next (omega arith)))
 
   summed-does : (A : Areas) (a l s label : ℕ) (v : Value) → Does 5 (Still q) (summed A q m next a l s label v)
   summed-does A a l s label (Word x) =
-      does-cond 5 (Still q) (protects A q m a) (Trap 33) _ (λ e. traps)
-      (λ e. does-cond 5 (Still q) (beyond (toZ w32 s) (toZ w32 x) (toZ w32 l)) _ _ (λ d. goes-on 5 5 _ _ next (omega arith))
+      by-test (Does 5 (Still q)) (protects A q m a) (Trap 33) _ (λ e. traps)
+      (λ e. by-test (Does 5 (Still q)) (beyond (toZ w32 s) (toZ w32 x) (toZ w32 l)) _ _ (λ d. goes-on 5 5 _ _ next (omega arith))
       (λ d. goes-on 5 0 _ _ label (omega arith)))
   summed-does A a l s label (Stop n) = traps
 
   call-does : (code : List ℕ) (p : ℕ) → Does 0 (Begins q m next) (calls code q m next p)
   unfolding calls
   call-does code p =
-      does-cond 0 (Begins q m next) (eqb p 0 || leb (entryCount code) p) (Trap 23) _ (λ e. traps)
-      (λ e. does-cond 0 (Begins q m next) (leb 64 (q .calls)) (Trap 37) _ (λ d. traps)
-      (λ d. does-cond 0 (Begins q m next) (leb (q .mp + 2) (length m)) _ (Trap 35)
+      by-test (Does 0 (Begins q m next)) (noCallee code p) (Trap 23) _ (λ e. traps)
+      (λ e. by-test (Does 0 (Begins q m next)) (leb 64 (q .calls)) (Trap 37) _ (λ d. traps)
+      (λ d. by-test (Does 0 (Begins q m next)) (leb (q .mp + 2) (length m)) _ (Trap 35)
       (λ r. goes (omega arith) (record { wrote = refl; room = leb-true (q .mp + 2) (length m) r; fp = refl; calls = refl })) (λ r. traps)))
 
   return-does : Does 0 (Leaves q m) (returns q m)
   unfolding returns
   return-does =
-      does-cond 0 (Leaves q m) (eqb (q .calls) 0) Finish _ (λ e. finishes)
+      by-test (Does 0 (Leaves q m)) (eqb (q .calls) 0) Finish _ (λ e. finishes)
       (λ e. goes (omega arith) (record { active = eqb-false (q .calls) 0 e; wrote = refl; fp = refl; calls = refl }))
 
-  pub execute-does : (P : Program) (ws : List ℕ) (i : Instruction) → Does (needed i) (Framing q m next (shapeOf i)) (execute P q m next ws i)
+  pub execute-does : (P : Program) (ws : List ℕ) (i : Instruction) → Does (needed i) (Framing q m next (linkageOf (shapeOf i))) (execute P q m next ws i)
   unfolding execute shapeOf loadFrom addressOf storeTo inverted allocated freed jumps jumpsIfFalse iterates repeats switches searches enters
   execute-does P ws (LoadConstant n) = goes-on 0 0 _ _ next (omega arith)
   execute-does P ws (Load base mode n) =
@@ -158,7 +145,7 @@ module _ (q : Registers) (m : List ℕ) (next : ℕ) where
   execute-does P ws (JumpT d) = keeping-does 1 d (read ws 0)
   execute-does P ws (JumpF d) = keeping-does 0 d (read ws 0)
   execute-does P ws (Iter d) =
-      does-cond 4 (Still q) (beyond (toZ w32 (read ws 3)) (toZ w32 (read ws 1)) (toZ w32 (read ws 2))) _ _
+      by-test (Does 4 (Still q)) (beyond (toZ w32 (read ws 3)) (toZ w32 (read ws 1)) (toZ w32 (read ws 2))) _ _
       (λ e. goes-on 4 4 _ _ _ (omega arith))
       (λ e. storable-does 4 (P .areas) (read ws 0) Normal _ (goes-on 4 0 _ _ next (omega arith)))
   execute-does P ws Next =

@@ -1,70 +1,27 @@
 -- How a run of accepted code ends: in a configuration that it visits, finished, spent or in a data trap. A step that does not go on leaves
 -- everything as it was, and where it traps it is on data.
-use mathlib.Core.List.{List}
 use mathlib.Core.Path.{_≡_, refl, subst}
-use Prim.Native.Nat.{ℕ, zero, suc, _+_, _-_}
+use Prim.Native.Nat.{ℕ, zero, suc, _+_}
 use native.Mathlib.Omega.{arith}
-use lib.Dec.{ltb}
-use lib.ListN.{length}
-use Rattle.words.proofs.Tests.{either}
-use Rattle.opcode.specs.Decode.{decodeAt}
-use Rattle.opcode.specs.declared.Decoded.{Decoded}
-use Rattle.opcode.specs.declared.Decoded.the-variants.{Unserved, Past, At}
-use Rattle.shape.specs.Counts.{needed}
 use Rattle.shape.specs.Shape.{shapeOf}
-use Rattle.effect.specs.declared.effect.Effect.{Effect}
-use Rattle.effect.specs.declared.effect.Effect.the-variants.{Trap, Finish, Go}
+use Rattle.shape.specs.Linkage.{linkageOf}
 use Rattle.registers.specs.declared.Areas.{Areas}
 use Rattle.registers.specs.Program.{areasOf}
-use Rattle.effect.specs.Data.{pushes}
 use Rattle.stackmap.specs.Ways.{Module}
 use Rattle.verifier.specs.Exact.{subject}
 use Rattle.verifier.proofs.Exactly.{accepts-only}
 use Rattle.machine.specs.declared.run.End.the-variants.{Finished as finish, Spent, Trapped as stop}
-use Rattle.step.specs.declared.Machine.{Machine}
 use Rattle.step.specs.declared.Outcome.{Outcome}
 use Rattle.step.specs.declared.Outcome.the-variants.{Went, Finished, Trapped}
 use Rattle.load.specs.Load.{loadOf}
 use Rattle.machine.specs.Run.{proceed, runFrom, runNumber, runOf}
-use Rattle.step.specs.Step.{After, after, settled, performed, stepOf}
+use Rattle.step.proofs.Stopping.{step-stops}
 use Rattle.safety.specs.Active.{Configuration, stepOn, advance, Visits, at-first, one-more}
 use Rattle.safety.specs.Demand3.{Proper, finished, spent, data-trap, loadedConfiguration, Ends, Claim}
 use Rattle.safety.proofs.Parts.{Inv, DataTrap, data-trapped, Steps}
 use Rattle.safety.proofs.Places.{Checked, checked}
 use Rattle.safety.proofs.Advancing.{at-place, steps}
 use Rattle.safety.proofs.Throughout.{keeps, at-load, run-safe}
-
--- What a step that does not go on leaves.
-record Undone (M : Machine) (m s : List ℕ) (a : After) : Type 0 where
-  machine : a .stepped .machine ≡ M
-  memory : a .memory ≡ m
-  stack : a .stack ≡ s
-
-module _ (M : Machine) (m s : List ℕ) where
-  -- A step that stops.
-  abbrev Stops : After → Type 0
-  Stops a = (a .stepped .outcome ≡ Went → ⊥) → Undone M m s a
-
-  nothing-done : (o : Outcome) → Stops (after (record { outcome = o; machine = M }) m s)
-  nothing-done o h = record { machine = refl; memory = refl; stack = refl }
-
-  settled-stops : (size : ℕ) (e : Effect) → Stops (settled size M m s e)
-  unfolding settled
-  settled-stops size (Trap n) = nothing-done _
-  settled-stops size Finish = nothing-done _
-  settled-stops size (Go gone push write next) =
-      either Stops (ltb (length s) (M .registers .height - gone + pushes push)) _ _ (nothing-done _)
-      (either Stops (ltb (next .pc) size) _ _ (λ h. absurd (h refl)) (nothing-done _))
-
-  step-stops : (code : List ℕ) → Stops (stepOf code M m s)
-  unfolding stepOf performed
-  step-stops code = by (decodeAt code (length code) (M .registers .pc))
-    where
-      by : (d : Decoded) → Stops (performed code M m s d)
-      by Unserved = nothing-done _
-      by Past = nothing-done _
-      by (At i next) =
-          either Stops (ltb (M .registers .height) (needed i)) _ _ (nothing-done _) (settled-stops (length code) _)
 
 trap-proper : {n : ℕ} → DataTrap n → Proper (stop n)
 trap-proper (data-trapped l h) = data-trap l h
@@ -81,7 +38,7 @@ module _ (M : Module) (C : Checked M) (A : Areas) (first : Configuration) (I : I
   ended-at {n = n} {c = c} v left J (Trapped k) e later =
       let U = step-stops (c .machine) (c .memory) (c .stack) (M .code) (λ w. let z : _≡_ {A = ℕ} 0 1 = cc in omega arith) in
       let d : DataTrap k =
-      subst (λ (x : Outcome). Steps M c (at-place M C A c J .out) (shapeOf (at-place M C A c J .instruction)) x) e (steps M C A c J) in
+      subst (λ (x : Outcome). Steps M c (at-place M C A c J .out) (linkageOf (shapeOf (at-place M C A c J .instruction))) x) e (steps M C A c J) in
       record { steps = n; last = c; visited = v; ending = stop k; proper = trap-proper d; ends = rw (U .machine, U .memory, U .stack) }
 
   ended : (left : ℕ) {n : ℕ} {c : Configuration} → Visits M first n c

@@ -1,6 +1,6 @@
 -- A completed step keeps the frames in step with the active calls: CALL writes a new frame's link words above the others, RTN goes back to
 -- the one below, and every step keeps the link words there are, which are protected.
-use mathlib.Core.Bool.{Bool, true, false, cond, _||_}
+use mathlib.Core.Bool.{true, _||_, or-true}
 use mathlib.Core.List.{List, [], _∷_}
 use mathlib.Core.Path.{_≡_, _∙_, refl, sym}
 use Prim.Native.Nat.{ℕ, suc, _+_, _-_}
@@ -8,12 +8,12 @@ use native.Mathlib.Omega.{arith}
 use lib.Dec.{eqb, ltb}
 use lib.ListN.{length, set, length-set}
 use lib.Seq.{sets, getD-set-same, getD-set-other}
+use Rattle.words.proofs.Tests.{either}
 use Rattle.opcode.specs.declared.Decoded.the-variants.{At}
 use Rattle.opcode.specs.declared.instruction.Instruction.{Instruction}
 use Rattle.shape.specs.Counts.{needed}
 use Rattle.shape.specs.Shape.{shapeOf}
-use Rattle.shape.specs.declared.Shape.{Shape}
-use Rattle.shape.specs.declared.Shape.the-variants.{Straight, Drop, Goto, Branch, Keep, Loop, Again, Select, Exit, Invoke, Begin, Return}
+use Rattle.shape.specs.Linkage.{Linkage, inside, calling, entering, returning, linkageOf}
 use Rattle.effect.specs.declared.effect.Effect.{Effect}
 use Rattle.effect.specs.declared.effect.Effect.the-variants.{Trap, Finish, Go}
 use Rattle.effect.specs.declared.effect.Write.{Write}
@@ -27,10 +27,10 @@ use Rattle.stackmap.specs.Ways.{Module}
 use Rattle.step.specs.declared.Machine.{Machine}
 use Rattle.step.specs.declared.Outcome.the-variants.{Went, Trapped}
 use Rattle.step.specs.Step.{After, written, settled, performed, stepOf}
-use Rattle.safety.specs.Active.{Call, callers, callsAfter, stepOn}
-use Rattle.safety.proofs.AsLoaded.{or-true, links-kept}
+use Rattle.safety.specs.Active.{Call, Configuration, begun, callers, callsBy, stepOn}
+use Rattle.safety.proofs.AsLoaded.{links-kept}
 use Rattle.safety.proofs.Effects.{Does, traps, finishes, goes, Stays, Begins, Leaves, Framing, execute-does}
-use Rattle.safety.proofs.Parts.{Framed, no-frame, a-frame, registersOf, FramesKept}
+use Rattle.safety.proofs.Parts.{Framed, no-frame, a-frame, registersOf, Doing, FramesKept}
 
 -- What a completed step did: a write and registers of which P holds.
 pub record Did (P : Write → Registers → Type 0) (m : List ℕ) (a : After) : Type 0 where
@@ -42,23 +42,22 @@ pub record Did (P : Write → Registers → Type 0) (m : List ℕ) (a : After) :
   pub fp : a .stepped .machine .registers .fp ≡ registers .fp
   pub calls : a .stepped .machine .registers .calls ≡ registers .calls
 
-did-cond : (P : Write → Registers → Type 0) (m : List ℕ) (t : Bool) (a b : After) → (a .stepped .outcome ≡ Went → Did P m a)
-    → (b .stepped .outcome ≡ Went → Did P m b) → cond t a b .stepped .outcome ≡ Went → Did P m (cond t a b)
-did-cond P m true a b h k = h
-did-cond P m false a b h k = k
+-- A step that goes on did so.
+abbrev DidIf : (Write → Registers → Type 0) → List ℕ → After → Type 0
+DidIf P m a = a .stepped .outcome ≡ Went → Did P m a
 
 trapped-not : {A : Type 0} (n : ℕ) → Trapped n ≡ Went → A
 trapped-not n w = let z : _≡_ {A = ℕ} 0 1 = cc in absurd (omega arith)
 
 module _ (M : Machine) (m s : List ℕ) where
-  settled-did : (size k : ℕ) (P : Write → Registers → Type 0) (e : Effect) → Does k P e → settled size M m s e .stepped .outcome ≡ Went
-      → Did P m (settled size M m s e)
+  settled-did : (size k : ℕ) (P : Write → Registers → Type 0) (e : Effect) → Does k P e
+      → DidIf P m (settled size M m s e)
   unfolding settled
   settled-did size k P (Trap n) traps = trapped-not n
   settled-did size k P Finish finishes = λ w. let z : _≡_ {A = ℕ} 0 1 = cc in absurd (omega arith)
   settled-did size k P (Go gone push write next) (goes l p) =
-      did-cond P m (ltb (length s) (M .registers .height - gone + pushes push)) _ _ (trapped-not 36)
-      (did-cond P m (ltb (next .pc) size) _ _
+      either (DidIf P m) (ltb (length s) (M .registers .height - gone + pushes push)) _ _ (trapped-not 36)
+      (either (DidIf P m) (ltb (next .pc) size) _ _
       (λ w. record {
         write = write;
         registers = next;
@@ -70,13 +69,18 @@ module _ (M : Machine) (m s : List ℕ) where
       })
       (trapped-not 21))
 
-  pub performed-did : (code : List ℕ) (i : Instruction) (next : ℕ) → performed code M m s (At i next) .stepped .outcome ≡ Went
-      → Did (Framing (M .registers) m next (shapeOf i)) m (performed code M m s (At i next))
+  performed-did : (code : List ℕ) (i : Instruction) (next : ℕ)
+      → DidIf (Framing (M .registers) m next (linkageOf (shapeOf i))) m (performed code M m s (At i next))
   unfolding performed
   performed-did code i next =
-      did-cond _ m (ltb (M .registers .height) (needed i)) _ _ (trapped-not 22)
+      either (DidIf _ m) (ltb (M .registers .height) (needed i)) _ _ (trapped-not 22)
       (settled-did (length code) (needed i) _ _
       (execute-does (M .registers) m next (program code (M .areas)) (topWords (needed i) (M .registers .height) s) i))
+
+pub step-did : (M : Module) (c : Configuration) (i : Instruction) (next : ℕ) → Doing M c i next → stepOn M c .stepped .outcome ≡ Went
+    → Did (Framing (registersOf c) (c .memory) next (linkageOf (shapeOf i))) (c .memory) (stepOn M c)
+unfolding stepOf
+step-did M c i next D = rw (D .decoded) (performed-did (c .machine) (c .memory) (c .stack) (M .code) i next)
 
 saved-fp : (m : List ℕ) (fp link saved : ℕ) → fp ≡ link + 2 → read m link ≡ saved → savedFp m fp ≡ saved
 saved-fp m fp link saved e r =
@@ -91,8 +95,7 @@ framed-kept m n start fp (c ∷ calls) (a-frame e r t rest) k =
     a-frame e (k (c .link) (link-near m fp (length calls) (c .link) (omega arith) (omega arith)) ∙ r)
     (k (c .link + 1) (link-near m fp (length calls) (c .link + 1) (omega arith) (omega arith)) ∙ t)
     (framed-kept m n start (c .savedFp) calls rest
-    (λ b h. k b (or-true (eqb (b + 2) fp || eqb (b + 1) fp) (isLink m (savedFp m fp) (length calls) b)
-    (rw (saved-fp m fp (c .link) (c .savedFp) e r) h))))
+    (λ b h. k b (rw (saved-fp m fp (c .link) (c .savedFp) e r, h) (or-true (eqb (b + 2) fp || eqb (b + 1) fp)))))
 
 frame-below : (m : List ℕ) (start fp n : ℕ) (calls : List Call) → Framed m start fp calls → (n ≡ 0 → ⊥) → length calls ≡ n
     → Framed m start (savedFp m fp) (callers calls) × (length (callers calls) ≡ n - 1)
@@ -113,7 +116,7 @@ module _ (M : Module) (start next : ℕ) (m n gone : List ℕ) (q : Registers) (
   stays-framed q' y = (rw (y .fp) same-frames, count ∙ sym (y .calls))
 
   begins-framed : (p : ℕ) (write : Write) (q' : Registers) → Begins q m next write q' → n ≡ written m gone write
-      → InStep n start q' (callsAfter M q next (Invoke p) calls)
+      → InStep n start q' (begun M q p next calls)
   begins-framed p write q' y e =
       let made : n ≡ sets m (q .mp) (q .fp ∷ next ∷ []) = e ∙ rw (y .wrote) in
       let second : q .mp + 1 ≡ suc (q .mp) = omega arith in
@@ -126,39 +129,24 @@ module _ (M : Module) (start next : ℕ) (m n gone : List ℕ) (q : Registers) (
       (a-frame (y .fp) first back same-frames, omega (arith, count, y .calls))
 
   leaves-framed : (write : Write) (q' : Registers) → Leaves q m write q' → n ≡ written m gone write
-      → InStep n start q' (callsAfter M q next Return calls)
+      → InStep n start q' (callers calls)
   leaves-framed write q' y e =
       let made : n ≡ m = e ∙ rw (y .wrote) in
       let f = frame-below m start (q .fp) (q .calls) calls F (y .active) count in
       (rw (y .fp, made) (f .0), f .1 ∙ sym (y .calls))
 
-  -- By the shape of the instruction, as the active calls are.
-  framed-after : (shape : Shape) (write : Write) (q' : Registers) → Framing q m next shape write q' → n ≡ written m gone write
-      → InStep n start q' (callsAfter M q next shape calls)
-  framed-after (Straight pops pushes) write q' y e = stays-framed q' y
-  framed-after (Drop k) write q' y e = stays-framed q' y
-  framed-after (Goto d) write q' y e = stays-framed q' y
-  framed-after (Branch d) write q' y e = stays-framed q' y
-  framed-after (Keep d) write q' y e = stays-framed q' y
-  framed-after (Loop d) write q' y e = stays-framed q' y
-  framed-after Again write q' y e = stays-framed q' y
-  framed-after (Select t k) write q' y e = stays-framed q' y
-  framed-after Exit write q' y e = stays-framed q' y
-  framed-after (Invoke p) write q' y e = begins-framed p write q' y e
-  framed-after (Begin par) write q' y e = stays-framed q' y
-  framed-after Return write q' y e = leaves-framed write q' y e
+  -- By what the instruction does with procedures, as the active calls are.
+  framed-after : (k : Linkage) (write : Write) (q' : Registers) → Framing q m next k write q' → n ≡ written m gone write
+      → InStep n start q' (callsBy M q next k calls)
+  framed-after inside write q' y e = stays-framed q' y
+  framed-after (calling p) write q' y e = begins-framed p write q' y e
+  framed-after (entering par) write q' y e = stays-framed q' y
+  framed-after returning write q' y e = leaves-framed write q' y e
 
 pub frames-kept : FramesKept
-unfolding stepOf
 frames-kept M A c i next D e f F count w =
-    let q : Registers = registersOf c in
-    let a : After = performed (M .code) (c .machine) (c .memory) (c .stack) (At i next) in
-    let is : stepOn M c ≡ a = rw (D .decoded) in
-    let did : Did (Framing q (c .memory) next (shapeOf i)) (c .memory) a =
-    performed-did (c .machine) (c .memory) (c .stack) (M .code) i next (rw (← is) w) in
-    let kept : (b : ℕ) → isLink (c .memory) (q .fp) (q .calls) b ≡ true → read (a .memory) b ≡ read (c .memory) b =
-    λ b h. rw (← is) (links-kept M A c e f b h) in
+    let did = step-did M c i next D w in
     let t =
-    framed-after M (framesStart A) next (c .memory) (a .memory) (did .gone) q (c .calls) F count kept (shapeOf i) (did .write)
-    (did .registers) (did .done) (did .memory) in
+    framed-after M (framesStart A) next (c .memory) (stepOn M c .memory) (did .gone) (registersOf c) (c .calls) F count
+    (links-kept M A c e f) (linkageOf (shapeOf i)) (did .write) (did .registers) (did .done) (did .memory) in
     rw (D .decoded, did .fp, did .calls) t

@@ -17,18 +17,17 @@ use Rattle.load.specs.declared.Loaded.the-variants.{Refused as NotLoaded, Ready
 use Rattle.machine.specs.declared.run.Answer.{Answer}
 use Rattle.machine.specs.declared.run.Answer.the-variants.{Refused, Ended}
 use Rattle.machine.specs.declared.run.Ended.{Ended as Ending}
+use Rattle.load.proofs.Loading.{refused-memory}
 use Rattle.load.specs.Load.{Loading, loading, startOf, loadTests, loadNumber, loadOf}
 use Rattle.machine.specs.Run.{Result, ran, runOf}
 use Rattle.safety.specs.Joined.{Joined, joinedOf, ProperAnswer, not-run, well-ended, RefusedJoined}
+use Rattle.safety.proofs.Loaded.{refused-not}
 use Rattle.safety.proofs.Ending.{claim}
 
 -- The load's numbers are 1 to 8.
 load-number-range : (r parameters m s : List ℕ) → loadNumber r parameters m s ≤ 8
 unfolding loadNumber
 load-number-range r parameters m s = after-range r 8 (loadTests r parameters m s) (omega arith) refl
-
-ready-not : {q : Registers} {n : ℕ} → Ready q ≡ NotLoaded n → ⊥
-ready-not e = let z : _≡_ {A = ℕ} 0 1 = cc in omega arith
 
 pub not-loaded : (r parameters m s : List ℕ) {l : Loaded} {m' : List ℕ} → loading l m' ≡ loadOf r parameters m s → {n : ℕ} → l ≡ NotLoaded n
     → ProperAnswer (Refused n)
@@ -39,7 +38,7 @@ not-loaded r parameters m s {l} e {n} f = by (loadNumber r parameters m s) refl
     by zero g =
         let h : loadOf r parameters m s .answer ≡ Ready (startOf (programOf r)) = rw g in
         let z : l ≡ Ready (startOf (programOf r)) = ap (λ (x : Loading). x .answer) e ∙ h in
-        absurd (ready-not (sym z ∙ f))
+        refused-not n _ (sym f ∙ z)
     by (suc k) g =
         let h : loadOf r parameters m s .answer ≡ NotLoaded (suc k) = rw (g, eqb·suc-zero k) in
         let z : l ≡ NotLoaded (suc k) = ap (λ (x : Loading). x .answer) e ∙ h in
@@ -50,14 +49,6 @@ pub not-accepted : (r results w : List ℕ) {n : ℕ} {w' : List ℕ} → checki
 not-accepted r results w {n} e f =
     let z : n ≡ checkOf r results w .number = ap (λ (k : Checking). k .number) e in
     not-run {n = n} (omega arith) (omega (arith, check-range r results w))
-
-not-loaded-memory : (r parameters m s : List ℕ) (n : ℕ) → loadOf r parameters m s .answer ≡ NotLoaded n → loadOf r parameters m s .memory ≡ m
-unfolding loadOf
-not-loaded-memory r parameters m s n e = by (loadNumber r parameters m s) refl
-  where
-    by : (k : ℕ) → loadNumber r parameters m s ≡ k → loadOf r parameters m s .memory ≡ m
-    by zero g = let h : Ready (startOf (programOf r)) ≡ NotLoaded n = rw g at e in absurd (ready-not h)
-    by (suc k) g = rw (g, eqb·suc-zero k)
 
 module _ (r results w parameters : List ℕ) (budget : ℕ) (m s : List ℕ) (b : Bytes r) where
   ran-well : (q : Registers) → checkOf r results w .number ≡ 0 → loadOf r parameters m s .answer ≡ Ready q
@@ -92,7 +83,7 @@ refused-joined r results w parameters budget m s n b e = checks (checkOf r resul
     l = loadOf r parameters m s
 
     loads : checkOf r results w .number ≡ 0 → (x : Loaded) → l .answer ≡ x → (j .memory ≡ m) × (j .stack ≡ s)
-    loads c (NotLoaded k) g = rw (c, g) (not-loaded-memory r parameters m s k g, refl)
+    loads c (NotLoaded k) g = rw (c, g) (refused-memory r parameters m s k g, refl)
     loads c (Ready q) g =
         let E = claim r results w parameters m s q b c g .1 .runs budget in
         let h : runOf r budget q (l .memory) s .answer ≡ Refused n = rw (c, g) at e in

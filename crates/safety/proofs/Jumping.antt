@@ -5,7 +5,7 @@ use mathlib.Core.Option.{some}
 use mathlib.Core.Path.{_≡_, refl}
 use Prim.Native.Nat.{ℕ}
 use lib.Dec.{eqb, leb}
-use Rattle.words.proofs.Tests.{by-test}
+use Rattle.words.proofs.Tests.{either, by-test}
 use Rattle.operand.specs.Distance.{placeAt}
 use Rattle.effect.specs.declared.effect.Effect.the-variants.{Go}
 use Rattle.effect.specs.declared.effect.Push.the-variants.{NoPush}
@@ -21,18 +21,10 @@ use Rattle.safety.proofs.Settling.{Good, good-boolean}
 use Rattle.safety.proofs.Moving.{Start, Taken, taken, among-taken, Stays, words-go, popped-go}
 
 pub among-on : (t u : ℕ) (k j : List Slot) → Among t k (both (t gets k) (u gets j))
-among-on t u k j = by (leb t u)
-  where
-    by : (b : Bool) → Among t k (cond b (t gets k ∷ u gets j ∷ []) (u gets j ∷ t gets k ∷ []))
-    by true = here
-    by false = there here
+among-on t u k j = either (Among t k) (leb t u) _ _ here (there here)
 
 pub among-away : (t u : ℕ) (k j : List Slot) → Among u j (both (t gets k) (u gets j))
-among-away t u k j = by (leb t u)
-  where
-    by : (b : Bool) → Among u j (cond b (t gets k ∷ u gets j ∷ []) (u gets j ∷ t gets k ∷ []))
-    by true = there here
-    by false = here
+among-away t u k j = either (Among u j) (leb t u) _ _ (there here) here
 
 among-either : (b : Bool) (t u : ℕ) (k : List Slot) → Among (cond b u t) k (both (t gets k) (u gets k))
 among-either true t u k = among-away t u k k

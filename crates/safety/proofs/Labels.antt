@@ -4,10 +4,9 @@ use mathlib.Core.Bool.{Bool, true, false, cond}
 use mathlib.Core.List.{List, [], _∷_}
 use mathlib.Core.Option.{none, some}
 use mathlib.Core.Path.{_≡_, refl, _∙_}
-use Prim.Native.Nat.{ℕ, suc, _+_, _-_, _≤_, _<_}
+use Prim.Native.Nat.{ℕ, suc, _+_, _-_, _≤_}
 use native.Mathlib.Omega.{arith}
-use lib.ListN.{length, getD, drop}
-use lib.Seq.{getD-take, getD-drop}
+use lib.ListN.{length}
 use mir.Syntax.{w32}
 use mir.Val.{toZ}
 use borrow.Author.Tests.{eq-eqb}
@@ -33,6 +32,7 @@ use Rattle.registers.specs.Memory.{read, live, protects}
 use Rattle.registers.specs.Changes.{moved}
 use Rattle.control.specs.Control.{beyond, iterates, nextSum, summed, repeats, branched}
 use Rattle.execute.specs.Depth.{topWords}
+use Rattle.execute.proofs.Top.{found}
 use Rattle.successors.specs.Successors.{exitLabel, selectTargets}
 use Rattle.stackmap.specs.Slots.{Slot, word, label, popWords, dropSlots}
 use Rattle.stackmap.specs.Ways.{Module, Way, _gets_, isLoop, isSelect, labelWord, after, both, toAll, again, exit}
@@ -40,7 +40,7 @@ use Rattle.stackmap.specs.StackMap.{here}
 use Rattle.safety.specs.Active.{shareOf, Configuration}
 use Rattle.safety.proofs.Parts.{registersOf, Doing}
 use Rattle.safety.proofs.Traps.{data-number, Valued, a-trap, signed-valued}
-use Rattle.safety.proofs.Sharing.{nothing, under, popped-drops, holds-top}
+use Rattle.safety.proofs.Sharing.{nothing, dropped-size, popped-drops, holds-top}
 use Rattle.safety.proofs.Settling.{good-trap, Good, good-storable}
 use Rattle.safety.proofs.Moving.{Start, Taken, taken, among-taken, Stays, words-go, popped-go, label-goes}
 use Rattle.safety.proofs.Jumping.{among-on, among-away}
@@ -58,10 +58,6 @@ module _ (M : Module) (c : Configuration) (i : Instruction) (next : ℕ) (D : Do
   select-word s =
       let o = select-origin (M .code) (length (M .code)) (registersOf c .pc) next i (D .decoded) s in
       rw (o .0)
-
--- The word at a place among the top ones.
-top-word : (n j height : ℕ) (s : List ℕ) → j < n → read (topWords n height s) j ≡ getD s (height - n + j) 0
-top-word n j height s h = getD-take n (drop (height - n) s) j 0 h ∙ getD-drop (height - n) s j 0
 
 module _ {code : List ℕ} {c : Configuration} {l : List Slot} {out : List Way} {Done : Type 0} (S : Start code c l out) where
   -- ITER.
@@ -112,8 +108,8 @@ label-word : {code : List ℕ} {c : Configuration} {out : List Way} {origin : �
     → Start code c (label origin ∷ l) out → n ≤ length l
     → read (topWords (suc n) (registersOf c .height) (c .stack)) n ≡ labelWord code origin
 label-word {c = c} {l = l} n S h =
-    let place : registersOf c .height - suc n + n ≡ shareOf (c .calls) + length l = omega (arith, S .height) in
-    top-word (suc n) n (registersOf c .height) (c .stack) (omega arith) ∙ rw place (holds-top (S .holds))
+    let place : registersOf c .height - (suc n - n) ≡ shareOf (c .calls) + length l = omega (arith, S .height) in
+    found (c .stack) (registersOf c .height) (suc n) n (omega (arith, S .height)) (omega arith) ∙ rw place (holds-top (S .holds))
 
 module _ {code : List ℕ} {c : Configuration} {out : List Way} {Done : Type 0} where
   -- NEXT.
@@ -130,7 +126,7 @@ module _ {code : List ℕ} {c : Configuration} {out : List Way} {Done : Type 0} 
           let back : ℕ = labelWord code origin in
           let T : Taken (popWords 4 l) (λ rest. both (next gets rest) (back gets (label origin ∷ l))) out = taken (popWords 4 l) _ out e in
           let five : dropSlots 5 (label origin ∷ l) ≡ some (T .rest) = popped-drops 4 l (T .rest) (T .found) in
-          let size = under code (c .stack) (shareOf (c .calls)) 5 (label origin ∷ l) (T .rest) five (S .holds) .size in
+          let size = dropped-size 5 (label origin ∷ l) (T .rest) five in
           rw (label-word 4 S (omega arith))
           (repeats-goes next back
           (λ write. words-go S 5 NoPush write (moved (registersOf c) next) (T .rest) five

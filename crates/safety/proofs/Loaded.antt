@@ -2,13 +2,15 @@
 -- stack picture begins.
 use mathlib.Core.Bool.{Bool, true, false, cond, not, _&&_}
 use mathlib.Core.List.{List, [], _∷_}
-use mathlib.Core.Path.{_≡_, _∙_, refl, sym}
+use mathlib.Core.Path.{_≡_, _∙_, refl}
 use Prim.Native.Nat.{ℕ, _≤_, _<_}
 use native.Mathlib.Omega.{arith}
 use lib.Dec.{eqb, leb}
 use lib.ListN.{length}
-use borrow.Author.Tests.{eqb-true, leb-true, eq-eqb}
-use Rattle.words.specs.Refusal.{refusal, _when_}
+use borrow.Author.Tests.{eqb-true, leb-true, not-false, eq-eqb}
+use Rattle.words.specs.Refusal.{_when_}
+use Rattle.words.proofs.Refusal.{cleared}
+use Rattle.words.proofs.Tests.{both-true}
 use Rattle.header.specs.Header.{headerOf, codeOf}
 use Rattle.entries.specs.Entries.{entryCount}
 use Rattle.record.specs.Number.{recordNumber}
@@ -17,8 +19,8 @@ use Rattle.registers.specs.Program.{areasOf, programOf, framesStart}
 use Rattle.load.specs.declared.Loaded.the-variants.{Refused, Ready}
 use Rattle.state.specs.Fits.{sizesTaken}
 use Rattle.load.specs.Load.{loading, loadedMemory, startOf, loadNumber, loadOf}
-use Rattle.state.proofs.Fitting.{Fitting, fitted}
-use Rattle.load.proofs.Loading.{taken-sizes, loaded-word, loaded-length, word-low, word-third}
+use Rattle.state.proofs.Fitting.{Fitting, sizes-taken, fitted}
+use Rattle.load.proofs.Loading.{loaded-word, loaded-length, word-low, word-third}
 use Rattle.stackmap.specs.Ways.{Module}
 use Rattle.stackmap.specs.StackMap.{entered}
 use Rattle.safety.specs.Demand3.{loadedConfiguration, holds-none}
@@ -31,21 +33,16 @@ pub record Taken (r parameters m s : List ℕ) (q : Registers) : Type 0 where
   pub start : q ≡ startOf (programOf r)
   pub memory : loadOf r parameters m s .memory ≡ loadedMemory r parameters (length m)
 
-refused-not : {A : Type 0} (n : ℕ) (q : Registers) → Refused n ≡ Ready q → A
+pub refused-not : {A : Type 0} (n : ℕ) (q : Registers) → Refused n ≡ Ready q → A
 refused-not n q e = let z : _≡_ {A = ℕ} 0 1 = cc in absurd (omega arith)
-
--- Number 8 is not given.
-not-eighth : (a b : Bool) → refusal (8 when not (a && b) ∷ []) ≡ 0 → (a ≡ true) × (b ≡ true)
-not-eighth true true e = (refl, refl)
-not-eighth true false e = let z : _≡_ {A = ℕ} 8 0 = e in absurd (omega arith)
-not-eighth false b e = let z : _≡_ {A = ℕ} 8 0 = e in absurd (omega arith)
 
 module _ (r parameters m s : List ℕ) (q : Registers) (sound : recordNumber r ≡ 0) where
   no-number : loadNumber r parameters m s ≡ 0 → (leb (length parameters) (areasOf r .globals) ≡ true) × (sizesTaken (areasOf r) m s ≡ true)
   unfolding loadNumber
   no-number e =
-      not-eighth (leb (length parameters) (areasOf r .globals)) (sizesTaken (areasOf r) m s)
-      (rw (eq-eqb (recordNumber r) 0 sound) at e)
+      let few : Bool = leb (length parameters) (areasOf r .globals) in
+      let sizes : Bool = sizesTaken (areasOf r) m s in
+      both-true few sizes (not-false (few && sizes) (cleared (8 when not (few && sizes) ∷ []) refl (rw (eq-eqb (recordNumber r) 0 sound) at e) .0))
 
   pub load-taken : loadOf r parameters m s .answer ≡ Ready q → Taken r parameters m s q
   unfolding loadOf
@@ -67,7 +64,7 @@ module _ (r parameters m s : List ℕ) (q : Registers) (sound : recordNumber r �
     loaded-fits =
         let T = load-taken ready in
         let A = areasOf r in
-        let (areas, room, deep) = taken-sizes A m s true (sym (T .sizes)) refl in
+        let (areas, room, deep) = sizes-taken A m s (T .sizes) in
         let size : length (loadedMemory r parameters (length m)) ≡ length m = loaded-length r parameters (length m) (T .few) areas in
         rw (T .start, T .memory) (record {
           areas = rw size areas;
@@ -95,10 +92,12 @@ module _ (r parameters m s : List ℕ) (q : Registers) (sound : recordNumber r �
           fitted = F;
           framed = no-frame {fp = q .fp} (rw (T .start));
           counted = rw (T .start);
-          procedure = some;
-          slots = [];
-          reached = rw (T .start, ← same) entered;
-          height = rw (T .start);
-          holds = holds-none;
-          suspended = no-caller;
+          placed = record {
+            procedure = some;
+            slots = [];
+            reached = rw (T .start, ← same) entered;
+            height = rw (T .start);
+            holds = holds-none;
+            suspended = no-caller;
+          };
         }

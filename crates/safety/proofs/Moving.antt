@@ -2,7 +2,7 @@
 use mathlib.Core.List.{List, [], _∷_}
 use mathlib.Core.Option.{Option, none, some}
 use mathlib.Core.Path.{_≡_, refl, subst}
-use Prim.Native.Nat.{ℕ, _+_, _-_, _<_}
+use Prim.Native.Nat.{ℕ, _+_, _-_}
 use native.Mathlib.Omega.{arith}
 use lib.ListN.{length}
 use Rattle.effect.specs.declared.effect.Effect.{Effect}
@@ -18,9 +18,9 @@ use Rattle.stackmap.specs.StackMap.{Among, here}
 use Rattle.step.specs.Step.{pushed}
 use Rattle.safety.specs.Active.{shareOf, Configuration}
 use Rattle.safety.specs.Demand3.{Holds}
-use Rattle.safety.proofs.Parts.{registersOf, Within}
+use Rattle.safety.proofs.Parts.{registersOf, Within, InCode}
 use Rattle.stackmap.proofs.Pushing.{pushed-height}
-use Rattle.safety.proofs.Sharing.{nothing, under, popped-drops, holds-words, holds-below, holds-made}
+use Rattle.safety.proofs.Sharing.{nothing, holds-under, dropped-size, popped-drops, holds-words, holds-below, holds-made}
 use Rattle.safety.proofs.Settling.{Good, good-trap, good-go}
 use Rattle.safety.proofs.Plain.{Plain, plain-trap, plain-go}
 
@@ -28,7 +28,7 @@ use Rattle.safety.proofs.Plain.{Plain, plain-trap, plain-go}
 pub record Start (code : List ℕ) (c : Configuration) (l : List Slot) (out : List Way) : Type 0 where
   pub height : registersOf c .height ≡ shareOf (c .calls) + length l
   pub holds : Holds code (c .stack) (shareOf (c .calls)) l
-  pub inside : (t : ℕ) (k : List Slot) → Among t k out → t < length code
+  pub inside : InCode code out
 
 -- What was taken off, where something follows.
 pub record Taken (o : Option (List Slot)) (f : List Slot → List Way) (out : List Way) : Type 0 where
@@ -48,9 +48,8 @@ among-taken T t k a = subst (λ (ws : List Way). Among t k ws) (T .ways) a
 left : {code : List ℕ} {c : Configuration} {l : List Slot} {out : List Way} → Start code c l out → (n : ℕ) (rest : List Slot)
     → dropSlots n l ≡ some rest
     → (registersOf c .height - n ≡ shareOf (c .calls) + length rest) × Holds code (c .stack) (shareOf (c .calls)) rest
-left {code} {c} {l} S n rest e =
-    let u = under code (c .stack) (shareOf (c .calls)) n l rest e (S .holds) in
-    (omega (arith, S .height, u .size), u .holds)
+left {l = l} S n rest e =
+    (omega (arith, S .height, dropped-size n l rest e), holds-under n l rest e (S .holds))
 
 abbrev pub Stays : List ℕ → Configuration → List Way → Type 0 → Effect → Type 0
 Stays code c out Done e = Good code c Done (Within code (shareOf (c .calls)) out) e

@@ -11,8 +11,8 @@ use Rattle.opcode.specs.declared.Decoded.the-variants.{At}
 use Rattle.opcode.specs.declared.instruction.Instruction.{Instruction}
 use Rattle.shape.specs.Counts.{needed}
 use Rattle.shape.specs.Shape.{shapeOf}
-use Rattle.shape.specs.declared.Shape.{Shape}
-use Rattle.shape.specs.declared.Shape.the-variants.{Straight, Drop, Goto, Branch, Keep, Loop, Again, Select, Exit, Invoke, Begin, Return}
+use Rattle.shape.specs.declared.Shape.the-variants.{Invoke, Return}
+use Rattle.shape.specs.Linkage.{Linkage, inside, calling, entering, returning, linkageOf}
 use Rattle.registers.specs.Memory.{read}
 use Rattle.registers.specs.Program.{framesStart}
 use Rattle.registers.specs.declared.Areas.{Areas}
@@ -22,6 +22,7 @@ use Rattle.stackmap.specs.Ways.{Module, Way, resultsIn, ways}
 use Rattle.stackmap.specs.StackMap.{Reached, Among}
 use Rattle.step.specs.declared.Outcome.{Outcome}
 use Rattle.step.specs.declared.Outcome.the-variants.{Went, Finished, Trapped}
+use Rattle.step.specs.Step.{After}
 use Rattle.state.specs.Fits.{fits}
 use Rattle.safety.specs.Active.{Call, running, shareOf, Configuration, stepOn, advance}
 use Rattle.safety.specs.Demand3.{Holds, SameFrom, Unread}
@@ -39,18 +40,22 @@ pub data Suspended (M : Module) (s : List ℕ) : List Call → Type 0 where
   no-caller : Suspended M s []
   a-caller : {c : Call} {calls : List Call} (l : List Slot) → Reached M (running calls) (c .back) (pushWords (resultsIn (M .results) (c .procedure)) l) → c .share ≡ shareOf calls + length l → Holds (M .code) s (shareOf calls) l → c .procedure < entryCount (M .code) → Suspended M s calls → Suspended M s (c ∷ calls)
 
+-- Where control is: the running procedure, the slots that its picture has there and its share holds, and its callers.
+pub record Placed (M : Module) (calls : List Call) (q : Registers) (s : List ℕ) : Type 0 where
+  pub procedure : running calls < entryCount (M .code)
+  pub slots : List Slot
+  pub reached : Reached M (running calls) (q .pc) slots
+  pub height : q .height ≡ shareOf calls + length slots
+  pub holds : Holds (M .code) s (shareOf calls) slots
+  pub suspended : Suspended M s calls
+
 -- The invariant.
 pub record Inv (M : Module) (A : Areas) (c : Configuration) : Type 0 where
   pub areas : c .machine .areas ≡ A
   pub fitted : fits A (registersOf c) (c .memory) (c .stack) ≡ true
   pub framed : Framed (c .memory) (framesStart A) (registersOf c .fp) (c .calls)
   pub counted : length (c .calls) ≡ registersOf c .calls
-  pub procedure : running (c .calls) < entryCount (M .code)
-  pub slots : List Slot
-  pub reached : Reached M (running (c .calls)) (registersOf c .pc) slots
-  pub height : registersOf c .height ≡ shareOf (c .calls) + length slots
-  pub holds : Holds (M .code) (c .stack) (shareOf (c .calls)) slots
-  pub suspended : Suspended M (c .stack) (c .calls)
+  pub placed : Placed M (c .calls) (registersOf c) (c .stack)
 
 -- The instruction that a configuration is about to do.
 pub record Doing (M : Module) (c : Configuration) (i : Instruction) (next : ℕ) : Type 0 where
@@ -87,36 +92,37 @@ pub record Untouched (c : Configuration) (q : Registers) (s : List ℕ) : Type 0
   pub same-height : q .height ≡ registersOf c .height
   pub same-stack : s ≡ c .stack
 
-abbrev pub Moves : Module → Configuration → List Way → Registers → List ℕ → Shape → Type 0
-Moves M c out q s (Straight pops pushes) = Within (M .code) (shareOf (c .calls)) out q s
-Moves M c out q s (Drop n) = Within (M .code) (shareOf (c .calls)) out q s
-Moves M c out q s (Goto d) = Within (M .code) (shareOf (c .calls)) out q s
-Moves M c out q s (Branch d) = Within (M .code) (shareOf (c .calls)) out q s
-Moves M c out q s (Keep d) = Within (M .code) (shareOf (c .calls)) out q s
-Moves M c out q s (Loop d) = Within (M .code) (shareOf (c .calls)) out q s
-Moves M c out q s Again = Within (M .code) (shareOf (c .calls)) out q s
-Moves M c out q s (Select t n) = Within (M .code) (shareOf (c .calls)) out q s
-Moves M c out q s Exit = Within (M .code) (shareOf (c .calls)) out q s
-Moves M c out q s (Invoke p) = Untouched c q s × (q .pc ≡ entryAt (M .code) p)
-Moves M c out q s (Begin par) = Within (M .code) (shareOf (c .calls)) out q s
-Moves M c out q s Return = Untouched c q s × (q .pc ≡ read (c .memory) (registersOf c .fp - 1))
+abbrev pub Moves : Module → Configuration → List Way → Registers → List ℕ → Linkage → Type 0
+Moves M c out q s inside = Within (M .code) (shareOf (c .calls)) out q s
+Moves M c out q s (calling p) = Untouched c q s × (q .pc ≡ entryAt (M .code) p)
+Moves M c out q s (entering par) = Within (M .code) (shareOf (c .calls)) out q s
+Moves M c out q s returning = Untouched c q s × (q .pc ≡ read (c .memory) (registersOf c .fp - 1))
 
--- A step traps on data, finishes, or moves.
-abbrev pub Steps : Module → Configuration → List Way → Shape → Outcome → Type 0
-Steps M c out shape Went = Moves M c out (stepOn M c .stepped .machine .registers) (stepOn M c .stack) shape
-Steps M c out shape Finished = shape ≡ Return
-Steps M c out shape (Trapped n) = DataTrap n
+-- What a step leaves, by its outcome: it moves, finishes, or traps on data.
+abbrev pub Left : Module → Configuration → List Way → Linkage → After → Outcome → Type 0
+Left M c out k a Went = Moves M c out (a .stepped .machine .registers) (a .stack) k
+Left M c out k a Finished = k ≡ returning
+Left M c out k a (Trapped n) = DataTrap n
+
+abbrev pub Steps : Module → Configuration → List Way → Linkage → Outcome → Type 0
+Steps M c out k o = Left M c out k (stepOn M c) o
+
+-- Every way out lies in the code; and a procedure that can be called: there is one, and it begins in the code.
+abbrev pub InCode : List ℕ → List Way → Type 0
+InCode code out = (t : ℕ) (k : List Slot) → Among t k out → t < length code
+
+abbrev pub Callable : List ℕ → ℕ → Type 0
+Callable code d = (0 < d) × (d < entryCount code) × (entryAt code d < length code)
 
 abbrev pub SlotsKept : Type 0
 SlotsKept =
     (M : Module) (A : Areas) (c : Configuration) (i : Instruction) (next p : ℕ) (l : List Slot) (out : List Way) → Doing M c i next
     → c .machine .areas ≡ A → fits A (registersOf c) (c .memory) (c .stack) ≡ true
     → registersOf c .height ≡ shareOf (c .calls) + length l → Holds (M .code) (c .stack) (shareOf (c .calls)) l
-    → ways M p (registersOf c .pc) next (shapeOf i) l ≡ some out
-    → ((t : ℕ) (k : List Slot) → Among t k out → t < length (M .code))
-    → ((d : ℕ) → shapeOf i ≡ Invoke d → (0 < d) × (d < entryCount (M .code)) × (entryAt (M .code) d < length (M .code)))
+    → ways M p (registersOf c .pc) next (shapeOf i) l ≡ some out → InCode (M .code) out
+    → ((d : ℕ) → shapeOf i ≡ Invoke d → Callable (M .code) d)
     → (shapeOf i ≡ Return → 0 < registersOf c .calls → read (c .memory) (registersOf c .fp - 1) < length (M .code))
-    → Steps M c out (shapeOf i) (stepOn M c .stepped .outcome)
+    → Steps M c out (linkageOf (shapeOf i)) (stepOn M c .stepped .outcome)
 
 -- An instruction finds its words in the share.
 abbrev pub FindsWords : Type 0

@@ -14,8 +14,7 @@ use Rattle.opcode.specs.declared.Decoded.{Decoded}
 use Rattle.opcode.specs.declared.instruction.Instruction.{Instruction}
 use Rattle.opcode.specs.declared.instruction.Mode.{Mode}
 use Rattle.shape.specs.Counts.{needed, wordsIn}
-use Rattle.shape.specs.declared.Shape.{Shape}
-use Rattle.shape.specs.declared.Shape.the-variants.{Return}
+use Rattle.shape.specs.Linkage.{Linkage, returning}
 use Rattle.effect.specs.declared.effect.Effect.{Effect}
 use Rattle.effect.specs.declared.effect.Effect.the-variants.{Trap, Finish, Go}
 use Rattle.effect.specs.declared.effect.Push.{Push}
@@ -29,11 +28,9 @@ use Rattle.registers.specs.Changes.{raised}
 use Rattle.execute.specs.Depth.{topWords}
 use Rattle.execute.specs.Execute.{execute}
 use Rattle.stackmap.specs.Ways.{Module, Way}
-use Rattle.step.specs.declared.Outcome.{Outcome}
-use Rattle.step.specs.declared.Outcome.the-variants.{Went, Finished, Trapped}
 use Rattle.step.specs.Step.{After, pushed, settled, performed, stepOf}
 use Rattle.safety.specs.Active.{Configuration, stepOn}
-use Rattle.safety.proofs.Parts.{registersOf, Doing, DataTrap, Moves, Steps}
+use Rattle.safety.proofs.Parts.{registersOf, Doing, DataTrap, Moves, Left, Steps}
 use Rattle.safety.proofs.Traps.{data-number}
 
 -- An effect from a configuration: Done where it finishes, Then of the registers and the stack where it goes on.
@@ -56,18 +53,12 @@ module _ {code : List ℕ} {c : Configuration} {Done : Type 0} {Then : Registers
       (λ t. by-test (Good _ _ _ _) (protectsAny A q m a mode) (Trap 33) e (λ u. good-trap (data-number 33 refl refl)) (λ u. h))
       (λ t. good-trap (data-number 32 refl refl))
 
--- What a step leaves, by its outcome.
-abbrev Left : Module → Configuration → List Way → Shape → After → Outcome → Type 0
-Left M c out shape a Went = Moves M c out (a .stepped .machine .registers) (a .stack) shape
-Left M c out shape a Finished = shape ≡ Return
-Left M c out shape a (Trapped n) = DataTrap n
-
-module _ (M : Module) (c : Configuration) (out : List Way) (shape : Shape) where
+module _ (M : Module) (c : Configuration) (out : List Way) (k : Linkage) where
   abbrev Leaves : After → Type 0
-  Leaves a = Left M c out shape a (a .stepped .outcome)
+  Leaves a = Left M c out k a (a .stepped .outcome)
 
   abbrev pub Goes : Effect → Type 0
-  Goes e = Good (M .code) c (shape ≡ Return) (λ q s. Moves M c out q s shape) e
+  Goes e = Good (M .code) c (k ≡ returning) (λ q s. Moves M c out q s k) e
 
   settled-leaves : (e : Effect) → Goes e → Leaves (settled (length (M .code)) (c .machine) (c .memory) (c .stack) e)
   unfolding settled
@@ -78,18 +69,12 @@ module _ (M : Module) (c : Configuration) (out : List Way) (shape : Shape) where
       by-test Leaves (ltb (length (c .stack)) height) _ _ (λ t. data-number 36 refl refl)
       (λ t. rw (lt-ltb (q .pc) (length (M .code)) l) (h (ltb-false (length (c .stack)) height t)))
 
-  as-steps : (o : Outcome) → Left M c out shape (stepOn M c) o → Steps M c out shape o
-  as-steps Went h = h
-  as-steps Finished h = h
-  as-steps (Trapped n) h = h
-
   -- The words that the instruction needs are there, so that the step is its effect carried out.
   pub good-steps : (i : Instruction) (next : ℕ) → Doing M c i next → needed i ≤ registersOf c .height
       → Goes (execute (program (M .code) (c .machine .areas)) (registersOf c) (c .memory) next
-      (topWords (needed i) (registersOf c .height) (c .stack)) i) → Steps M c out shape (stepOn M c .stepped .outcome)
+      (topWords (needed i) (registersOf c .height) (c .stack)) i) → Steps M c out k (stepOn M c .stepped .outcome)
   unfolding stepOf performed
   good-steps i next d enough h =
-      as-steps (stepOn M c .stepped .outcome)
-      (subst (λ (x : Decoded). Leaves (performed (M .code) (c .machine) (c .memory) (c .stack) x)) (sym (d .decoded))
+      subst (λ (x : Decoded). Leaves (performed (M .code) (c .machine) (c .memory) (c .stack) x)) (sym (d .decoded))
       (by-test Leaves (ltb (registersOf c .height) (needed i)) _ _
-      (λ t. absurd (omega (arith, ltb-true (registersOf c .height) (needed i) t))) (λ t. settled-leaves _ h)))
+      (λ t. absurd (omega (arith, ltb-true (registersOf c .height) (needed i) t))) (λ t. settled-leaves _ h))

@@ -1,19 +1,19 @@
 -- The words of a share while words go and come on top of it: labels lie below where words are put, so they stay.
 use mathlib.Core.List.{List, [], _∷_}
-use mathlib.Core.Option.{none, some}
+use mathlib.Core.Option.{none, some, Option·none-ne-some}
 use mathlib.Core.Path.{_≡_, _∙_}
 use Prim.Native.Nat.{ℕ, zero, suc, _+_, _≤_, _<_}
 use native.Mathlib.Omega.{arith}
 use lib.ListN.{length, getD}
 use lib.Seq.{sets, getD-set-same}
+use Rattle.words.proofs.Sets.{sets-other}
 use Rattle.stackmap.specs.Slots.{Slot, word, label, pushWords, popWords, dropSlots}
 use Rattle.stackmap.specs.Ways.{labelWord}
-use Rattle.machine.proofs.Stored.{sets-under}
 use Rattle.safety.specs.Demand3.{Holds, holds-none, holds-word, holds-label}
 
 -- None is not some.
 pub nothing : {A B : Type 0} (x : A) → none ≡ some x → B
-nothing x e = let z : _≡_ {A = ℕ} 0 1 = cc in absurd (omega arith)
+nothing x e = absurd (Option·none-ne-some x e)
 
 -- Words that are put above a share leave it as it is.
 pub holds-below : {code s : List ℕ} {share : ℕ} {l : List Slot} (i : ℕ) (vs : List ℕ) → share + length l ≤ i → Holds code s share l
@@ -21,26 +21,23 @@ pub holds-below : {code s : List ℕ} {share : ℕ} {l : List Slot} (i : ℕ) (v
 holds-below i vs h holds-none = holds-none
 holds-below i vs h (holds-word k) = holds-word (holds-below i vs (omega arith) k)
 holds-below {s = s} i vs h (holds-label {bottom = share} {l = l} e k) =
-    holds-label (sets-under s i vs (share + length l) (omega arith) ∙ e) (holds-below i vs (omega arith) k)
+    holds-label (sets-other s i vs (share + length l) (λ a b. omega arith) ∙ e) (holds-below i vs (omega arith) k)
 
--- What lies under n slots.
-pub record Under (code s : List ℕ) (share n : ℕ) (l rest : List Slot) : Type 0 where
-  pub size : length l ≡ n + length rest
-  pub holds : Holds code s share rest
-
+-- What lies under n slots, and how many slots there are.
 holds-tail : {code s : List ℕ} {share : ℕ} {x : Slot} {l : List Slot} → Holds code s share (x ∷ l) → Holds code s share l
 holds-tail (holds-word h) = h
 holds-tail (holds-label e h) = h
 
-pub under : (code s : List ℕ) (share n : ℕ) (l rest : List Slot) → dropSlots n l ≡ some rest → Holds code s share l
-    → Under code s share n l rest
-under code s share zero l rest e h =
-    let same : l ≡ rest = cc in
-    record { size = rw same (omega arith); holds = rw same at h }
-under code s share (suc n) [] rest e h = nothing rest e
-under code s share (suc n) (x ∷ l) rest e h =
-    let r = under code s share n l rest e (holds-tail h) in
-    record { size = omega (arith, r .size); holds = r .holds }
+pub holds-under : {code s : List ℕ} {share : ℕ} (n : ℕ) (l rest : List Slot) → dropSlots n l ≡ some rest → Holds code s share l
+    → Holds code s share rest
+holds-under zero l rest e h = let same : l ≡ rest = cc in rw same at h
+holds-under (suc n) [] rest e h = nothing rest e
+holds-under (suc n) (x ∷ l) rest e h = holds-under n l rest e (holds-tail h)
+
+pub dropped-size : (n : ℕ) (l rest : List Slot) → dropSlots n l ≡ some rest → length l ≡ n + length rest
+dropped-size zero l rest e = let same : l ≡ rest = cc in rw same (omega arith)
+dropped-size (suc n) [] rest e = nothing rest e
+dropped-size (suc n) (x ∷ l) rest e = omega (arith, dropped-size n l rest e)
 
 -- Words that can be popped are slots that can be dropped.
 pub popped-drops : (n : ℕ) (l rest : List Slot) → popWords n l ≡ some rest → dropSlots n l ≡ some rest

@@ -9,12 +9,13 @@ use lib.Dec.{eqb, leb}
 use lib.ListN.{length}
 use borrow.Author.Tests.{eqb-false, ne-eqb, lt-leb}
 use Rattle.words.proofs.Tests.{by-test}
-use Rattle.entries.specs.Entries.{entryAt, entryCount}
+use Rattle.entries.specs.Entries.{entryCount}
 use Rattle.opcode.specs.declared.instruction.Instruction.{Instruction}
 use Rattle.opcode.specs.declared.instruction.Instruction.the-variants.{LoadConstant, Load, LoadAddress, Store, Pop, Swap, Nop, Signed, Unsigned, Negate, Equal, NotEqual, CompareSigned, CompareUnsigned, Set, Not, Alloc, Free, Jump, JumpC, JumpT, JumpF, Iter, Next, Switch, SwitchX, Leave, Call, Enter, Rtn}
 use Rattle.shape.specs.Counts.{needed, popped, wordsIn}
 use Rattle.shape.specs.Shape.{shapeOf}
 use Rattle.shape.specs.declared.Shape.the-variants.{Invoke, Return}
+use Rattle.shape.specs.Linkage.{calling, returning, linkageOf}
 use Rattle.shape.specs.declared.Table.the-variants.{Branches, Ranges}
 use Rattle.registers.specs.Memory.{read}
 use Rattle.registers.specs.Program.{program}
@@ -24,7 +25,7 @@ use Rattle.execute.specs.Execute.{execute}
 use Rattle.stackmap.specs.Slots.{Slot}
 use Rattle.stackmap.specs.Ways.{Module, Way, ways}
 use Rattle.safety.specs.Active.{Configuration}
-use Rattle.safety.proofs.Parts.{registersOf, Doing, SlotsKept, FindsWords}
+use Rattle.safety.proofs.Parts.{registersOf, Doing, Callable, SlotsKept, FindsWords}
 use Rattle.safety.proofs.Traps.{data-number, signed-valued, unsigned-valued, negated-valued}
 use Rattle.safety.proofs.Settling.{good-trap, good-finish, good-go, Good, Goes, good-steps}
 use Rattle.safety.proofs.Plain.{plain-go, plain-valued, plain-load, plain-address, plain-store, plain-inverted, plain-allocated, plain-freed, plain-enters}
@@ -35,10 +36,10 @@ use Rattle.safety.proofs.Labels.{loop-word, select-word, loop-goes, sel
 
 module _ (M : Module) (c : Configuration) (out : List Way) where
   -- CALL, of a procedure that there is.
-  call-goes : (next d : ℕ) → 0 < d → d < entryCount (M .code) → entryAt (M .code) d < length (M .code)
-      → Goes M c out (Invoke d) (calls (M .code) (registersOf c) (c .memory) next d)
+  call-goes : (next d : ℕ) → Callable (M .code) d
+      → Goes M c out (calling d) (calls (M .code) (registersOf c) (c .memory) next d)
   unfolding calls
-  call-goes next d z k h =
+  call-goes next d (z, k, h) =
       rw (ne-eqb d 0 (λ e. omega arith), lt-leb (entryCount (M .code)) d k)
       (by-test (Good _ _ _ _) (leb 64 (registersOf c .calls)) _ _ (λ t. good-trap (data-number 37 refl refl))
       (λ t. by-test (Good _ _ _ _) (leb (registersOf c .mp + 2) (length (c .memory))) _ _
@@ -47,7 +48,7 @@ module _ (M : Module) (c : Configuration) (out : List Way) where
 
   -- RTN.
   return-goes : (0 < registersOf c .calls → read (c .memory) (registersOf c .fp - 1) < length (M .code))
-      → Goes M c out Return (returns (registersOf c) (c .memory))
+      → Goes M c out returning (returns (registersOf c) (c .memory))
   unfolding returns
   return-goes h =
       by-test (Good _ _ _ _) (eqb (registersOf c .calls) 0) _ _ (λ t. good-finish refl)
@@ -56,10 +57,10 @@ module _ (M : Module) (c : Configuration) (out : List Way) where
 
 module _ (M : Module) (c : Configuration) (next p : ℕ) (l : List Slot) (out : List Way) (S : Start (M .code) c l out) where
   effect-goes : (i : Instruction) → Doing M c i next → ways M p (registersOf c .pc) next (shapeOf i) l ≡ some out
-      → ((d : ℕ) → shapeOf i ≡ Invoke d → (0 < d) × (d < entryCount (M .code)) × (entryAt (M .code) d < length (M .code)))
+      → ((d : ℕ) → shapeOf i ≡ Invoke d → Callable (M .code) d)
       → (shapeOf i ≡ Return → 0 < registersOf c .calls → read (c .memory) (registersOf c .fp - 1) < length (M .code)) → (ws : List ℕ)
       → ws ≡ topWords (needed i) (registersOf c .height) (c .stack)
-      → Goes M c out (shapeOf i) (execute (program (M .code) (c .machine .areas)) (registersOf c) (c .memory) next ws i)
+      → Goes M c out (linkageOf (shapeOf i)) (execute (program (M .code) (c .machine .areas)) (registersOf c) (c .memory) next ws i)
   unfolding execute shapeOf ways switches searches
   effect-goes (LoadConstant n) D w call back ws t = plain-goes S next 0 1 _ w (plain-go refl refl)
   effect-goes (Load base mode n) D w call back ws t =
@@ -100,9 +101,7 @@ module _ (M : Module) (c : Configuration) (next p : ℕ) (l : List Slot) (out : 
   effect-goes (SwitchX n) D w call back ws t =
       select-goes S Ranges n _ (select-word M c (SwitchX n) next D refl) (in-ranges (M .code) (registersOf c .pc) n (read ws 0)) w
   effect-goes Leave D w call back ws t = rw t (exit-goes l S w)
-  effect-goes (Call d) D w call back ws t =
-      let k = call d refl in
-      call-goes M c out next d (k .0) (k .1) (k .2)
+  effect-goes (Call d) D w call back ws t = call-goes M c out next d (call d refl)
   effect-goes (Enter par dat) D w call back ws t =
       plain-goes S next par 0 _ w (plain-enters (registersOf c) next (c .memory) par dat)
   effect-goes Rtn D w call back ws t = return-goes M c out (back refl)
@@ -111,5 +110,5 @@ module _ (M : Module) (c : Configuration) (next p : ℕ) (l : List Slot) (out : 
 pub slots-kept : FindsWords → SlotsKept
 slots-kept finds M A c i next p l out D areas fit height holds w inside call back =
     let S : Start (M .code) c l out = record { height = height; holds = holds; inside = inside } in
-    good-steps M c out (shapeOf i) i next D (omega (arith, finds M p (registersOf c .pc) next i l out w))
+    good-steps M c out (linkageOf (shapeOf i)) i next D (omega (arith, finds M p (registersOf c .pc) next i l out w))
     (effect-goes M c next p l out S i D w call back _ refl)

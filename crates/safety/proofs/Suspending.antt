@@ -1,23 +1,27 @@
 -- The shares of suspended callers: they lie below the running call's, so that words above leave them as they are; CALL suspends the
 -- caller callers the words that it gives, and RTN goes back to it with the words that it gets.
-use mathlib.Core.Bool.{Bool, true, false, cond, false≢true}
+use mathlib.Core.Bool.{Bool, true, false, cond}
 use mathlib.Core.List.{List, [], _∷_}
 use mathlib.Core.Option.{none, some}
-use mathlib.Core.Path.{_≡_, _∙_, refl}
-use Prim.Native.Nat.{ℕ, zero, suc, _+_, _-_, _<_}
+use mathlib.Core.Path.{_≡_, _∙_, refl, sym}
+use Prim.Native.Nat.{ℕ, _+_, _-_, _<_}
 use native.Mathlib.Omega.{arith}
+use lib.Dec.{eqb}
 use lib.ListN.{length, getD}
+use borrow.Author.Tests.{eqb-true}
+use Rattle.words.proofs.Tests.{both-true}
 use Rattle.entries.specs.Entries.{entryAt, entryCount}
 use Rattle.registers.specs.declared.Registers.{Registers}
 use Rattle.registers.specs.Memory.{read}
-use Rattle.stackmap.specs.Slots.{Slot, word, label, pushWords, popWords, isWords}
+use Rattle.stackmap.specs.Slots.{Slot, pushWords, popWords, isWords, topOrigin}
 use Rattle.stackmap.specs.Ways.{Module, Way, _gets_, parametersIn, resultsIn, straight}
 use Rattle.stackmap.specs.StackMap.{Among, here, Reached, entered}
 use Rattle.safety.specs.Active.{Call, running, shareOf, begun, callers}
 use Rattle.safety.specs.Demand3.{Holds, holds-none, holds-word, holds-label}
-use Rattle.safety.proofs.Parts.{Framed, no-frame, a-frame, Suspended, no-caller, a-caller}
+use Rattle.safety.proofs.Parts.{Framed, no-frame, a-frame, Suspended, no-caller, a-caller, Placed}
+use Rattle.verifier.proofs.Levels.{words-test}
 use Rattle.stackmap.proofs.Pushing.{pushed-height}
-use Rattle.safety.proofs.Sharing.{nothing, under, popped-drops, holds-words}
+use Rattle.safety.proofs.Sharing.{nothing, holds-under, dropped-size, popped-drops, holds-words}
 use Rattle.safety.proofs.Moving.{Taken, taken, among-taken}
 use Rattle.safety.proofs.Places.{Checked, reached-inside}
 
@@ -36,28 +40,12 @@ suspended-kept M s s' (c ∷ calls) k (a-caller l reached share holds p rest) =
     a-caller l reached share (holds-kept s' (λ i b. k i (omega (arith, share))) holds) p
     (suspended-kept M s s' calls (λ i b. k i (omega (arith, share))) rest)
 
--- What the invariant says of the place, the share and the callers.
-pub record Placed (M : Module) (calls : List Call) (q : Registers) (s : List ℕ) : Type 0 where
-  pub procedure : running calls < entryCount (M .code)
-  pub slots : List Slot
-  pub reached : Reached M (running calls) (q .pc) slots
-  pub height : q .height ≡ shareOf calls + length slots
-  pub holds : Holds (M .code) s (shareOf calls) slots
-  pub suspended : Suspended M s calls
-
-words-length : (n : ℕ) (l : List Slot) → isWords n l ≡ true → length l ≡ n
-words-length zero [] e = refl
-words-length zero (x ∷ l) e = absurd (false≢true e)
-words-length (suc n) [] e = absurd (false≢true e)
-words-length (suc n) (word ∷ l) e = omega (arith, words-length n l e)
-words-length (suc n) (label origin ∷ l) e = absurd (false≢true e)
-
 -- RTN finds exactly its results.
 results-found : (n : ℕ) (l : List Slot) (out : List Way) → cond (isWords n l) (some []) none ≡ some out → length l ≡ n
 results-found n l out = by (isWords n l) refl
   where
     by : (t : Bool) → isWords n l ≡ t → cond t (some []) none ≡ some out → length l ≡ n
-    by true e w = words-length n l e
+    by true e w = eqb-true (length l) n (both-true (eqb (length l) n) (eqb (topOrigin l) 0) (sym (words-test n l) ∙ e) .0)
     by false e w = nothing out w
 
 module _ (M : Module) (C : Checked M) where
@@ -101,13 +89,14 @@ module _ (M : Module) (C : Checked M) where
   called-placed s calls l out q q' next d p w goes h holds S same to =
       let n : ℕ = parametersIn (M .code) d in
       let T : Taken (popWords n l) (λ rest. next gets pushWords (resultsIn (M .results) d) rest ∷ []) out = taken (popWords n l) _ out w in
-      let u = under (M .code) s (shareOf calls) n l (T .rest) (popped-drops n l (T .rest) (T .found)) holds in
-      let share : q .height - n ≡ shareOf calls + length (T .rest) = omega (arith, h, u .size) in
+      let dropped = popped-drops n l (T .rest) (T .found) in
+      let size = dropped-size n l (T .rest) dropped in
+      let share : q .height - n ≡ shareOf calls + length (T .rest) = omega (arith, h, size) in
       record {
         procedure = p;
         slots = pushWords n [];
         reached = rw to entered;
-        height = omega (arith, same, h, u .size, pushed-height n []);
+        height = omega (arith, same, h, size, pushed-height n []);
         holds = holds-words n holds-none;
-        suspended = a-caller (T .rest) (goes (pushWords (resultsIn (M .results) d) (T .rest)) (among-taken T next _ here)) share (u .holds) p S;
+        suspended = a-caller (T .rest) (goes (pushWords (resultsIn (M .results) d) (T .rest)) (among-taken T next _ here)) share (holds-under n l (T .rest) dropped holds) p S;
       }

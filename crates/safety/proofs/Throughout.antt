@@ -62,14 +62,15 @@ module _ (r results w parameters m s : List ℕ) (q : Registers) (b : Bytes r) (
   run-safe n c v =
       let k = run-keeps v in
       let i = k .inv in
+      let p = i .placed in
       record {
-        procedure = i .procedure;
+        procedure = p .procedure;
         active = i .counted;
-        slots = i .slots;
-        placed = i .reached;
-        height = i .height;
-        labels = i .holds;
-        shown = shows-reached r results w b accepted R (running (c .calls)) (i .procedure) (registersOf c .pc) (i .slots) (i .reached);
+        slots = p .slots;
+        placed = p .reached;
+        height = p .height;
+        labels = p .holds;
+        shown = shows-reached r results w b accepted R (running (c .calls)) (p .procedure) (registersOf c .pc) (p .slots) (p .reached);
         header = k .header;
         constants = k .constants;
         links = linked (c .memory) (framesStart (areasOf r)) (registersOf c .fp) (c .calls) (i .framed);

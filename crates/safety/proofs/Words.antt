@@ -3,7 +3,7 @@ use mathlib.Core.Bool.{Bool, true, false, cond}
 use mathlib.Core.List.{List, [], _∷_}
 use mathlib.Core.Option.{none, some}
 use mathlib.Core.Path.{_≡_}
-use Prim.Native.Nat.{ℕ, zero, suc, _≤_}
+use Prim.Native.Nat.{ℕ, suc, _≤_}
 use native.Mathlib.Omega.{arith}
 use lib.ListN.{length}
 use Rattle.opcode.specs.declared.instruction.Instruction.the-variants.{LoadConstant, Load, LoadAddress, Store, Pop, Swap, Nop, Signed, Unsigned, Negate, Equal, NotEqual, CompareSigned, CompareUnsigned, Set, Not, Alloc, Free, Jump, JumpC, JumpT, JumpF, Iter, Next, Switch, SwitchX, Leave, Call, Enter, Rtn}
@@ -12,36 +12,33 @@ use Rattle.shape.specs.Shape.{shapeOf}
 use Rattle.stackmap.specs.Slots.{Slot, word, label, popWords, dropSlots}
 use Rattle.stackmap.specs.Ways.{Way, after, isLoop, again, exit, ways}
 use Rattle.safety.proofs.Parts.{FindsWords}
+use Rattle.safety.proofs.Sharing.{nothing, dropped-size, popped-drops}
+use Rattle.safety.proofs.Moving.{taken}
 
--- No way out is given where none is.
-nowhere : {A : Type 0} (out : List Way) → none ≡ some out → A
-nowhere out e = let z : _≡_ {A = ℕ} 0 1 = cc in absurd (omega arith)
+dropped-fits : (n : ℕ) (l : List Slot) (f : List Slot → List Way) (out : List Way) → after (dropSlots n l) f ≡ some out → n ≤ length l
+dropped-fits n l f out e =
+    let T = taken (dropSlots n l) f out e in
+    omega (arith, dropped-size n l (T .rest) (T .found))
 
-pub popped-fits : (n : ℕ) (l : List Slot) (f : List Slot → List Way) (out : List Way) → after (popWords n l) f ≡ some out → n ≤ length l
-popped-fits zero l f out e = omega arith
-popped-fits (suc n) [] f out e = nowhere out e
-popped-fits (suc n) (word ∷ l) f out e = omega (arith, popped-fits n l f out e)
-popped-fits (suc n) (label origin ∷ l) f out e = nowhere out e
-
-pub dropped-fits : (n : ℕ) (l : List Slot) (f : List Slot → List Way) (out : List Way) → after (dropSlots n l) f ≡ some out → n ≤ length l
-dropped-fits zero l f out e = omega arith
-dropped-fits (suc n) [] f out e = nowhere out e
-dropped-fits (suc n) (x ∷ l) f out e = omega (arith, dropped-fits n l f out e)
+popped-fits : (n : ℕ) (l : List Slot) (f : List Slot → List Way) (out : List Way) → after (popWords n l) f ≡ some out → n ≤ length l
+popped-fits n l f out e =
+    let T = taken (popWords n l) f out e in
+    omega (arith, dropped-size n l (T .rest) (popped-drops n l (T .rest) (T .found)))
 
 -- NEXT: the label and four words.
 again-fits : (code : List ℕ) (next : ℕ) (l : List Slot) (out : List Way) → again code next l ≡ some out → 5 ≤ length l
-again-fits code next [] out e = nowhere out e
-again-fits code next (word ∷ l) out e = nowhere out e
+again-fits code next [] out e = nothing out e
+again-fits code next (word ∷ l) out e = nothing out e
 again-fits code next (label origin ∷ l) out e = by (isLoop code origin) _ e
   where
     by : (t : Bool) (f : List Slot → List Way) → cond t (after (popWords 4 l) f) none ≡ some out → 5 ≤ suc (length l)
     by true f d = omega (arith, popped-fits 4 l f out d)
-    by false f d = nowhere out d
+    by false f d = nothing out d
 
 -- LEAVE: the label.
 exit-fits : (code : List ℕ) (l : List Slot) (out : List Way) → exit code l ≡ some out → 1 ≤ length l
-exit-fits code [] out e = nowhere out e
-exit-fits code (word ∷ l) out e = nowhere out e
+exit-fits code [] out e = nothing out e
+exit-fits code (word ∷ l) out e = nothing out e
 exit-fits code (label origin ∷ l) out e = omega arith
 
 pub finds-words : FindsWords

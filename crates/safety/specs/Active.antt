@@ -9,7 +9,7 @@ use Rattle.opcode.specs.declared.Decoded.{Decoded}
 use Rattle.opcode.specs.declared.Decoded.the-variants.{Unserved, Past, At}
 use Rattle.shape.specs.Shape.{shapeOf}
 use Rattle.shape.specs.declared.Shape.{Shape}
-use Rattle.shape.specs.declared.Shape.the-variants.{Straight, Drop, Goto, Branch, Keep, Loop, Again, Select, Exit, Invoke, Begin, Return}
+use Rattle.shape.specs.Linkage.{Linkage, inside, calling, entering, returning, linkageOf}
 use Rattle.registers.specs.declared.Registers.{Registers}
 use Rattle.stackmap.specs.Ways.{Module, parametersIn}
 use Rattle.step.specs.declared.Machine.{Machine}
@@ -57,19 +57,14 @@ callers [] = []
 callers (c ∷ calls) = calls
 
 -- The active calls after a completed step: CALL begins one, RTN ends the last.
+abbrev pub callsBy : Module → Registers → ℕ → Linkage → List Call → List Call
+callsBy M q next inside calls = calls
+callsBy M q next (calling p) calls = begun M q p next calls
+callsBy M q next (entering par) calls = calls
+callsBy M q next returning calls = callers calls
+
 abbrev pub callsAfter : Module → Registers → ℕ → Shape → List Call → List Call
-callsAfter M q next (Straight pops pushes) calls = calls
-callsAfter M q next (Drop n) calls = calls
-callsAfter M q next (Goto d) calls = calls
-callsAfter M q next (Branch d) calls = calls
-callsAfter M q next (Keep d) calls = calls
-callsAfter M q next (Loop d) calls = calls
-callsAfter M q next Again calls = calls
-callsAfter M q next (Select t n) calls = calls
-callsAfter M q next Exit calls = calls
-callsAfter M q next (Invoke p) calls = begun M q p next calls
-callsAfter M q next (Begin par) calls = calls
-callsAfter M q next Return calls = callers calls
+callsAfter M q next s calls = callsBy M q next (linkageOf s) calls
 
 abbrev pub callsDecoded : Module → Registers → List Call → Decoded → List Call
 callsDecoded M q calls Unserved = calls

@@ -1,3 +1,4 @@
--- What an instruction finds on the stack, and its shape for the check.
+-- What an instruction finds on the stack, its shape for the check, and what it does with procedures.
 pub mod Counts
 pub mod Shape
+pub mod Linkage

@@ -36,20 +36,27 @@ five true true c d f e = let t = three c d f e in (refl, refl, t .0, t .1, t .2)
 five true false c d f e = (refl, e, cc, cc, cc)
 five false b c d f e = (e, cc, cc, cc, cc)
 
+-- Sizes that load takes hold the data areas, and are at most the largest.
+pub sizes-taken : (A : Areas) (m s : List ℕ) → sizesTaken A m s ≡ true → (framesStart A ≤ length m) × (length m ≤ 16384) × (length s ≤ 1024)
+unfolding sizesTaken
+sizes-taken A m s h =
+    let z = three (leb (framesStart A) (length m)) (leb (length m) 16384) (leb (length s) 1024) h in
+    (leb-true (framesStart A) (length m) (z .0), leb-true (length m) 16384 (z .1), leb-true (length s) 1024 (z .2))
+
 module _ (A : Areas) (q : Registers) (m s : List ℕ) where
   pub fitting : fits A q m s ≡ true → Fitting A q m s
-  unfolding fits sizesTaken headerKept registersFit
+  unfolding fits headerKept registersFit
   fitting h =
       let w = three (sizesTaken A m s) (headerKept A m) (registersFit q m s && chained m (framesStart A) (q .fp) (q .calls)) h in
       let l = three true (registersFit q m s) (chained m (framesStart A) (q .fp) (q .calls)) (w .2) in
-      let z = three (leb (framesStart A) (length m)) (leb (length m) 16384) (leb (length s) 1024) (w .0) in
+      let (areas, room, deep) = sizes-taken A m s (w .0) in
       let k = three (eqb (read m 0) 0) (eqb (read m 1) 0) (eqb (read m 2) (constantsStart A)) (w .1) in
       let r =
       five (eqb (q .gp) 3) (leb (q .fp) (q .mp)) (leb (q .mp) (length m)) (leb (q .height) (length s)) (leb (q .calls) 64) (l .1) in
       record {
-        areas = leb-true (framesStart A) (length m) (z .0);
-        room = leb-true (length m) 16384 (z .1);
-        deep = leb-true (length s) 1024 (z .2);
+        areas = areas;
+        room = room;
+        deep = deep;
         word0 = eqb-true (read m 0) 0 (k .0);
         word1 = eqb-true (read m 1) 0 (k .1);
         word2 = eqb-true (read m 2) (constantsStart A) (k .2);

@@ -1,4 +1,4 @@
--- Laws about stored words, where decoding ends, and the effects of each group.
-pub mod Sets
-pub mod Decoding
+-- How many words are pushed, the effects of each group, and a step that does not go on.
+pub mod Pushing
 pub mod Carrying
+pub mod Stopping

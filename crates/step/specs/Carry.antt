@@ -7,6 +7,8 @@ use Rattle.effect.specs.declared.effect.Effect.{Effect}
 use Rattle.effect.specs.declared.effect.Effect.the-variants.{Trap, Finish, Go}
 use Rattle.registers.specs.declared.Registers.{Registers}
 use Rattle.registers.specs.Changes.{moved}
+use Rattle.execute.specs.declared.Group.{Group as Kind}
+use Rattle.execute.specs.declared.Group.the-variants.{Gives, Goes as Gone, Stores, Others}
 use Rattle.step.specs.declared.Machine.{Machine}
 use Rattle.step.specs.declared.Stepped.{Stepped}
 use Rattle.step.specs.declared.Outcome.the-variants.{Went, Finished}
@@ -32,3 +34,10 @@ abbrev pub Writes : Registers → ℕ → Effect → Type 0
 Writes q next (Trap n) = Unit {0}
 Writes q next Finish = Unit {0}
 Writes q next (Go gone push write r) = (push ≡ NoPush) × (r ≡ moved q next)
+
+-- What each group of instructions promises of its effects.
+abbrev pub Carried : Kind → Registers → ℕ → Effect → Type 0
+Carried Gives q next e = Pushes q next e
+Carried Gone q next e = Goes q e
+Carried Stores q next e = Writes q next e
+Carried Others q next e = Unit {0}

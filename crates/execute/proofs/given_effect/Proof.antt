@@ -1,10 +1,12 @@
 -- `execute::given_effect` meets its contract: each arm is its instruction's line, and no other instruction is of the group.
-use Rattle.execute.proofs.Groups.{gives-told}
+use Rattle.execute.proofs.Groups.{told}
+use Rattle.execute.specs.declared.Group.the-variants.{Gives}
 use Rattle.execute.proofs.Top.{found, base-found}
 use Rattle.execute.specs.Execute.{execute}
 use native.Mathlib.Omega.{arith}
-use Prim.Native.Nat.{ℕ, _≤_}
-use mathlib.Core.Path.{_≡_}
+use Prim.Native.Nat.{_≤_}
+use mathlib.Core.List.{[], _∷_}
+use mathlib.Core.Path.{refl}
 use borrow.Author.Needs.{needs}
 use Rattle.execute.proofs.given_effect.Statement.{statement}
 use Rattle.execute.proofs.given_effect.Tie as tie
@@ -240,7 +242,7 @@ returns-13 c = let l : 1 ≤ c .before .before .before .before .before .before .
     λ P. rw (c .before .before .enum-told5 .given .1, c .inverted .ensures, c .before .top-word12 .ensures, found (c .before .before .before .before .before .before .args .s .now) (c .before .before .before .before .before .before .args .q .height) 1 0 l (omega arith))
 
 returns-14 : tie.Need-returns-14
-returns-14 c = absurd (gives-told (c .before .before .before .args .i) (c .match .keys14) (c .before .before .before .pre .0))
+returns-14 c = absurd (told Gives (3 ∷ 4 ∷ 6 ∷ 16 ∷ 17 ∷ 18 ∷ 19 ∷ 20 ∷ 21 ∷ 22 ∷ 23 ∷ 24 ∷ 25 ∷ 26 ∷ 27 ∷ 28 ∷ 29 ∷ []) refl (c .before .before .before .args .i) (c .match .keys14) (c .before .before .before .pre .0))
 
 pub given-effect-spec : {M : Type 1} → statement M
 given-effect-spec =

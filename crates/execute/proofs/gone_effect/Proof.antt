@@ -1,10 +1,12 @@
 -- `execute::gone_effect` meets its contract: each arm is its instruction's line, and no other instruction is of the group.
-use Rattle.execute.proofs.Groups.{goes-told}
+use Rattle.execute.proofs.Groups.{told}
+use Rattle.execute.specs.declared.Group.the-variants.{Goes}
 use Rattle.execute.proofs.Top.{found}
 use Rattle.execute.specs.Execute.{execute}
 use native.Mathlib.Omega.{arith}
 use Prim.Native.Nat.{_≤_}
-use mathlib.Core.Path.{_≡_}
+use mathlib.Core.List.{[], _∷_}
+use mathlib.Core.Path.{refl}
 use borrow.Author.Needs.{needs}
 use Rattle.execute.proofs.gone_effect.Statement.{statement}
 use Rattle.execute.proofs.gone_effect.Tie as tie
@@ -96,7 +98,7 @@ returns-7 c = let l : 1 ≤ c .before .before .before .before .before .args .q .
     λ P. λ m. rw (c .before .before .enum-told2 .given .1, c .jump-to3 .ensures, c .before .top-word4 .ensures, found (c .before .before .before .before .before .args .s .now) (c .before .before .before .before .before .args .q .height) 1 0 l (omega arith))
 
 returns-8 : tie.Need-returns-8
-returns-8 c = absurd (goes-told (c .before .before .args .i) (c .match .keys8) (c .before .before .pre .0))
+returns-8 c = absurd (told Goes (0 ∷ 1 ∷ 2 ∷ 3 ∷ 5 ∷ 7 ∷ 8 ∷ 9 ∷ 10 ∷ 11 ∷ 12 ∷ 13 ∷ 14 ∷ 15 ∷ 16 ∷ 17 ∷ 22 ∷ 23 ∷ 24 ∷ 25 ∷ 27 ∷ 28 ∷ 29 ∷ []) refl (c .before .before .args .i) (c .match .keys8) (c .before .before .pre .0))
 
 pub gone-effect-spec : {M : Type 1} → statement M
 gone-effect-spec =

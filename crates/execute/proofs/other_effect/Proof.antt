@@ -1,11 +1,13 @@
 -- `execute::other_effect` meets its contract: each arm is its instruction's line, and no other instruction is of the group.
-use Rattle.execute.proofs.Groups.{others-told}
+use Rattle.execute.proofs.Groups.{told}
+use Rattle.execute.specs.declared.Group.the-variants.{Others}
 use Rattle.execute.proofs.Top.{found, iter-found, next-found}
 use Rattle.execute.specs.Execute.{execute}
 use Rattle.registers.specs.Program.{program}
 use native.Mathlib.Omega.{arith}
 use Prim.Native.Nat.{_≤_}
-use mathlib.Core.Path.{_≡_, sym}
+use mathlib.Core.List.{[], _∷_}
+use mathlib.Core.Path.{refl, sym}
 use borrow.Author.Needs.{needs}
 use Rattle.execute.proofs.other_effect.Statement.{statement}
 use Rattle.execute.proofs.other_effect.Tie as tie
@@ -115,7 +117,7 @@ unfolding execute
 returns-9 c = rw (c .before .enum-told4 .given .1, c .returns .ensures)
 
 returns-10 : tie.Need-returns-10
-returns-10 c = absurd (others-told (c .before .before .before .before .args .i) (c .match .keys10) (c .before .before .before .before .pre .1 .1 .1 .0))
+returns-10 c = absurd (told Others (0 ∷ 1 ∷ 2 ∷ 3 ∷ 4 ∷ 5 ∷ 6 ∷ 7 ∷ 8 ∷ 9 ∷ 10 ∷ 11 ∷ 12 ∷ 13 ∷ 14 ∷ 15 ∷ 18 ∷ 19 ∷ 20 ∷ 21 ∷ 26 ∷ []) refl (c .before .before .before .before .args .i) (c .match .keys10) (c .before .before .before .before .pre .1 .1 .1 .0))
 
 pub other-effect-spec : {M : Type 1} → statement M
 other-effect-spec =

@@ -6,7 +6,7 @@ use lib.ListN.{length, take}
 use lib.Seq.{sets, length-sets, take-all}
 use borrow.Author.Needs.{needs}
 use Rattle.step.proofs.copy_words.Statement.{statement}
-use Rattle.step.proofs.Sets.{sets-one-more}
+use Rattle.words.proofs.Sets.{sets-one-more}
 use Rattle.step.proofs.copy_words.Tie as tie
 
 abbrev Inv-loop : tie.InvT-loop

@@ -8,7 +8,7 @@ use lib.Seq.{take-nil}
 use borrow.Author.Needs.{needs}
 use Rattle.step.proofs.move_words.Statement.{statement}
 use Rattle.words.proofs.Slices.{part-rest}
-use Rattle.step.proofs.Sets.{sets-out, sets-within}
+use Rattle.words.proofs.Sets.{sets-out, sets-within}
 use Rattle.step.proofs.move_words.Tie as tie
 
 returns : tie.Need-returns

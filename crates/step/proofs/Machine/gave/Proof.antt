@@ -1,5 +1,5 @@
 -- `step::Machine::gave` meets its contract: room for the pushed words, then the place, then the stack.
-use Rattle.step.proofs.Sets.{pushes-small}
+use Rattle.step.proofs.Pushing.{pushes-small}
 use Rattle.step.specs.Step.{settled as settledOf}
 use borrow.Author.Tests.{lt-ltb, le-ltb}
 use lib.ListN.{length}

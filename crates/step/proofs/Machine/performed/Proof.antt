@@ -1,10 +1,10 @@
 -- `step::Machine::performed` meets its contract: an effect of each group is one that its part of the step carries out.
-use Rattle.step.proofs.Carrying.{gives-pushes, goes-goes, stores-writes}
+use Rattle.step.proofs.Carrying.{carried}
 use Rattle.state.proofs.Fitting.{fitting}
 use Rattle.execute.specs.Depth.{topWords}
 use Rattle.registers.specs.Program.{program}
 use Rattle.shape.specs.Counts.{needed}
-use mathlib.Core.Path.{_≡_, _∙_, sym}
+use mathlib.Core.Path.{_∙_, sym}
 use borrow.Author.Needs.{needs}
 use Rattle.step.proofs.Machine.performed.Statement.{statement}
 use Rattle.step.proofs.Machine.performed.Tie as tie
@@ -22,7 +22,7 @@ gave-requires : tie.Need-gave-requires
 gave-requires c κs = let a = c .before .before .before .before .before .before .before .before .before .before .before .before .args in
     let q = a .self .registers in
     let P = program (a .code .now) (a .self .areas) in
-    (fitting (a .self .areas) q (a .memory .now) (a .stack .now) (c .before .before .before .before .before .before .before .before .before .before .before .before .pre .1 .0) .deep, rw (c .before .given-effect .ensures P) (gives-pushes P q (a .memory .now) (a .next) (topWords (needed (a .i)) (q .height) (a .stack .now)) (a .i) (sym (c .before .before .before .before .before .before .group-of .ensures) ∙ c .before .before .before .before .enum-told .given .1)))
+    (fitting (a .self .areas) q (a .memory .now) (a .stack .now) (c .before .before .before .before .before .before .before .before .before .before .before .before .pre .1 .0) .deep, rw (c .before .given-effect .ensures P) (rw (sym (c .before .before .before .before .before .before .group-of .ensures) ∙ c .before .before .before .before .enum-told .given .1) at (carried P q (a .memory .now) (a .next) (topWords (needed (a .i)) (q .height) (a .stack .now)) (a .i))))
 
 enum-told-2 : tie.Need-enum-told-2
 enum-told-2 c = search needs
@@ -34,7 +34,7 @@ went-requires : tie.Need-went-requires
 went-requires c κs = let a = c .before .before .before .before .before .before .before .before .before .before .args in
     let q = a .self .registers in
     let P = program (a .code .now) (a .self .areas) in
-    rw (c .gone-effect .ensures P (a .memory .now)) (goes-goes P q (a .memory .now) (a .next) (topWords (needed (a .i)) (q .height) (a .stack .now)) (a .i) (sym (c .before .before .before .before .group-of .ensures) ∙ c .before .before .enum-told2 .given .1))
+    rw (c .gone-effect .ensures P (a .memory .now)) (rw (sym (c .before .before .before .before .group-of .ensures) ∙ c .before .before .enum-told2 .given .1) at (carried P q (a .memory .now) (a .next) (topWords (needed (a .i)) (q .height) (a .stack .now)) (a .i)))
 
 enum-told-3 : tie.Need-enum-told-3
 enum-told-3 c = search needs
@@ -47,7 +47,7 @@ put-requires : tie.Need-put-requires
 put-requires c κs = let a = c .before .before .before .before .before .before .before .before .before .before .before .before .before .args in
     let q = a .self .registers in
     let P = program (a .code .now) (a .self .areas) in
-    (fitting (a .self .areas) q (a .memory .now) (a .stack .now) (c .before .before .before .before .before .before .before .before .before .before .before .before .before .pre .1 .0) .deep, (fitting (a .self .areas) q (a .memory .now) (a .stack .now) (c .before .before .before .before .before .before .before .before .before .before .before .before .before .pre .1 .0) .height, rw (c .before .before .stored-effect .ensures (a .code .now)) (stores-writes P q (a .memory .now) (a .next) (topWords (needed (a .i)) (q .height) (a .stack .now)) (a .i) (sym (c .before .before .before .before .before .before .before .group-of .ensures) ∙ c .before .before .before .before .before .enum-told3 .given .1))))
+    (fitting (a .self .areas) q (a .memory .now) (a .stack .now) (c .before .before .before .before .before .before .before .before .before .before .before .before .before .pre .1 .0) .deep, (fitting (a .self .areas) q (a .memory .now) (a .stack .now) (c .before .before .before .before .before .before .before .before .before .before .before .before .before .pre .1 .0) .height, rw (c .before .before .stored-effect .ensures (a .code .now)) (rw (sym (c .before .before .before .before .before .before .before .group-of .ensures) ∙ c .before .before .before .before .before .enum-told3 .given .1) at (carried P q (a .memory .now) (a .next) (topWords (needed (a .i)) (q .height) (a .stack .now)) (a .i)))))
 
 enum-told-4 : tie.Need-enum-told-4
 enum-told-4 c = search needs

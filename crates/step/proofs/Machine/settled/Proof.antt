@@ -6,7 +6,7 @@ use borrow.Author.Needs.{needs}
 use borrow.Author.Tests.{lt-ltb, le-ltb}
 use Rattle.step.proofs.Machine.settled.Statement.{statement}
 use Rattle.step.specs.Step.{settled as settledOf}
-use Rattle.step.proofs.Sets.{pushes-small}
+use Rattle.step.proofs.Pushing.{pushes-small}
 use Rattle.step.proofs.Machine.settled.Tie as tie
 
 enum-known-e : tie.Need-enum-known-e

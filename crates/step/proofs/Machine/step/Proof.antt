@@ -1,5 +1,5 @@
 -- `step::Machine::step` meets its contract: decoding, the stack words, and what the instruction does.
-use Rattle.step.proofs.Decoding.{decoded-within}
+use Rattle.opcode.proofs.Found.{ends}
 use Rattle.step.specs.Step.{stepOf, performed}
 use Rattle.shape.specs.Counts.{needed}
 use borrow.Author.Tests.{lt-ltb, le-ltb}
@@ -42,10 +42,10 @@ unfolding stepOf performed
 returns c = rw (← c .before .before .before .before .before .before .before .fetch .ensures, c .before .before .before .before .before .decoded .given .1, ← c .before .before .before .needed-words .ensures, lt-ltb (c .before .before .before .before .before .before .before .before .before .before .before .before .before .args .self .registers .height) (c .before .before .before .needed-words .result) (c .before .if1 .taken), c .trapped3 .ensures)
 
 cast-performed : tie.Need-cast-performed
-cast-performed c = record { fits = omega (arith, c .before .before .before .before .before .before .before .before .before .before .before .before .before .before .pre .0, decoded-within (c .before .before .before .before .before .before .before .before .before .before .before .before .before .before .args .code .now) (length (c .before .before .before .before .before .before .before .before .before .before .before .before .before .before .args .code .now)) (c .before .before .before .before .before .before .before .before .before .before .before .before .before .before .args .self .registers .pc) (c .before .before .before .before .before .before .decoded .given .0 .1 .0) (c .before .before .before .before .before .before .decoded .given .0 .0) (sym (c .before .before .before .before .before .before .before .before .fetch .ensures) ∙ c .before .before .before .before .before .before .decoded .given .1)) }
+cast-performed c = record { fits = omega (arith, c .before .before .before .before .before .before .before .before .before .before .before .before .before .before .pre .0, ends (c .before .before .before .before .before .before .before .before .before .before .before .before .before .before .args .code .now) (length (c .before .before .before .before .before .before .before .before .before .before .before .before .before .before .args .code .now)) (c .before .before .before .before .before .before .before .before .before .before .before .before .before .before .args .self .registers .pc) (sym (c .before .before .before .before .before .before .before .before .fetch .ensures) ∙ c .before .before .before .before .before .before .decoded .given .1)) }
 
 performed-requires : tie.Need-performed-requires
-performed-requires c κs = (omega (arith, c .before .before .before .before .before .before .before .before .before .before .before .before .before .before .pre .0, decoded-within (c .before .before .before .before .before .before .before .before .before .before .before .before .before .before .args .code .now) (length (c .before .before .before .before .before .before .before .before .before .before .before .before .before .before .args .code .now)) (c .before .before .before .before .before .before .before .before .before .before .before .before .before .before .args .self .registers .pc) (c .before .before .before .before .before .before .decoded .given .0 .1 .0) (c .before .before .before .before .before .before .decoded .given .0 .0) (sym (c .before .before .before .before .before .before .before .before .fetch .ensures) ∙ c .before .before .before .before .before .before .decoded .given .1)), (c .before .before .before .before .before .before .before .before .before .before .before .before .before .before .pre .1, omega (arith, c .before .before .before .before .needed-words .ensures)))
+performed-requires c κs = (omega (arith, c .before .before .before .before .before .before .before .before .before .before .before .before .before .before .pre .0, ends (c .before .before .before .before .before .before .before .before .before .before .before .before .before .before .args .code .now) (length (c .before .before .before .before .before .before .before .before .before .before .before .before .before .before .args .code .now)) (c .before .before .before .before .before .before .before .before .before .before .before .before .before .before .args .self .registers .pc) (sym (c .before .before .before .before .before .before .before .before .fetch .ensures) ∙ c .before .before .before .before .before .before .decoded .given .1)), (c .before .before .before .before .before .before .before .before .before .before .before .before .before .before .pre .1, omega (arith, c .before .before .before .before .needed-words .ensures)))
 
 returns-2 : tie.Need-returns-2
 unfolding stepOf performed
