@@ -1,12 +1,12 @@
 -- What a cut gives, the entries being sound: every mark is at an instruction of its procedure's region, made so when it was written;
 -- and every entry is marked, since later regions mark only offsets from their own entry on.
 use mathlib.Core.Bool.{Bool, true, false, cond}
-use mathlib.Core.Path.{_≡_, refl, sym, _∙_}
+use mathlib.Core.Path.{_≡_, refl, _∙_}
 use mathlib.Core.List.{List}
 use Prim.Native.Nat.{ℕ, zero, suc, _+_, _-_, _<_, _≤_}
 use native.Mathlib.Omega.{arith}
 use borrow.Author.Tests.{ltb-true, ltb-false, eqb-true, eq-eqb, ne-eqb}
-use lib.Dec.{eqb, ltb}
+use lib.Dec.{ltb}
 use lib.ListN.{length}
 use Rattle.entries.specs.Entries.{entryAt, entryCount, entriesSound, regionEnd}
 use Rattle.opcode.specs.Decode.{decodeAt}
@@ -15,6 +15,7 @@ use Rattle.opcode.specs.declared.Decoded.the-variants.{Unserved, Past, At}
 use Rattle.opcode.specs.declared.instruction.Instruction.{Instruction}
 use Rattle.layout.specs.Cut.{Marks, updated, Cut, bad, cut, cutAt, cutFrom, thenCut, cutProcedures, cutOf, startsIn}
 use Rattle.opcode.proofs.Found.{ends}
+use Rattle.layout.proofs.Updates.{Change, changed, spared, change, updated-here, at-or-after}
 use Rattle.layout.proofs.Ordered.{firstOf, Rises, rises-first, rises-rest, Ordered, ordered}
 
 -- An instruction of procedure p stands at an offset of its region.
@@ -35,17 +36,14 @@ module _ (code : List ℕ) where
   AllPlaced marks = (q a : ℕ) → startsIn marks q a ≡ true → Placed code q a
 
   -- One mark more.
-  placed-at :
-      (b : Bool) (p at q a : ℕ) (m : ℕ) → eqb a at ≡ b → Placed code p at → (eqb m (q + 1) ≡ true → Placed code q a) →
-      eqb (cond b (p + 1) m) (q + 1) ≡ true → Placed code q a
-  placed-at true p at q a m e new old s =
-      let x : at ≡ a = sym (eqb-true a at e) in
-      let y : p ≡ q = omega (arith, eqb-true (p + 1) (q + 1) s) in
-      rw (x, y) at new
-  placed-at false p at q a m e new old s = old s
-
   placed-more : (marks : Marks) (p at : ℕ) → Placed code p at → AllPlaced marks → AllPlaced (updated marks at (p + 1))
-  placed-more marks p at new old q a = placed-at (eqb a at) p at q a (marks a) refl new (old q a)
+  placed-more marks p at new old q a s = by (change marks at (p + 1) a)
+    where
+      by : Change marks at (p + 1) a → Placed code q a
+      by (changed e f) =
+          let same : p ≡ q = omega (arith, eqb-true (p + 1) (q + 1) (rw f at s)) in
+          rw (e, ← same) new
+      by (spared e f) = old q a (rw f at s)
 
   module _ (p : ℕ) (h : p < entryCount code) where
     -- What cutting from an offset on makes of the marks.
@@ -68,7 +66,7 @@ module _ (code : List ℕ) where
     grown-one n at next i marks marks′ l d g = record {
       kept = λ a f. g .kept a (omega (arith, ends code (regionEnd code p) at d)) ∙ rw (ne-eqb a at (λ e. omega arith));
       placed = λ s. g .placed (placed-more marks p at (record { counted = h; below = l; decoded = (i, next, d) }) s);
-      first = λ some f. g .kept at (ends code (regionEnd code p) at d .0) ∙ rw (eq-eqb at at refl);
+      first = λ some f. g .kept at (ends code (regionEnd code p) at d .0) ∙ updated-here marks at (p + 1);
     }
 
     grown-step :
@@ -117,13 +115,6 @@ module _ (code : List ℕ) where
           entries = λ q l h. absurd (omega (arith, r .to));
         }
 
-    -- The procedure cut first is p, or a later one is looked at.
-    entry-at :
-        (p q : ℕ) (marks : Marks) (b : Bool) → ltb p q ≡ b → p ≤ q → marks (entryAt code p) ≡ p + 1 →
-        (p < q → marks (entryAt code q) ≡ q + 1) → marks (entryAt code q) ≡ q + 1
-    entry-at p q marks true e l now later = later (ltb-true p q e)
-    entry-at p q marks false e l now later = let s : p ≡ q = omega (arith, ltb-false p q e) in rw s at now
-
     cuts-more :
         (p n least : ℕ) (marks m marks′ : Marks) → Rises code p (suc n) least →
         cutFrom code p (length code) (entryAt code p) marks ≡ cut m → Cuts (p + 1) n m marks′ → Cuts p (suc n) marks marks′
@@ -136,7 +127,7 @@ module _ (code : List ℕ) where
           placed = λ s. c .placed (g .placed s);
           last = c .last;
           entries = λ q l k.
-              entry-at p q marks′ (ltb p q) refl l
+              at-or-after (λ (j : ℕ). marks′ (entryAt code j) ≡ j + 1) p q l
               (c .kept (entryAt code p) (omega (arith, f .0)) ∙ grown-entry p h marks m e)
               (λ (more : p < q). c .entries q (omega arith) k);
         }

@@ -1,12 +1,12 @@
 -- Marking in the workspace against cutting: the marks held are those of `cutOf`, or the numbers are the same; and marking changes no
 -- halfword but the fourth ones of code bytes.
 use mathlib.Core.Bool.{Bool, true, false, cond}
-use mathlib.Core.Path.{_≡_, refl, _∙_, fun-ext}
+use mathlib.Core.Path.{_≡_, refl, fun-ext}
 use mathlib.Core.List.{List}
 use Prim.Native.Nat.{ℕ, zero, suc, _+_, _*_, _-_, _<_, _≤_}
 use native.Mathlib.Omega.{arith}
-use borrow.Author.Tests.{ltb-true, eqb-true, eqb-false, lt-ltb}
-use lib.Dec.{eqb, ltb}
+use borrow.Author.Tests.{ltb-true, lt-ltb}
+use lib.Dec.{ltb}
 use lib.ListN.{length, getD, set, length-set}
 use lib.Seq.{getD-set-same, getD-set-other}
 use Rattle.entries.specs.Entries.{entryAt, entryCount, entriesSound, regionEnd}
@@ -16,41 +16,30 @@ use Rattle.opcode.specs.declared.Decoded.the-variants.{Unserved, Past, At}
 use Rattle.layout.specs.Cut.{Marks, updated, Cut, bad, cut, cutAt, cutFrom, thenCut, cutProcedures, cutOf}
 use Rattle.layout.specs.Workspace.{marksIn, markAt, markFrom, markRegion, thenMark, markProcedures, markAll}
 use Rattle.workspace.specs.Checking.{Checking, checking}
+use Rattle.words.proofs.Tests.{by-test}
+use Rattle.layout.proofs.Updates.{Change, changed, spared, change, Spares, spares-self, spares-then, spares-set}
 use Rattle.layout.proofs.Ordered.{ordered}
 
 -- A place is no mark of any region.
 abbrev Unmarked : List ℕ → ℕ → Type 0
 Unmarked code i = (p at : ℕ) → at < regionEnd code p → i ≡ 4 * at + 3 → ⊥
 
-record Keeps (code w w′ : List ℕ) : Type 0 where
-  long : length w′ ≡ length w
-  same : (i : ℕ) → Unmarked code i → getD w′ i 0 ≡ getD w i 0
+abbrev Keeps : (code w w′ : List ℕ) → Type 0
+Keeps code = Spares (Unmarked code)
 
 module _ (code : List ℕ) where
-  keeps-all : (w : List ℕ) → Keeps code w w
-  keeps-all w = record { long = refl; same = λ i u. refl }
-
-  keeps-then : (u v w : List ℕ) → Keeps code u v → Keeps code v w → Keeps code u w
-  keeps-then u v w a b = record { long = b .long ∙ a .long; same = λ i n. b .same i n ∙ a .same i n }
-
-  keeps-set : (p at x : ℕ) (w : List ℕ) → at < regionEnd code p → Keeps code w (set w (4 * at + 3) x)
-  keeps-set p at x w h = record {
-    long = length-set w (4 * at + 3) x;
-    same = λ i n. getD-set-other w (4 * at + 3) i x 0 (n p at h);
-  }
-
   keeps-at :
       (p at : ℕ) (w : List ℕ) (go : ℕ → List ℕ → Checking) (b : Bool) (d : Decoded) → ltb at (regionEnd code p) ≡ b →
       ((next : ℕ) (v : List ℕ) → Keeps code v (go next v .workspace)) →
       Keeps code w (cond b (markAt go p at w d) (checking 0 w) .workspace)
-  keeps-at p at w go false d t rest = keeps-all w
-  keeps-at p at w go true Unserved t rest = keeps-all w
-  keeps-at p at w go true Past t rest = keeps-all w
+  keeps-at p at w go false d t rest = spares-self w
+  keeps-at p at w go true Unserved t rest = spares-self w
+  keeps-at p at w go true Past t rest = spares-self w
   keeps-at p at w go true (At i next) t rest =
-      keeps-then w (set w (4 * at + 3) (p + 1)) _ (keeps-set p at (p + 1) w (ltb-true at (regionEnd code p) t)) (rest next _)
+      spares-then (spares-set w (4 * at + 3) (p + 1) (λ j u. u p at (ltb-true at (regionEnd code p) t))) (rest next (set w (4 * at + 3) (p + 1)))
 
   keeps-from : (p n at : ℕ) (w : List ℕ) → Keeps code w (markFrom code p n at w .workspace)
-  keeps-from p zero at w = keeps-all w
+  keeps-from p zero at w = spares-self w
   keeps-from p (suc n) at w =
       keeps-at p at w (markFrom code p n) (ltb at (regionEnd code p)) (decodeAt code (regionEnd code p) at) refl (keeps-from p n)
 
@@ -61,7 +50,7 @@ module _ (code : List ℕ) where
   keeps-next :
       (go : List ℕ → Checking) (n : ℕ) (v w : List ℕ) → Keeps code v w → ((w : List ℕ) → Keeps code w (go w .workspace)) →
       Keeps code v (thenMark go n w .workspace)
-  keeps-next go zero v w k rest = keeps-then v w _ k (rest w)
+  keeps-next go zero v w k rest = spares-then k (rest w)
   keeps-next go (suc n) v w k rest = k
 
   keeps-procedures : (n p : ℕ) (w : List ℕ) → Keeps code w (markProcedures code p n w .workspace)
@@ -83,19 +72,14 @@ module _ (code : List ℕ) where
     marking-keeps-others a k h = keeps .same (4 * a + k) (λ p at l e. omega arith)
 
 -- One mark written is one mark changed.
-marked-at :
-    (b : Bool) (w : List ℕ) (size at x a : ℕ) → eqb a at ≡ b → at < size → 4 * size ≤ length w →
-    marksIn (set w (4 * at + 3) x) size a ≡ cond b x (marksIn w size a)
-marked-at true w size at x a e h l =
-    let s : a ≡ at = eqb-true a at e in
-    rw (s, lt-ltb at size h) (getD-set-same w (4 * at + 3) x 0 (omega arith))
-marked-at false w size at x a e h l =
-    rw (getD-set-other w (4 * at + 3) (4 * a + 3) x 0 (λ s. eqb-false a at e (omega arith)))
-
 marked :
     (w : List ℕ) (size at x : ℕ) → at < size → 4 * size ≤ length w →
     marksIn (set w (4 * at + 3) x) size ≡ updated (marksIn w size) at x
-marked w size at x h l = fun-ext (λ a. marked-at (eqb a at) w size at x a refl h l)
+marked w size at x h l = fun-ext (λ a. by a (change (marksIn w size) at x a))
+  where
+    by : (a : ℕ) → Change (marksIn w size) at x a → marksIn (set w (4 * at + 3) x) size a ≡ updated (marksIn w size) at x a
+    by a (changed e f) = rw (f, e, lt-ltb at size h) (getD-set-same w (4 * at + 3) x 0 (omega arith))
+    by a (spared e f) = rw (f, getD-set-other w (4 * at + 3) (4 * a + 3) x 0 (λ s. e (omega arith)))
 
 -- A cut and what marking leaves say the same.
 data Same (size : ℕ) : Cut → Checking → Type 0 where
@@ -158,12 +142,9 @@ module _ (code : List ℕ) (s : entriesSound code ≡ true) where
       (same-procedures n (p + 1))
 
   module _ (w : List ℕ) (h : 4 * length code ≤ length w) (clean : (at : ℕ) → at < length code → getD w (4 * at + 3) 0 ≡ 0) where
-    unmarked-at : (b : Bool) (at : ℕ) → ltb at (length code) ≡ b → cond b (getD w (4 * at + 3) 0) 0 ≡ 0
-    unmarked-at true at e = clean at (ltb-true at (length code) e)
-    unmarked-at false at e = refl
-
     unmarked : marksIn w (length code) ≡ (λ at. 0)
-    unmarked = fun-ext (λ at. unmarked-at (ltb at (length code)) at refl)
+    unmarked = fun-ext λ at.
+        by-test (λ (m : ℕ). m ≡ 0) (ltb at (length code)) (getD w (4 * at + 3) 0) 0 (λ e. clean at (ltb-true at (length code) e)) (λ e. refl)
 
     same-all : Same (length code) (cutOf code) (markAll code w)
     unfolding cutOf markAll

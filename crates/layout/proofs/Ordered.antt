@@ -5,11 +5,12 @@ use mathlib.Core.Path.{_≡_, refl}
 use mathlib.Core.List.{List, [], _∷_, _++_}
 use Prim.Native.Nat.{ℕ, zero, suc, _+_, _-_, _/_, _%_, _<_, _≤_}
 use native.Mathlib.Omega.{arith}
-use borrow.Author.Tests.{ltb-true, ltb-false, leb-true, lt-ltb, le-ltb, ne-eqb}
+use borrow.Author.Tests.{ltb-true, leb-true, lt-ltb, le-ltb, ne-eqb}
 use lib.Dec.{eqb, ltb, leb}
 use lib.ListN.{length}
 use Rattle.words.specs.Order.{risingFrom}
 use Rattle.entries.specs.Entries.{entryAt, entryCount, countSound, entriesFrom, entriesInOrder, entriesSound, regionEnd}
+use Rattle.layout.proofs.Updates.{at-or-after}
 
 -- The first entry of n procedures from p on and procedure 0.
 abbrev pub firstOf : List ℕ → ℕ → ℕ → ℕ
@@ -60,14 +61,10 @@ module _ (code : List ℕ) where
       let e = region-next p n least r in
       record { ahead = omega (arith, next .0, e); within = rises-first p (suc n) least r .1 }
 
-  -- One of the procedures from p on: p, or a later one.
-  entered-at : (p q : ℕ) (b : Bool) → ltb p q ≡ b → p ≤ q → Entered p → (p < q → Entered q) → Entered q
-  entered-at p q true e l now later = later (ltb-true p q e)
-  entered-at p q false e l now later = let s : p ≡ q = omega (arith, ltb-false p q e) in rw s at now
-
   entered : (p n least : ℕ) → Rises code p n least → (q : ℕ) → p ≤ q → q < entryCount code → Entered q
   entered p zero least r q l h = absurd (omega (arith, r .to))
-  entered p (suc n) least r q l h = entered-at p q (ltb p q) refl l (entered-first p n least r)
+  entered p (suc n) least r q l h =
+      at-or-after Entered p q l (entered-first p n least r)
       (λ (more : p < q). entered (p + 1) n (entryAt code p + 1) (rises-rest p n least r) q (omega arith) h)
 
   last-within : (p n least : ℕ) → Rises code p n least → entryAt code 0 < length code

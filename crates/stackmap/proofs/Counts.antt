@@ -1,16 +1,13 @@
 -- How many offsets are not done: a visit lowers it and nothing raises it, so it bounds the visits. The search for a waiting offset
 -- finds one that waits, or none does.
-use mathlib.Core.Bool.{Bool, true, false}
 use mathlib.Core.List.{List}
-use mathlib.Core.Path.{_≡_, refl, _∙_}
+use mathlib.Core.Path.{_≡_, refl, ap, _∙_}
 use Prim.Native.Nat.{ℕ, zero, suc, _+_, _≤_, _<_}
 use native.Mathlib.Omega.{arith}
-use lib.Dec.{eqb}
-use borrow.Author.Tests.{eqb-true, eqb-false}
 use Rattle.layout.specs.Cut.{updated}
 use Rattle.stackmap.specs.Slots.{Slot}
 use Rattle.stackmap.specs.Walk.{State, blank, waiting, done, States, Found, nowhere, found, orLater, waitingFrom}
-use Rattle.stackmap.proofs.Updates.{Change, changed, spared, change, updated-here}
+use Rattle.layout.proofs.Updates.{Change, changed, spared, change, updated-here, at-or-after}
 
 abbrev pub undoneIn : State → ℕ
 undoneIn blank = 1
@@ -42,32 +39,37 @@ module _ (σ τ : States) (stays : (at : ℕ) (l : List Slot) → σ at ≡ done
 
   pub undone-drops : (at : ℕ) (l k : List Slot) → σ at ≡ waiting l → τ at ≡ done k → (n : ℕ) → at < n → undone τ n < undone σ n
   undone-drops at l k w d zero h = absurd (omega arith)
-  undone-drops at l k w d (suc n) h = by (undone-drops at l k w d n) (eqb at n) refl
-    where
-      by : (at < n → undone τ n < undone σ n) → (b : Bool) → eqb at n ≡ b → undone τ (suc n) < undone σ (suc n)
-      by go true e =
-          let same : at ≡ n = eqb-true at n e in
-          let before : undoneIn (σ n) ≡ 1 = rw (← same, w) in
-          let now : undoneIn (τ n) ≡ 0 = rw (← same, d) in
-          omega (arith, undone-lower n)
-      by go false e =
-          let other : (at ≡ n → ⊥) = eqb-false at n e in
-          omega (arith, go (omega arith), one-lower n (σ n) refl)
+  undone-drops at l k w d (suc n) h =
+      let before : undoneIn (σ at) ≡ 1 = rw w in
+      let now : undoneIn (τ at) ≡ 0 = rw d in
+      at-or-after (λ (m : ℕ). undone τ (suc m) < undone σ (suc m)) at n (omega arith) (omega (arith, undone-lower at))
+      (λ (b : at < n). omega (arith, undone-drops at l k w d n b, one-lower n (σ n) refl))
 
--- A waiting offset that is made done leaves the others done.
-pub done-stays : (σ : States) (at : ℕ) (l : List Slot) → σ at ≡ waiting l → (a : ℕ) (k : List Slot) → σ a ≡ done k
-    → updated σ at (done l) a ≡ done k
-done-stays σ at l w a k d = by (change σ at (done l) a)
+-- A change of an offset that is not done leaves those that are.
+pub done-stays : (σ : States) (t : ℕ) (x : State) → undoneIn (σ t) ≡ 1 → (a : ℕ) (k : List Slot) → σ a ≡ done k
+    → updated σ t x a ≡ done k
+done-stays σ t x u a k d = by (change σ t x a)
   where
-    by : Change σ at (done l) a → updated σ at (done l) a ≡ done k
+    by : Change σ t x a → updated σ t x a ≡ done k
     by (changed e q) =
-        let here : σ at ≡ done k = rw (← e) d in
-        cc
+        let here : undoneIn (σ t) ≡ 0 = rw (← e, d) in
+        absurd (omega arith)
     by (spared e q) = q ∙ d
 
 pub undone-waits : (σ : States) (n at : ℕ) (l : List Slot) → undone σ n ≤ 0 → at < n → σ at ≡ waiting l → ⊥
 undone-waits σ n at l z h w =
-    let less = undone-drops σ (updated σ at (done l)) (done-stays σ at l w) at l l w (updated-here σ at (done l)) n h in
+    let less = undone-drops σ (updated σ at (done l)) (done-stays σ at (done l) (ap undoneIn w)) at l l w (updated-here σ at (done l)) n h in
+    omega arith
+
+-- An offset that is blank or done does not wait.
+pub blank-waits : {s : State} {l : List Slot} → s ≡ blank → s ≡ waiting l → ⊥
+blank-waits e g =
+    let z : _≡_ {A = ℕ} 0 1 = cc in
+    omega arith
+
+pub done-waits : {s : State} {k l : List Slot} → s ≡ done k → s ≡ waiting l → ⊥
+done-waits e g =
+    let z : _≡_ {A = ℕ} 0 1 = cc in
     omega arith
 
 -- What a search of n offsets from one on finds.
@@ -78,21 +80,14 @@ pub data Seen (σ : States) (at n : ℕ) : Found → Type 0 where
 seen-next : (σ : States) (at n : ℕ) → ((l : List Slot) → σ at ≡ waiting l → ⊥) → {f : Found} → Seen σ (at + 1) n f
     → Seen σ at (suc n) f
 seen-next σ at n free (sees w) = sees w
-seen-next σ at n free (clear c) = clear λ i l g h w. by i l g h w (eqb i at) refl
-  where
-    by : (i : ℕ) (l : List Slot) → at ≤ i → i < at + suc n → σ i ≡ waiting l → (b : Bool) → eqb i at ≡ b → ⊥
-    by i l g h w true e =
-        let same : i ≡ at = eqb-true i at e in
-        free l (rw (← same) w)
-    by i l g h w false e =
-        let other : (i ≡ at → ⊥) = eqb-false i at e in
-        c i l (omega arith) (omega arith) w
+seen-next σ at n free (clear c) = clear λ i l g h w.
+    at-or-after (λ (j : ℕ). σ j ≡ waiting l → ⊥) at i g (free l) (λ (b : at < i). c i l (omega arith) (omega arith)) w
 
 pub seen : (σ : States) (at n : ℕ) → Seen σ at n (waitingFrom σ at n)
 seen σ at zero = clear λ i l g h w. omega arith
 seen σ at (suc n) = by (seen σ (at + 1) n) (σ at) refl
   where
     by : {f : Found} → Seen σ (at + 1) n f → (s : State) → σ at ≡ s → Seen σ at (suc n) (orLater at f s)
-    by S blank e = seen-next σ at n (λ l w. let z : _≡_ {A = ℕ} 0 1 = cc in absurd (omega arith)) S
+    by S blank e = seen-next σ at n (λ l w. blank-waits e w) S
     by S (waiting l) e = sees e
-    by S (done k) e = seen-next σ at n (λ l w. let z : _≡_ {A = ℕ} 0 1 = cc in absurd (omega arith)) S
+    by S (done k) e = seen-next σ at n (λ l w. done-waits e w) S

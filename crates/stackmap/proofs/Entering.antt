@@ -1,25 +1,23 @@
 -- At first the entries wait with their parameter words, and no other offset has a list: marks name one procedure an offset, so that
 -- different procedures have different entries.
-use mathlib.Core.Bool.{Bool, true, false}
 use mathlib.Core.List.{List}
-use mathlib.Core.Option.{some}
-use mathlib.Core.Path.{_≡_, refl, sym, _∙_}
+use mathlib.Core.Option.{some, Option·none-ne-some}
+use mathlib.Core.Path.{_≡_, sym, _∙_}
 use Prim.Native.Nat.{ℕ, zero, suc, _+_, _-_, _≤_, _<_}
 use native.Mathlib.Omega.{arith}
 use lib.Dec.{eqb}
 use lib.ListN.{length}
-use borrow.Author.Tests.{eqb-true, eqb-false}
 use Rattle.words.specs.Bytes.{byteAt, Bytes}
 use Rattle.entries.specs.Entries.{entryAt, entryCount}
 use Rattle.layout.specs.Cut.{updated}
 use Rattle.stackmap.specs.Slots.{Slot}
 use Rattle.stackmap.specs.Ways.{Module, parametersIn}
 use Rattle.stackmap.specs.StackMap.{firstSlots, entered}
-use Rattle.stackmap.specs.Walk.{blank, waiting, done, States, mapOf, entriesWait}
+use Rattle.stackmap.specs.Walk.{blank, waiting, done, States, mapOf, entriesWait, firstStates}
 use Rattle.stackmap.specs.Theorems.{Sound}
 use Rattle.words.proofs.Tests.{either}
 use Rattle.stackmap.proofs.Pushing.{words-height}
-use Rattle.stackmap.proofs.Updates.{Change, changed, spared, change, updated-here}
+use Rattle.layout.proofs.Updates.{Change, changed, spared, change, updated-here, at-or-after}
 use Rattle.stackmap.proofs.Placing.{owned, Placed, AllPlaced, placed, placed-update, waiting-early}
 
 -- The parameter words of an entry are a byte.
@@ -28,6 +26,10 @@ parameters-few code bytes p =
     let b = bytes (entryAt code p + 1) in
     either (λ (k : ℕ). k ≤ 255) (eqb p 0) 0 (byteAt code (entryAt code p + 1)) (omega arith) (omega arith)
 
+-- Procedure p's entry is made to wait.
+abbrev pub entering : Module → ℕ → States → States
+entering M p σ = updated σ (entryAt (M .code) p) (waiting (firstSlots M p))
+
 module _ (M : Module) (S : Sound M) where
   first-short : (p : ℕ) → length (firstSlots M p) ≤ 255
   first-short p = rw (words-height (parametersIn (M .code) p)) (parameters-few (M .code) (S .bytes) p)
@@ -35,21 +37,17 @@ module _ (M : Module) (S : Sound M) where
   first-placed : (p : ℕ) → p < entryCount (M .code) → Placed M (entryAt (M .code) p) (firstSlots M p)
   first-placed p h = placed M p (entryAt (M .code) p) (firstSlots M p) (S .entries p h) (first-short p) entered
 
-  -- Procedure p's entry is made to wait.
-  abbrev pub entering : ℕ → States → States
-  entering p σ = updated σ (entryAt (M .code) p) (waiting (firstSlots M p))
-
   -- Procedure q's entry has its list.
   abbrev Has : States → ℕ → Type 0
   Has σ q = mapOf σ (entryAt (M .code) q) ≡ some (firstSlots M q)
 
-  has-one : (p : ℕ) (σ : States) → Has (entering p σ) p
+  has-one : (p : ℕ) (σ : States) → Has (entering M p σ) p
   has-one p σ = rw (updated-here σ (entryAt (M .code) p) (waiting (firstSlots M p)))
 
-  has-kept : (p q : ℕ) (σ : States) → p < entryCount (M .code) → q < entryCount (M .code) → Has σ q → Has (entering p σ) q
+  has-kept : (p q : ℕ) (σ : States) → p < entryCount (M .code) → q < entryCount (M .code) → Has σ q → Has (entering M p σ) q
   has-kept p q σ g h H = by (change σ (entryAt (M .code) p) (waiting (firstSlots M p)) (entryAt (M .code) q))
     where
-      by : Change σ (entryAt (M .code) p) (waiting (firstSlots M p)) (entryAt (M .code) q) → Has (entering p σ) q
+      by : Change σ (entryAt (M .code) p) (waiting (firstSlots M p)) (entryAt (M .code) q) → Has (entering M p σ) q
       by (changed s e) =
           let one = owned M p (entryAt (M .code) p) (S .entries p g) in
           let two = owned M q (entryAt (M .code) q) (S .entries q h) in
@@ -61,51 +59,40 @@ module _ (M : Module) (S : Sound M) where
     pub sane : AllPlaced M σ
     pub fresh : (at : ℕ) (l : List Slot) → σ at ≡ done l → ⊥
 
-  enter : (p : ℕ) (σ : States) → p < entryCount (M .code) → Entered σ → Entered (entering p σ)
+  enter : (p : ℕ) (σ : States) → p < entryCount (M .code) → Entered σ → Entered (entering M p σ)
   enter p σ h E =
       record {
         sane = placed-update M σ (entryAt (M .code) p) (firstSlots M p) (E .sane) (first-placed p h);
         fresh = λ at l d. E .fresh at l (waiting-early σ (entryAt (M .code) p) (firstSlots M p) at l d);
       }
 
-  pub enter-all : (n p : ℕ) (σ : States) → p + n ≤ entryCount (M .code) → Entered σ → Entered (entriesWait M p n σ)
-  enter-all zero p σ h E = enter 0 σ (S .counted) E
-  enter-all (suc n) p σ h E = enter-all n (p + 1) (entering p σ) (omega arith) (enter p σ (omega arith) E)
-
-  all-kept : (n p q : ℕ) (σ : States) → p + n ≤ entryCount (M .code) → q < entryCount (M .code) → Has σ q → Has (entriesWait M p n σ) q
-  all-kept zero p q σ h g H = has-kept 0 q σ (S .counted) g H
-  all-kept (suc n) p q σ h g H = all-kept n (p + 1) q (entering p σ) (omega arith) g (has-kept p q σ (omega arith) g H)
+  -- What each entry that is made to wait leaves, all leave.
+  enter-all : (P : States → Type 0) → ((p : ℕ) (σ : States) → p < entryCount (M .code) → P σ → P (entering M p σ))
+      → (n p : ℕ) (σ : States) → p + n ≤ entryCount (M .code) → P σ → P (entriesWait M p n σ)
+  enter-all P one zero p σ h x = one 0 σ (S .counted) x
+  enter-all P one (suc n) p σ h x = enter-all P one n (p + 1) (entering M p σ) (omega arith) (one p σ (omega arith) x)
 
   has-zero : (n p : ℕ) (σ : States) → Has (entriesWait M p n σ) 0
   has-zero zero p σ = has-one 0 σ
-  has-zero (suc n) p σ = has-zero n (p + 1) (entering p σ)
+  has-zero (suc n) p σ = has-zero n (p + 1) (entering M p σ)
 
   -- Those of n procedures from p on.
   has-all : (n p q : ℕ) (σ : States) → p + n ≤ entryCount (M .code) → p ≤ q → q < p + n → Has (entriesWait M p n σ) q
   has-all zero p q σ h a b = absurd (omega arith)
-  has-all (suc n) p q σ h a b = by (has-all n (p + 1) q (entering p σ) (omega arith)) (eqb p q) refl
-    where
-      by : (p + 1 ≤ q → q < p + 1 + n → Has (entriesWait M p (suc n) σ) q) → (t : Bool) → eqb p q ≡ t → Has (entriesWait M p (suc n) σ) q
-      by go true e =
-          let same : p ≡ q = eqb-true p q e in
-          all-kept n (p + 1) q (entering p σ) (omega arith) (omega arith) (rw same (has-one q σ))
-      by go false e =
-          let other : (p ≡ q → ⊥) = eqb-false p q e in
-          go (omega arith) (omega arith)
+  has-all (suc n) p q σ h a b =
+      at-or-after (Has (entriesWait M p (suc n) σ)) p q a
+      (enter-all (λ (τ : States). Has τ p) (λ o τ g. has-kept o p τ g (omega arith)) n (p + 1) (entering M p σ) (omega arith) (has-one p σ))
+      (λ (more : p < q). has-all n (p + 1) q (entering M p σ) (omega arith) (omega arith) (omega arith))
 
-  -- The first state.
-  abbrev pub atFirst : States
-  atFirst = entriesWait M 1 (entryCount (M .code) - 1) (λ at. blank)
-
-  pub first-entered : Entered atFirst
+  pub first-entered : Entered (firstStates M)
   first-entered =
-      enter-all (entryCount (M .code) - 1) 1 (λ at. blank) (omega (arith, S .counted))
+      enter-all Entered enter (entryCount (M .code) - 1) 1 (λ at. blank) (omega (arith, S .counted))
       (record {
-        sane = λ at l e. let z : _≡_ {A = ℕ} 0 1 = cc in absurd (omega arith);
+        sane = λ at l e. absurd (Option·none-ne-some l e);
         fresh = λ at l e. let z : _≡_ {A = ℕ} 0 1 = cc in absurd (omega arith);
       })
 
-  pub first-has : (q : ℕ) → q < entryCount (M .code) → Has atFirst q
+  pub first-has : (q : ℕ) → q < entryCount (M .code) → Has (firstStates M) q
   first-has zero h = has-zero (entryCount (M .code) - 1) 1 (λ at. blank)
   first-has (suc q) h =
       has-all (entryCount (M .code) - 1) 1 (suc q) (λ at. blank) (omega (arith, S .counted)) (omega arith) (omega arith)

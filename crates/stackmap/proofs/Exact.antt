@@ -10,19 +10,19 @@ use Rattle.layout.specs.Cut.{startsIn}
 use Rattle.stackmap.specs.Slots.{Slot}
 use Rattle.stackmap.specs.Ways.{Module}
 use Rattle.stackmap.specs.StackMap.{firstSlots, Obeys}
-use Rattle.stackmap.specs.Walk.{State, blank, waiting, done, States, slotsIn, mapOf, walkOf}
+use Rattle.stackmap.specs.Walk.{State, blank, waiting, done, States, slotsIn, mapOf, firstStates, walkOf}
 use Rattle.stackmap.specs.Theorems.{Sound, mapIn, FindsMaps, RefutesMaps, FindsReached, HasReached}
 use Rattle.stackmap.proofs.Counts.{undone-most}
 use Rattle.stackmap.proofs.Reaching.{reached-in}
 use Rattle.stackmap.proofs.Placing.{owner, owned, in-given, in-told}
 use Rattle.stackmap.proofs.Handing.{Ends, broken, ends-map, ends-some}
 use Rattle.stackmap.proofs.Walking.{Good, Refuted, walking}
-use Rattle.stackmap.proofs.Entering.{atFirst, first-entered, first-has}
+use Rattle.stackmap.proofs.Entering.{first-entered, first-has}
 
-record Final (M : Module) (σ : States) : Type 0 where
-  good : Good M σ
-  idle : (at : ℕ) (l : List Slot) → σ at ≡ waiting l → ⊥
-  entries : (p : ℕ) → p < entryCount (M .code) → mapOf σ (entryAt (M .code) p) ≡ some (firstSlots M p)
+pub record Final (M : Module) (σ : States) : Type 0 where
+  pub good : Good M σ
+  pub idle : (at : ℕ) (l : List Slot) → σ at ≡ waiting l → ⊥
+  pub entries : (p : ℕ) → p < entryCount (M .code) → mapOf σ (entryAt (M .code) p) ≡ some (firstSlots M p)
 
 whole : (M : Module) → Sound M → Ends (Refuted M) (Final M) (walkOf M)
 unfolding walkOf
@@ -35,13 +35,13 @@ whole M S =
       idle = W .idle;
       entries = λ p h. W .later .kept (entryAt (M .code) p) (firstSlots M p) (first-has M S p h);
     })
-    (walking M S (length (M .code)) (atFirst M S) (record { sane = E .sane; passed = λ at l d. absurd (E .fresh at l d) })
-    (undone-most (atFirst M S) (length (M .code))))
+    (walking M S (length (M .code)) (firstStates M) (record { sane = E .sane; passed = λ at l d. absurd (E .fresh at l d) })
+    (undone-most (firstStates M) (length (M .code))))
 
 ends-none : {Bad : Type 0} {P : States → Type 0} → Ends Bad P none → Bad
 ends-none (broken b) = b
 
-final : (M : Module) → Sound M → (σ : States) → walkOf M ≡ some σ → Final M σ
+pub final : (M : Module) → Sound M → (σ : States) → walkOf M ≡ some σ → Final M σ
 final M S σ e = ends-some (subst (Ends (Refuted M) (Final M)) e (whole M S))
 
 -- What is given and does not wait is done.

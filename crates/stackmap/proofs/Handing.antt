@@ -1,6 +1,6 @@
 -- Handing out the ways of a reached instruction: each is then given in its region, or the region has no map. What is given stays
 -- given and is reached.
-use mathlib.Core.Bool.{Bool, true, false, cond, _&&_}
+use mathlib.Core.Bool.{Bool, true, false, cond, _&&_, true≢false}
 use mathlib.Core.List.{List, [], _∷_}
 use mathlib.Core.Option.{Option, none, some}
 use mathlib.Core.Path.{_≡_, refl, ap, _∙_}
@@ -15,7 +15,8 @@ use Rattle.stackmap.specs.StackMap.{Map, Gives, given-all, given-one, Is
 use Rattle.stackmap.specs.Walk.{State, blank, waiting, done, States, mapOf, taken, thenHand, handedAll}
 use Rattle.stackmap.specs.Theorems.{mapIn}
 use Rattle.words.proofs.Tests.{both-true}
-use Rattle.stackmap.proofs.Updates.{updated-here, not-both, true-both, slots-equal, slots-same}
+use Rattle.layout.proofs.Updates.{updated-here}
+use Rattle.stackmap.proofs.Comparing.{slots-equal, slots-same}
 use Rattle.stackmap.proofs.Reaching.{reached-in}
 use Rattle.stackmap.proofs.Placing.{AllPlaced, placed, placed-reached, placed-update, Later, later-self, later-later, blank-later, waiting-early, in-given, gives-later}
 
@@ -68,7 +69,7 @@ module _ (M : Module) (p : ℕ) (σ : States) (P : AllPlaced M σ) (t : ℕ) (l 
         let one = reached-in M p π m t l r in
         let two = reached-in M p π m t k (placed-reached M p t k h (P t k e)) in
         let same : k ≡ l = cc in
-        not-both (slots-same l) (rw same at q)
+        true≢false (rw (same, slots-same l) at q)
 
     offered : length l ≤ 255 → (s : State) → σ t ≡ s → Ends (NoMap M p) (Handed M p (t gets l ∷ []) σ) (taken σ t l s)
     offered s blank e = went (took s e)
@@ -82,7 +83,7 @@ module _ (M : Module) (p : ℕ) (σ : States) (P : AllPlaced M σ) (t : ℕ) (l 
       offered (b .0) (leb-true (length l) 255 (b .1)) (σ t) refl
   one false e = broken λ π m.
       let o = m .obeys t l (reached-in M p π m t l r) in
-      not-both (true-both (o .start) (le-leb (length l) 255 (o .short))) e
+      true≢false (rw (o .start, le-leb (length l) 255 (o .short)) at e)
 
 gives-first : {π : Map} {w : Way} {ws : List Way} → Gives π (w ∷ []) → Gives π ws → Gives π (w ∷ ws)
 gives-first (given-one e g) h = given-one e h

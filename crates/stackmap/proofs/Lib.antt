@@ -1,5 +1,5 @@
 -- The walk decides: what it finds are maps of just what is reached, and where it breaks a region has none.
-pub mod Updates
+pub mod Comparing
 pub mod Counts
 pub mod Reaching
 pub mod Placing

@@ -3,7 +3,7 @@
 use mathlib.Core.Bool.{Bool, true, false, cond}
 use mathlib.Core.List.{List}
 use mathlib.Core.Option.{Option, none, some}
-use mathlib.Core.Path.{_≡_, refl, sym, _∙_}
+use mathlib.Core.Path.{_≡_, refl, sym, ap, _∙_}
 use Prim.Native.Nat.{ℕ, _+_, _-_, _≤_}
 use native.Mathlib.Omega.{arith}
 use lib.ListN.{length}
@@ -11,10 +11,11 @@ use borrow.Author.Tests.{eqb-true}
 use Rattle.layout.specs.Cut.{updated, startsIn}
 use Rattle.stackmap.specs.Slots.{Slot}
 use Rattle.stackmap.specs.Ways.{Module, Way}
-use Rattle.stackmap.specs.StackMap.{Gives, given-all, given-one, Reached}
-use Rattle.stackmap.specs.Walk.{blank, waiting, done, States, mapOf}
+use Rattle.stackmap.specs.StackMap.{Map, Gives, given-all, given-one, Reached}
+use Rattle.stackmap.specs.Walk.{State, blank, waiting, done, States, slotsIn, mapOf}
 use Rattle.stackmap.specs.Theorems.{mapIn}
-use Rattle.stackmap.proofs.Updates.{Change, changed, spared, change}
+use Rattle.layout.proofs.Updates.{Change, changed, spared, change}
+use Rattle.stackmap.proofs.Counts.{undoneIn, done-stays}
 
 -- The procedure in whose region a start lies.
 abbrev pub owner : Module → ℕ → ℕ
@@ -22,6 +23,10 @@ owner M at = M .marks at - 1
 
 pub owned : (M : Module) (p at : ℕ) → startsIn (M .marks) p at ≡ true → owner M at ≡ p
 owned M p at h = omega (arith, eqb-true (M .marks at) (p + 1) h)
+
+-- What is given stays given.
+abbrev pub Grows : Map → Map → Type 0
+Grows π ρ = (at : ℕ) (l : List Slot) → π at ≡ some l → ρ at ≡ some l
 
 -- What every state has: starts alone are given lists, short ones that are reached.
 pub record Placed (M : Module) (at : ℕ) (l : List Slot) : Type 0 where
@@ -41,19 +46,35 @@ module _ (M : Module) (p at : ℕ) (l : List Slot) (h : startsIn (M .marks) p at
   pub placed-reached : Placed M at l → Reached M p at l
   placed-reached P = rw (owned M p at h) at (P .reached)
 
+-- An offset is given a list: what holds of that one and of those given before holds of all; and what is given stays given, where the
+-- offset had none or had that one.
+module _ (σ : States) (t : ℕ) (s : State) (k : List Slot) (has : slotsIn s ≡ some k) where
+  pub told-change : (P : ℕ → List Slot → Type 0) → P t k → ((a : ℕ) (l : List Slot) → mapOf σ a ≡ some l → P a l)
+      → (a : ℕ) (l : List Slot) → mapOf (updated σ t s) a ≡ some l → P a l
+  told-change P new old a l e = by (change σ t s a)
+    where
+      by : Change σ t s a → P a l
+      by (changed g q) =
+          let same : k ≡ l = cc in
+          rw (g, ← same) new
+      by (spared g q) = old a l (cc)
+
+  pub grows-change : ((l : List Slot) → mapOf σ t ≡ some l → l ≡ k) → Grows (mapOf σ) (mapOf (updated σ t s))
+  grows-change fits a l e = by (change σ t s a)
+    where
+      by : Change σ t s a → mapOf (updated σ t s) a ≡ some l
+      by (changed g q) =
+          let same : l ≡ k = fits l (rw (← g) e) in
+          rw (q, same) has
+      by (spared g q) = rw q e
+
 pub placed-update : (M : Module) (σ : States) (at : ℕ) (l : List Slot) → AllPlaced M σ → Placed M at l
     → AllPlaced M (updated σ at (waiting l))
-placed-update M σ at l P p a k e = by (change σ at (waiting l) a)
-  where
-    by : Change σ at (waiting l) a → Placed M a k
-    by (changed s q) =
-        let list : l ≡ k = cc in
-        rw (s, ← list) p
-    by (spared s q) = P a k (cc)
+placed-update M σ at l P p = told-change σ at (waiting l) l refl (Placed M) p P
 
 -- A later state has what an earlier one gave, and its done offsets.
 pub record Later (σ τ : States) : Type 0 where
-  pub kept : (at : ℕ) (l : List Slot) → mapOf σ at ≡ some l → mapOf τ at ≡ some l
+  pub kept : Grows (mapOf σ) (mapOf τ)
   pub stays : (at : ℕ) (l : List Slot) → σ at ≡ done l → τ at ≡ done l
 
 pub later-self : (σ : States) → Later σ σ
@@ -64,21 +85,12 @@ later-later L K =
     record { kept = λ at l e. K .kept at l (L .kept at l e); stays = λ at l e. K .stays at l (L .stays at l e) }
 
 -- A blank offset is given a list.
-module _ (σ : States) (t : ℕ) (l : List Slot) (b : σ t ≡ blank) where
-  blank-kept : (at : ℕ) (k : List Slot) → mapOf σ at ≡ some k → Change σ t (waiting l) at → mapOf (updated σ t (waiting l)) at ≡ some k
-  blank-kept at k e (changed s q) = cc
-  blank-kept at k e (spared s q) = rw q e
-
-  blank-stays : (at : ℕ) (k : List Slot) → σ at ≡ done k → Change σ t (waiting l) at → updated σ t (waiting l) at ≡ done k
-  blank-stays at k e (changed s q) = cc
-  blank-stays at k e (spared s q) = q ∙ e
-
-  pub blank-later : Later σ (updated σ t (waiting l))
-  blank-later =
-      record {
-        kept = λ at k e. blank-kept at k e (change σ t (waiting l) at);
-        stays = λ at k e. blank-stays at k e (change σ t (waiting l) at);
-      }
+pub blank-later : (σ : States) (t : ℕ) (l : List Slot) → σ t ≡ blank → Later σ (updated σ t (waiting l))
+blank-later σ t l b =
+    record {
+      kept = grows-change σ t (waiting l) l refl (λ k e. cc);
+      stays = done-stays σ t (waiting l) (ap undoneIn b);
+    }
 
 -- A list is given, and nothing is done thereby.
 pub waiting-early : (σ : States) (t : ℕ) (l : List Slot) (at : ℕ) (k : List Slot) → updated σ t (waiting l) at ≡ done k → σ at ≡ done k

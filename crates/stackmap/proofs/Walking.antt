@@ -2,7 +2,7 @@
 -- or some region has no map.
 use mathlib.Core.List.{List}
 use mathlib.Core.Option.{Option, none, some}
-use mathlib.Core.Path.{_≡_, refl, sym, _∙_}
+use mathlib.Core.Path.{_≡_, refl, sym, ap, _∙_}
 use Prim.Native.Nat.{ℕ, zero, suc, _≤_, _<_}
 use native.Mathlib.Omega.{arith}
 use lib.ListN.{length}
@@ -11,12 +11,12 @@ use Rattle.layout.specs.Cut.{updated}
 use Rattle.stackmap.specs.Slots.{Slot}
 use Rattle.stackmap.specs.Ways.{Module, Way}
 use Rattle.stackmap.specs.StackMap.{Gives, stepped, waysAt}
-use Rattle.stackmap.specs.Walk.{waiting, done, States, mapOf, passed, visited, Found, found, visitNext, walk}
+use Rattle.stackmap.specs.Walk.{waiting, done, States, passed, visited, Found, found, visitNext, walk}
 use Rattle.stackmap.specs.Theorems.{Sound, mapIn}
-use Rattle.stackmap.proofs.Updates.{Change, changed, spared, change, updated-here}
-use Rattle.stackmap.proofs.Counts.{undone, undone-drops, undone-waits, done-stays, Seen, clear, sees, seen}
+use Rattle.layout.proofs.Updates.{Change, changed, spared, change, updated-here}
+use Rattle.stackmap.proofs.Counts.{undoneIn, undone, undone-drops, undone-waits, done-stays, Seen, clear, sees, seen}
 use Rattle.stackmap.proofs.Reaching.{reached-in}
-use Rattle.stackmap.proofs.Placing.{owner, Placed, AllPlaced, Later, later-self, later-later, gives-later}
+use Rattle.stackmap.proofs.Placing.{owner, Placed, AllPlaced, told-change, grows-change, Later, later-self, later-later, gives-later}
 use Rattle.stackmap.proofs.Handing.{Ends, broken, went, ends-then, ends-map, NoMap, Handed, handing}
 
 -- A done offset has passed its list on.
@@ -38,19 +38,15 @@ record Visited (M : Module) (σ : States) (at : ℕ) (l : List Slot) (τ : State
   finished : τ at ≡ done l
 
 module _ (M : Module) (S : Sound M) (σ : States) (G : Good M σ) (at : ℕ) (l : List Slot) (w : σ at ≡ waiting l) where
-  same-list : (a : ℕ) → Change σ at (done l) a → mapOf (updated σ at (done l)) a ≡ mapOf σ a
-  same-list a (changed s q) = cc
-  same-list a (spared s q) = rw q
+  this : Placed M at l
+  this = G .sane at l (rw w)
 
   marked : Later σ (updated σ at (done l))
   marked =
-      record { kept = λ a k e. same-list a (change σ at (done l) a) ∙ e; stays = done-stays σ at l w }
+      record { kept = grows-change σ at (done l) l refl (λ k e. cc); stays = done-stays σ at (done l) (ap undoneIn w) }
 
   marked-sane : AllPlaced M (updated σ at (done l))
-  marked-sane a k e = G .sane a k (sym (same-list a (change σ at (done l) a)) ∙ e)
-
-  this : Placed M at l
-  this = G .sane at l (rw w)
+  marked-sane = told-change σ at (done l) l refl (Placed M) this (G .sane)
 
   handed-on : (out : List Way) → waysAt M (owner M at) at l ≡ some out → (τ : States)
       → Handed M (owner M at) out (updated σ at (done l)) τ → Visited M σ at l τ

@@ -84,5 +84,9 @@ abbrev pub entriesWait : Module → ℕ → ℕ → States → States
 entriesWait M p zero σ = updated σ (entryAt (M .code) 0) (waiting (firstSlots M 0))
 entriesWait M p (suc n) σ = entriesWait M (p + 1) n (updated σ (entryAt (M .code) p) (waiting (firstSlots M p)))
 
+-- All entries wait, and no other offset has a list.
+abbrev pub firstStates : Module → States
+firstStates M = entriesWait M 1 (entryCount (M .code) - 1) (λ at. blank)
+
 unfoldable pub walkOf : Module → Option States
-walkOf M = walk M (length (M .code)) (entriesWait M 1 (entryCount (M .code) - 1) (λ at. blank))
+walkOf M = walk M (length (M .code)) (firstStates M)

@@ -1,6 +1,6 @@
 -- The ways over heights and topmost labels stand for the ways over lists, shape by shape: height and topmost label decide whether an
 -- instruction finds what it pops, and what it leaves.
-use mathlib.Core.Bool.{Bool, true, false, cond, _&&_}
+use mathlib.Core.Bool.{Bool, true, false, cond, _&&_, and-false}
 use mathlib.Core.List.{List, [], _∷_}
 use mathlib.Core.Option.{Option, none, some}
 use mathlib.Core.Path.{_≡_, refl, sym, _∙_, subst⁻¹}
@@ -26,7 +26,7 @@ use Rattle.compact.specs.Tops.{top, originUnder, poppable, labelled, lowered, l
 use Rattle.compact_ways.specs.Ways.{way, toward, inOrder, straightWays, dropWays, branchWays, keepWays, loopWays, againFrom, againWays, exitFrom, exitWays, selectWays, returnWays, waysTop}
 use Rattle.verifier.proofs.Coherence.{Lies, on-loop, on-select, Coherent, on-nothing, on-word, on-label, ShowsMap, topOf, compactOf, Stands, broken, ended, one, two, many}
 use Rattle.stackmap.proofs.Pushing.{pushed-height, pushed-origin}
-use Rattle.verifier.proofs.Levels.{and-false, level, Popped, stuck, popped, popping, words-test, loop-not-select, lies-origin, at-level, labelled-word, labelled-label, lowered-word, lowered-label}
+use Rattle.verifier.proofs.Levels.{level, Popped, stuck, popped, popping, words-test, loop-not-select, lies-origin, at-level, labelled-word, labelled-label, lowered-word, lowered-label}
 
 -- The compact form of a way, from its parts.
 to-list : (t h o : ℕ) (l : List Slot) → h ≡ length l → o ≡ topOrigin l → way t h o ≡ compactOf (t gets l)

@@ -18,6 +18,7 @@ use Rattle.compact_ways.specs.declared.Ways.{Ways}
 use Rattle.compact_ways.specs.declared.Ways.the-variants.{Broken, Ended, One, Two, Many}
 use Rattle.compact.specs.Tops.{top}
 use Rattle.compact_ways.specs.Ways.{way}
+use Rattle.verifier.specs.Exact.{Shows}
 
 -- The list l lies under the label of an origin: ITER's label on the list that ITER found, four words on top; a switch's in place of
 -- the word that the switch found.
@@ -37,9 +38,8 @@ pub data Shown (w : List ℕ) (at : ℕ) : State → Type 0 where
   shown-done : {l : List Slot} → getD w (4 * at) 0 ≡ length l + 1 → getD w (4 * at + 1) 0 ≡ topOrigin l → getD w (4 * at + 2) 0 ≡ 0 → Shown w at (done l)
 
 -- The workspace shows the lists of a map where it has one.
-pub record ShowsMap (w : List ℕ) (π : Map) : Type 0 where
-  pub height : (at : ℕ) (l : List Slot) → π at ≡ some l → getD w (4 * at) 0 ≡ length l + 1
-  pub origin : (at : ℕ) (l : List Slot) → π at ≡ some l → getD w (4 * at + 1) 0 ≡ topOrigin l
+abbrev pub ShowsMap : List ℕ → Map → Type 0
+ShowsMap w π = (at : ℕ) (l : List Slot) → π at ≡ some l → Shows w at l
 
 abbrev pub topOf : List Slot → Top
 topOf l = top (length l) (topOrigin l)

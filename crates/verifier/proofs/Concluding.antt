@@ -1,14 +1,15 @@
 -- What the code finds for 10 to 15 is the verdict over whole lists: the marks are the cut, the walks go alike, and the workspace shows
 -- what was found.
 use mathlib.Core.Bool.{true, cond}
-use mathlib.Core.List.{List, _++_, append-nil}
+use mathlib.Core.List.{List, _++_}
 use mathlib.Core.Option.{Option, none, some}
 use mathlib.Core.Path.{_≡_, _∙_, refl, sym, ap}
 use Prim.Native.Nat.{ℕ, zero, suc, _+_, _*_, _<_}
 use native.Mathlib.Omega.{arith}
 use lib.Dec.{eqb, eqb·suc-zero}
-use lib.ListN.{length, getD, drop, replicate, length-replicate, getD-replicate, drop-of-length-le}
+use lib.ListN.{length, getD, drop, replicate, length-replicate, getD-replicate}
 use Rattle.words.specs.Bytes.{Bytes}
+use Rattle.words.proofs.Slices.{none-behind}
 use Rattle.entries.specs.Entries.{entriesSound}
 use Rattle.layout.specs.Cut.{Marks, cut, cutOf}
 use Rattle.faults.specs.Faults.{codeNumber}
@@ -16,11 +17,12 @@ use Rattle.layout.specs.Workspace.{marksIn, markAll}
 use Rattle.layout.proofs.Cutting.{Cutted, cutting-starts}
 use Rattle.layout.proofs.Marking.{marking-cuts, marking-refuses, marking-keeps-length, marking-keeps-others}
 use Rattle.stackmap.specs.Theorems.{Sound}
-use Rattle.stackmap.specs.Walk.{States, walkOf}
+use Rattle.stackmap.specs.Walk.{States, blank, walkOf}
 use Rattle.verifier.specs.Check.{moduleOf, refuted, walked, verdictOf, concluded, shownFrom}
 use Rattle.workspace.specs.Checking.{checking}
 use Rattle.verifier.specs.Handing.{walkedTop}
 use Rattle.verifier.specs.Examine.{zeroed, unmarked, afterWalk, afterFaults, afterMarks, examinedTop}
+use Rattle.verifier.proofs.Coherence.{Shown, shown-blank}
 use Rattle.verifier.proofs.Simulation.{Alike, walks-alike}
 use Rattle.verifier.proofs.Showing.{unmarked-shows}
 
@@ -51,9 +53,7 @@ module _ (code results w : List ℕ) (e : entriesSound code ≡ true) (b : Bytes
   cleared : (n : ℕ) (u : List ℕ) → length u ≡ 4 * length code → checking n (zeroed u) ≡ concluded (length code) w (refuted n)
   cleared n u l =
       let z : zeroed u ≡ replicate (4 * length code) 0 ++ drop (4 * length code) w =
-      ap (λ (k : ℕ). replicate k 0) l
-      ∙ (sym (append-nil (replicate (4 * length code) 0))
-      ∙ ap (λ (r : List ℕ). replicate (4 * length code) 0 ++ r) (sym (drop-of-length-le w {i = 4 * length code} (omega arith)))) in
+      ap (λ (k : ℕ). replicate k 0) l ∙ sym (none-behind (replicate (4 * length code) 0) w (4 * length code) (omega arith)) in
       ap (checking n) z
 
   module _ (number : markAll code zeros .number ≡ 0) where
@@ -63,14 +63,15 @@ module _ (code results w : List ℕ) (e : entriesSound code ≡ true) (b : Bytes
     alike : Alike (moduleOf code results (marksIn marked (length code))) marked (walkedTop code results marked)
     alike =
         walks-alike code results (marksIn marked (length code)) marked
-        (sound code results (marksIn marked (length code)) e b is-cut) (omega (arith, marked-length)) (λ at h. blanks at h) (λ at. refl)
+        (sound code results (marksIn marked (length code)) e b is-cut) (omega (arith, marked-length)) blanks (λ at. refl)
       where
         same : (at k : ℕ) → at < length code → k < 3 → getD marked (4 * at + k) 0 ≡ 0
         same at k h l = marking-keeps-others code zeros at k l ∙ zeros-at (4 * at + k) (omega arith)
 
-        blanks : (at : ℕ) → at < length code → (getD marked (4 * at) 0 ≡ 0) × (getD marked (4 * at + 1) 0 ≡ 0) × (getD marked (4 * at + 2) 0 ≡ 0)
+        blanks : (at : ℕ) → at < length code → Shown marked at blank
         blanks at h =
-            (ap (λ (j : ℕ). getD marked j 0) (let z : 4 * at ≡ 4 * at + 0 = omega arith in z) ∙ same at 0 h (omega arith), same at 1 h (omega arith), same at 2 h (omega arith))
+            shown-blank (ap (λ (j : ℕ). getD marked j 0) (let z : 4 * at ≡ 4 * at + 0 = omega arith in z) ∙ same at 0 h (omega arith))
+            (same at 1 h (omega arith)) (same at 2 h (omega arith))
 
     walks : (o : Option States) → walkOf (moduleOf code results (marksIn marked (length code))) ≡ o
         → afterWalk code (walkedTop code results marked) ≡ concluded (length code) w (walked o)
@@ -80,8 +81,7 @@ module _ (code results w : List ℕ) (e : entriesSound code ≡ true) (b : Bytes
         let A = alike .accepted σ f in
         let z : unmarked 0 (length code) (walkedTop code results marked .workspace) ≡ shownFrom σ 0 (length code) ++ drop (4 * length code) w =
         unmarked-shows σ (walkedTop code results marked .workspace) (length code) (alike .sized ∙ marked-length) (A .shown) (A .cleared)
-        ∙ (sym (append-nil (shownFrom σ 0 (length code)))
-        ∙ ap (λ (r : List ℕ). shownFrom σ 0 (length code) ++ r) (sym (drop-of-length-le w {i = 4 * length code} (omega arith)))) in
+        ∙ sym (none-behind (shownFrom σ 0 (length code)) w (4 * length code) (omega arith)) in
         rw (A .accepts) (ap (checking 0) z)
 
     faults : (n : ℕ) → codeNumber code (marksIn marked (length code)) ≡ n

@@ -6,27 +6,23 @@ use native.Mathlib.Omega.{arith}
 use lib.ListN.{length, getD, set, length-set}
 use lib.Seq.{getD-set-same, getD-set-other}
 use Rattle.layout.specs.Workspace.{marksIn}
+use Rattle.layout.proofs.Updates.{Spares, spares-then, spares-set}
 use Rattle.stackmap.specs.Walk.{State}
 use Rattle.verifier.specs.Handing.{given}
 use Rattle.verifier.proofs.Coherence.{Shown, shown-blank, shown-waiting, shown-done}
 
 -- v is w but for the first three halfwords of offset t.
-pub record Within (t : ℕ) (w v : List ℕ) : Type 0 where
-  pub size : length v ≡ length w
-  pub apart : (i : ℕ) → (i ≡ 4 * t → ⊥) → (i ≡ 4 * t + 1 → ⊥) → (i ≡ 4 * t + 2 → ⊥) → getD v i 0 ≡ getD w i 0
+abbrev pub Within : ℕ → List ℕ → List ℕ → Type 0
+Within t = Spares (λ (i : ℕ). 4 * t ≤ i → i < 4 * t + 3 → ⊥)
 
 pub within-set : (t : ℕ) (w : List ℕ) (i x : ℕ) → 4 * t ≤ i → i < 4 * t + 3 → Within t w (set w i x)
-within-set t w i x low high =
-    record { size = length-set w i x; apart = λ j a b c. getD-set-other w i j x 0 λ e. omega arith }
-
-pub within-then : {t : ℕ} {w v u : List ℕ} → Within t w v → Within t v u → Within t w u
-within-then W U = record { size = U .size ∙ W .size; apart = λ i a b c. U .apart i a b c ∙ W .apart i a b c }
+within-set t w i x low high = spares-set w i x λ j out e. out (omega arith) (omega arith)
 
 pub within-given : (t : ℕ) (w : List ℕ) (height origin : ℕ) → Within t w (given w t height origin)
 unfolding given
 within-given t w height origin =
-    within-then (within-set t w (4 * t) (height + 1) (omega arith) (omega arith))
-    (within-then (within-set t (set w (4 * t) (height + 1)) (4 * t + 1) origin (omega arith) (omega arith))
+    spares-then (within-set t w (4 * t) (height + 1) (omega arith) (omega arith))
+    (spares-then (within-set t (set w (4 * t) (height + 1)) (4 * t + 1) origin (omega arith) (omega arith))
     (within-set t (set (set w (4 * t) (height + 1)) (4 * t + 1) origin) (4 * t + 2) 1 (omega arith) (omega arith)))
 
 -- What a given offset shows.
@@ -57,14 +53,14 @@ module _ (t : ℕ) (w : List ℕ) (height origin : ℕ) (room : 4 * t + 4 ≤ le
       (omega (arith, length-set w (4 * t) (height + 1), length-set first (4 * t + 1) origin))
 
 -- The others, and the marks.
-module _ {t : ℕ} {w v : List ℕ} (W : Within t w v) where
+module _ (t : ℕ) {w v : List ℕ} (W : Within t w v) where
   pub shown-other : (a : ℕ) → (a ≡ t → ⊥) → {s : State} → Shown w a s → Shown v a s
   shown-other a other S =
       by S (same 0 (4 * a) (omega arith) (omega arith)) (same 1 (4 * a + 1) (omega arith) (omega arith))
       (same 2 (4 * a + 2) (omega arith) (omega arith))
     where
       same : (k i : ℕ) → k < 4 → i ≡ 4 * a + k → getD v i 0 ≡ getD w i 0
-      same k i h e = W .apart i (λ q. omega arith) (λ q. omega arith) (λ q. omega arith)
+      same k i h e = W .same i (λ a b. omega arith)
 
       by : {s : State} → Shown w a s → getD v (4 * a) 0 ≡ getD w (4 * a) 0 → getD v (4 * a + 1) 0 ≡ getD w (4 * a + 1) 0
           → getD v (4 * a + 2) 0 ≡ getD w (4 * a + 2) 0 → Shown v a s
@@ -73,4 +69,4 @@ module _ {t : ℕ} {w v : List ℕ} (W : Within t w v) where
       by (shown-done x y z) p q r = shown-done (p ∙ x) (q ∙ y) (r ∙ z)
 
   pub marks-other : (size a : ℕ) → marksIn v size a ≡ marksIn w size a
-  marks-other size a = rw (W .apart (4 * a + 3) (λ q. omega arith) (λ q. omega arith) (λ q. omega arith))
+  marks-other size a = rw (W .same (4 * a + 3) (λ l h. omega arith))

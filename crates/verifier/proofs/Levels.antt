@@ -1,6 +1,6 @@
 -- What each operation on a coherent list of slots does to its height and topmost label, and that a workspace which shows the map tells
 -- the height of that label and the origin under it: the label lies on the list that its origin found.
-use mathlib.Core.Bool.{Bool, true, false, _&&_}
+use mathlib.Core.Bool.{true, false, _&&_, and-false}
 use mathlib.Core.List.{List, [], _∷_}
 use mathlib.Core.Option.{Option, none, some}
 use mathlib.Core.Path.{_≡_, refl}
@@ -16,10 +16,6 @@ use Rattle.stackmap.specs.Ways.{isLoop, isSelect}
 use Rattle.stackmap.specs.StackMap.{Map}
 use Rattle.compact.specs.Tops.{labelHeight, originUnder, labelled, lowered}
 use Rattle.verifier.proofs.Coherence.{Lies, on-loop, on-select, Coherent, on-nothing, on-word, on-label, ShowsMap, topOf}
-
-pub and-false : (b : Bool) → b && false ≡ false
-and-false true = refl
-and-false false = refl
 
 -- The height up to and with the topmost label.
 abbrev pub level : List Slot → ℕ
@@ -62,12 +58,12 @@ loop-not-select code m e =
 
 module _ (code w : List ℕ) (π : Map) (S : ShowsMap w π) where
   lies-height : (m : ℕ) (l : List Slot) → Lies code π m l → labelHeight code w (suc m) ≡ suc (length l)
-  lies-height m l (on-loop a e r p) = rw (a, S .height m l e) (omega arith)
-  lies-height m l (on-select a b e) = rw (a, S .height m (word ∷ l) e) (omega arith)
+  lies-height m l (on-loop a e r p) = rw (a, S m l e .height) (omega arith)
+  lies-height m l (on-select a b e) = rw (a, S m (word ∷ l) e .height) (omega arith)
 
   pub lies-origin : (m : ℕ) (l : List Slot) → Lies code π m l → originUnder w (suc m) ≡ topOrigin l
-  lies-origin m l (on-loop a e r p) = S .origin m l e
-  lies-origin m l (on-select a b e) = S .origin m (word ∷ l) e
+  lies-origin m l (on-loop a e r p) = S m l e .origin
+  lies-origin m l (on-select a b e) = S m (word ∷ l) e .origin
 
   pub at-level : (l : List Slot) → Coherent code π l → labelHeight code w (topOrigin l) ≡ level l
   at-level l on-nothing = refl

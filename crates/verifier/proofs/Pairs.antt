@@ -1,21 +1,21 @@
 -- Height and topmost origin determine a list: what lies under a label is told by the map, and a list whose topmost label is an
 -- origin's is longer than the list under that label. Lists that are coherent stay so as the map grows.
+use mathlib.Core.Bool.{true≢false}
 use mathlib.Core.List.{List, _∷_}
-use mathlib.Core.Option.{some}
-use mathlib.Core.Path.{_≡_, refl, sym, ap}
+use mathlib.Core.Path.{_≡_, refl, sym, ap, _∙_}
 use Prim.Native.Nat.{ℕ, _+_, _<_}
 use native.Mathlib.Omega.{arith}
 use lib.ListN.{length}
 use Rattle.stackmap.specs.Slots.{Slot, word, topOrigin}
 use Rattle.stackmap.specs.StackMap.{Map}
-use Rattle.stackmap.proofs.Updates.{not-both}
+use Rattle.stackmap.proofs.Placing.{Grows}
 use Rattle.verifier.proofs.Coherence.{Lies, on-loop, on-select, Coherent, on-nothing, on-word, on-label}
 
 module _ (code : List ℕ) (π : Map) where
   lies-same : (m : ℕ) (l k : List Slot) → Lies code π m l → Lies code π m k → l ≡ k
   lies-same m l k (on-loop a e r p) (on-loop b f s q) = cc
-  lies-same m l k (on-loop a e r p) (on-select b c f) = absurd (not-both a b)
-  lies-same m l k (on-select a d e) (on-loop b f s q) = absurd (not-both b a)
+  lies-same m l k (on-loop a e r p) (on-select b c f) = absurd (true≢false (sym a ∙ b))
+  lies-same m l k (on-select a d e) (on-loop b f s q) = absurd (true≢false (sym b ∙ a))
   lies-same m l k (on-select a d e) (on-select b c f) = cc
 
   lies-equal : (m n : ℕ) (l k : List Slot) → m ≡ n → Lies code π m l → Lies code π n k → l ≡ k
@@ -43,13 +43,11 @@ module _ (code : List ℕ) (π : Map) where
       let same : m ≡ n = omega arith in
       rw (same, lies-equal m n r s same L K)
 
-lies-grows : (code : List ℕ) (π π' : Map) (m : ℕ) (l : List Slot) → ((at : ℕ) (k : List Slot) → π at ≡ some k → π' at ≡ some k)
-    → Lies code π m l → Lies code π' m l
+lies-grows : (code : List ℕ) (π π' : Map) (m : ℕ) (l : List Slot) → Grows π π' → Lies code π m l → Lies code π' m l
 lies-grows code π π' m l g (on-loop a e r p) = on-loop a (g m l e) r p
 lies-grows code π π' m l g (on-select a b e) = on-select a b (g m (word ∷ l) e)
 
-pub coherent-grows : (code : List ℕ) (π π' : Map) (l : List Slot) → ((at : ℕ) (k : List Slot) → π at ≡ some k → π' at ≡ some k)
-    → Coherent code π l → Coherent code π' l
+pub coherent-grows : (code : List ℕ) (π π' : Map) (l : List Slot) → Grows π π' → Coherent code π l → Coherent code π' l
 coherent-grows code π π' l g on-nothing = on-nothing
 coherent-grows code π π' l g (on-word {l = r} c) = on-word (coherent-grows code π π' r g c)
 coherent-grows code π π' l g (on-label {origin = m} {l = r} L c) = on-label (lies-grows code π π' m r g L) (coherent-grows code π π' r g c)

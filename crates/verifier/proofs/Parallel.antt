@@ -1,6 +1,6 @@
 -- Handing a coherent list on does the same on both sides: its height and topmost label are those of the list that an offset has
 -- exactly when it is that list.
-use mathlib.Core.Bool.{Bool, true, false, cond, _&&_}
+use mathlib.Core.Bool.{Bool, true, false, cond, _&&_, true≢false}
 use mathlib.Core.List.{List, [], _∷_}
 use mathlib.Core.Option.{Option, none, some}
 use mathlib.Core.Path.{_≡_, refl, sym, ap, _∙_}
@@ -16,8 +16,10 @@ use Rattle.stackmap.specs.Ways.{Module, Way, _gets_, toAll}
 use Rattle.stackmap.specs.StackMap.{Map}
 use Rattle.stackmap.specs.Walk.{State, blank, waiting, done, States, slotsIn, mapOf, taken, handed, thenHand, handedAll, passed}
 use Rattle.stackmap.specs.Theorems.{Sound}
-use Rattle.words.proofs.Tests.{both-true}
-use Rattle.stackmap.proofs.Updates.{Change, changed, spared, change, slots-equal, slots-same, not-both}
+use Rattle.words.proofs.Tests.{both-true, by-test}
+use Rattle.layout.proofs.Updates.{Change, changed, spared, change}
+use Rattle.stackmap.proofs.Comparing.{slots-equal, slots-same}
+use Rattle.stackmap.proofs.Placing.{Grows, grows-change}
 use Rattle.compact_ways.specs.declared.Ways.{Ways}
 use Rattle.compact_ways.specs.Ways.{way}
 use Rattle.verifier.specs.declared.hand.Handed.the-variants.{Stuck, From}
@@ -25,19 +27,19 @@ use Rattle.verifier.specs.Handing.{Handing, handing, given, least, taken
 use Rattle.verifier.proofs.Coherence.{Coherent, Shown, shown-blank, shown-waiting, shown-done, topOf, compactOf, Stands, broken, ended, one, two, many, AllCoherent, no-way, a-way}
 use Rattle.verifier.proofs.Pairs.{pair-determines, coherent-grows}
 use Rattle.verifier.proofs.Fields.{within-given, given-height, given-origin, given-waits}
-use Rattle.verifier.proofs.Keeping.{Kept, kept-self, kept-then, within-kept, Grows, Sim, grows-change, sim-change, all-grow}
+use Rattle.verifier.proofs.Keeping.{Sim, sim-change, all-grow}
 
 -- Both broke, or both went on and are still alike.
 pub data Parallel (M : Module) (w : List ℕ) (σ : States) : Handing → Option States → Type 0 where
-  both-stop : {v : List ℕ} → Kept (length (M .code)) w v → Parallel M w σ (handing Stuck v) none
-  both-go : {v : List ℕ} {τ : States} {from : ℕ} → Kept (length (M .code)) w v → Grows (mapOf σ) (mapOf τ) → Sim M v τ from
+  both-stop : {v : List ℕ} → length v ≡ length w → Parallel M w σ (handing Stuck v) none
+  both-go : {v : List ℕ} {τ : States} {from : ℕ} → length v ≡ length w → Grows (mapOf σ) (mapOf τ) → Sim M v τ from
       → Parallel M w σ (handing (From from) v) (some τ)
 
 -- What was reached from a workspace and states that are later than others.
-pub parallel-after : {M : Module} {w v : List ℕ} {σ τ : States} {h : Handing} {o : Option States} → Kept (length (M .code)) w v
+pub parallel-after : {M : Module} {w v : List ℕ} {σ τ : States} {h : Handing} {o : Option States} → length v ≡ length w
     → Grows (mapOf σ) (mapOf τ) → Parallel M v τ h o → Parallel M w σ h o
-parallel-after K G (both-stop k) = both-stop (kept-then K k)
-parallel-after K G (both-go k g X) = both-go (kept-then K k) (λ at l e. g at l (G at l e)) X
+parallel-after K G (both-stop k) = both-stop (k ∙ K)
+parallel-after K G (both-go k g X) = both-go (k ∙ K) (λ at l e. g at l (G at l e)) X
 
 pub parallel-then : {M : Module} {w : List ℕ} {σ : States} (go : ℕ → List ℕ → Handing) (goes : States → Option States) {h : Handing}
     {o : Option States} → Parallel M w σ h o
@@ -51,9 +53,10 @@ parallel-last : {M : Module} {w : List ℕ} {σ : States} (p : ℕ) {h : Handing
 parallel-last p (both-stop k) = both-stop k
 parallel-last p (both-go k g X) = both-go k g X
 
-least-first : (a b : ℕ) (t : Bool) → ltb a b ≡ t → (cond t a b ≤ a) × (cond t a b ≤ b)
-least-first a b true e = (omega arith, omega (arith, ltb-true a b e))
-least-first a b false e = (ltb-false a b e, omega arith)
+least-first : (a b : ℕ) → (least a b ≤ a) × (least a b ≤ b)
+least-first a b =
+    by-test (λ (k : ℕ). (k ≤ a) × (k ≤ b)) (ltb a b) a b (λ e. (omega arith, omega (arith, ltb-true a b e)))
+    (λ e. (ltb-false a b e, omega arith))
 
 -- Height and topmost label tell lists apart.
 pair-same : (code : List ℕ) (π : Map) (l k : List Slot) → Coherent code π l → Coherent code π k
@@ -65,7 +68,7 @@ pair-same code π l k c d = by (sameSlots l k) refl
     told true true e g f =
         let high : length l + 1 ≡ length k + 1 = eqb-true (length l + 1) (length k + 1) e in
         let same : l ≡ k = pair-determines code π l k c d (omega arith) (eqb-true (topOrigin l) (topOrigin k) g) in
-        absurd (not-both (slots-same k) (rw same at f))
+        absurd (true≢false (rw (same, slots-same k) at f))
     told true false e g f = refl
     told false b e g f = refl
 
@@ -82,7 +85,7 @@ module _ (M : Module) (S : Sound M) (p : ℕ) where
       took : σ t ≡ blank
           → Parallel M w σ (handing (From (least t from)) (given w t (length k) (topOrigin k))) (some (updated σ t (waiting k)))
       took b =
-          both-go (within-kept h (within-given t w (length k) (topOrigin k))) (grows-change σ t (waiting k) k refl none-yet)
+          both-go (within-given t w (length k) (topOrigin k) .long) (grows-change σ t (waiting k) k refl none-yet)
           (sim-change t (waiting k) k (least t from) X h (within-given t w (length k) (topOrigin k))
           (shown-waiting (given-height t w (length k) (topOrigin k) room) (given-origin t w (length k) (topOrigin k) room)
           (given-waits t w (length k) (topOrigin k) room))
@@ -95,8 +98,8 @@ module _ (M : Module) (S : Sound M) (p : ℕ) where
           none-yet l e = cc
 
           still : (at : ℕ) (l : List Slot) → at < least t from → updated σ t (waiting k) at ≡ waiting l → Change σ t (waiting k) at → ⊥
-          still at l b e (changed g q) = omega (arith, least-first t from (ltb t from) refl .0)
-          still at l b e (spared g q) = X .clear at l (omega (arith, least-first t from (ltb t from) refl .1)) (sym q ∙ e)
+          still at l b e (changed g q) = omega (arith, least-first t from .0)
+          still at l b e (spared g q) = X .clear at l (omega (arith, least-first t from .1)) (sym q ∙ e)
 
       -- One that has a list compares.
       met : (l : List Slot) → mapOf σ t ≡ some l → getD w (4 * t) 0 ≡ length l + 1 → getD w (4 * t + 1) 0 ≡ topOrigin l
@@ -107,8 +110,8 @@ module _ (M : Module) (S : Sound M) (p : ℕ) where
           (by (sameSlots l k))
         where
           by : (b : Bool) → Parallel M w σ (cond b (handing (From from) w) (handing Stuck w)) (cond b (some σ) none)
-          by true = both-go (kept-self (length (M .code)) w) (λ at j e. e) X
-          by false = both-stop (kept-self (length (M .code)) w)
+          by true = both-go refl (λ at j e. e) X
+          by false = both-stop refl
 
       offered : (s : State) → σ t ≡ s → Shown w t s
           → Parallel M w σ (takenTop w (way t (length k) (topOrigin k)) from) (taken σ t k s)
@@ -127,13 +130,13 @@ module _ (M : Module) (S : Sound M) (p : ℕ) where
         by true e =
             let h = S .within p t (both-true (startsIn (M .marks) p t) (leb (length k) 255) e .0) in
             offered h (σ t) refl (X .held .shown t h)
-        by false e = both-stop (kept-self (length (M .code)) w)
+        by false e = both-stop refl
 
   -- The same list to every target.
   targets : (l : List Slot) (ts : List ℕ) (w : List ℕ) (σ : States) (from : ℕ) → Sim M w σ from
       → AllCoherent (M .code) (mapOf σ) (toAll ts l)
       → Parallel M w σ (handedTargets (length (M .code)) p (topOf l) ts from w) (handedAll M p (toAll ts l) σ)
-  targets l [] w σ from X no-way = both-go (kept-self (length (M .code)) w) (λ at j e. e) X
+  targets l [] w σ from X no-way = both-go refl (λ at j e. e) X
   targets l (t ∷ ts) w σ from X (a-way c cs) =
       parallel-then (handedTargets (length (M .code)) p (topOf l) ts) (handedAll M p (toAll ts l)) (one-way w σ from X t l c)
       λ v τ next g Y. targets l ts v τ next Y (all-grow g cs)
@@ -142,8 +145,8 @@ module _ (M : Module) (S : Sound M) (p : ℕ) where
       → Stands (M .code) at x o → ((out : List Way) → o ≡ some out → AllCoherent (M .code) (mapOf σ) out)
       → Parallel M w σ (handedWays (M .code) p at x from w) (passed M p σ o)
   unfolding handedWays handedTwo
-  ways-alike at w σ from X broken C = both-stop (kept-self (length (M .code)) w)
-  ways-alike at w σ from X ended C = both-go (kept-self (length (M .code)) w) (λ a j e. e) X
+  ways-alike at w σ from X broken C = both-stop refl
+  ways-alike at w σ from X ended C = both-go refl (λ a j e. e) X
   ways-alike at w σ from X (one (t gets l)) C = single (C (t gets l ∷ []) refl)
     where
       single : AllCoherent (M .code) (mapOf σ) (t gets l ∷ [])

@@ -1,6 +1,6 @@
 -- Every list that an instruction passes on is coherent: what it pops words or slots off, or pushes words on, stays so, and a label
 -- that it makes lies on the list that it found, which the map has.
-use mathlib.Core.Bool.{Bool, true, false, cond}
+use mathlib.Core.Bool.{true, false}
 use mathlib.Core.List.{List, [], _∷_}
 use mathlib.Core.Option.{Option, none, some}
 use mathlib.Core.Path.{_≡_, refl, subst}
@@ -9,6 +9,7 @@ use native.Mathlib.Omega.{arith}
 use lib.Dec.{leb}
 use borrow.Author.Tests.{eq-eqb}
 use Rattle.words.specs.Bytes.{byteAt}
+use Rattle.words.proofs.Tests.{either}
 use Rattle.opcode.specs.Decode.{decodeAt}
 use Rattle.operand.specs.Distance.{placeAt}
 use Rattle.opcode.specs.declared.Decoded.the-variants.{At}
@@ -37,25 +38,18 @@ module _ (code : List ℕ) (π : Map) where
   passes-after none f go = nothing
   passes-after (some rest) f go = passing (go rest refl)
 
-  passes-where : (b : Bool) (o : Option (List Way)) → Passes o → Passes (cond b o none)
-  passes-where true o P = P
-  passes-where false o P = nothing
-
   one-way : {t : ℕ} {l : List Slot} → Coherent code π l → AllCoherent code π (t gets l ∷ [])
   one-way c = a-way c no-way
 
   both-ways : (t u : ℕ) (l k : List Slot) → Coherent code π l → Coherent code π k → AllCoherent code π (both (t gets l) (u gets k))
-  both-ways t u l k c d = by (leb t u)
-    where
-      by : (b : Bool) → AllCoherent code π (cond b (t gets l ∷ u gets k ∷ []) (u gets k ∷ t gets l ∷ []))
-      by true = a-way c (one-way d)
-      by false = a-way d (one-way c)
+  both-ways t u l k c d =
+      either (AllCoherent code π) (leb t u) (t gets l ∷ u gets k ∷ []) (u gets k ∷ t gets l ∷ []) (a-way c (one-way d)) (a-way d (one-way c))
 
   all-ways : (ts : List ℕ) (l : List Slot) → Coherent code π l → AllCoherent code π (toAll ts l)
   all-ways [] l c = no-way
   all-ways (t ∷ ts) l c = a-way c (all-ways ts l c)
 
-  pushed : (n : ℕ) (l : List Slot) → Coherent code π l → Coherent code π (pushWords n l)
+  pub pushed : (n : ℕ) (l : List Slot) → Coherent code π l → Coherent code π (pushWords n l)
   pushed zero l c = c
   pushed (suc n) l c = on-word (pushed n l c)
 
@@ -80,16 +74,15 @@ module _ (code : List ℕ) (π : Map) where
   again-passes next l on-nothing = nothing
   again-passes next l (on-word c) = nothing
   again-passes next l (on-label {origin = m} {l = r} L c) =
-      passes-where (isLoop code m)
-      (after (popWords 4 r) (λ rest. both (next gets rest) (labelWord code m gets (label m ∷ r))))
+      either Passes (isLoop code m) (after (popWords 4 r) (λ rest. both (next gets rest) (labelWord code m gets (label m ∷ r)))) none
       (passes-after (popWords 4 r) (λ rest. both (next gets rest) (labelWord code m gets (label m ∷ r)))
-      λ rest e. both-ways next (labelWord code m) rest (label m ∷ r) (under-words 4 r rest c e) (on-label L c))
+      λ rest e. both-ways next (labelWord code m) rest (label m ∷ r) (under-words 4 r rest c e) (on-label L c)) nothing
 
   exit-passes : (l : List Slot) → Coherent code π l → Passes (exit code l)
   exit-passes l on-nothing = nothing
   exit-passes l (on-word c) = nothing
   exit-passes l (on-label {origin = m} {l = r} L c) =
-      passes-where (isSelect code m) (some (labelWord code m gets r ∷ [])) (passing (one-way c))
+      either Passes (isSelect code m) (some (labelWord code m gets r ∷ [])) none (passing (one-way c)) nothing
 
   -- A switch's label lies in place of the word that it pops.
   select-lies : (at : ℕ) (l rest : List Slot) → isLoop code at ≡ false → isSelect code at ≡ true → π at ≡ some l
@@ -133,7 +126,7 @@ shape-passes M p at next limit i (Invoke f) π l q d c e =
     straight-passes (M .code) π next (parametersIn (M .code) f) (resultsIn (M .results) f) l c
 shape-passes M p at next limit i (Begin par) π l q d c e = straight-passes (M .code) π next par 0 l c
 shape-passes M p at next limit i Return π l q d c e =
-    passes-where (M .code) π (isWords (resultsIn (M .results) p) l) (some []) (passing no-way)
+    either (Passes (M .code) π) (isWords (resultsIn (M .results) p) l) (some []) none (passing no-way) nothing
 
 pub ways-coherent : (M : Module) (p at next limit : ℕ) (i : Instruction) (π : Map) (l : List Slot) (out : List Way)
     → decodeAt (M .code) limit at ≡ At i next → Coherent (M .code) π l → π at ≡ some l

@@ -5,23 +5,15 @@ use mathlib.Core.List.{List}
 use mathlib.Core.Path.{_≡_, refl}
 use Prim.Native.Nat.{ℕ, zero, suc, _+_, _-_, _<_, _≤_}
 use native.Mathlib.Omega.{arith}
-use lib.Dec.{ltb, eqb}
-use borrow.Author.Tests.{ltb-true, ltb-false, eqb-true, eqb-false}
+use lib.Dec.{ltb}
+use borrow.Author.Count.{below-more}
+use borrow.Author.Tests.{ltb-true, ltb-false}
 use Rattle.stackmap.specs.Slots.{Slot}
 use Rattle.stackmap.specs.Walk.{State, blank, waiting, done, States, Found, nowhere, found, orLater, waitingFrom}
+use Rattle.stackmap.proofs.Counts.{blank-waits, done-waits}
 use Rattle.verifier.specs.Handing.{firstWaiting}
 use Rattle.verifier.proofs.Coherence.{Shown, shown-blank, shown-waiting, shown-done}
 use Rattle.verifier.proofs.Keeping.{Clear}
-
-pub blank-waits : {s : State} {l : List Slot} → s ≡ blank → s ≡ waiting l → ⊥
-blank-waits e g =
-    let z : _≡_ {A = ℕ} 0 1 = cc in
-    omega arith
-
-pub done-waits : {s : State} {k l : List Slot} → s ≡ done k → s ≡ waiting l → ⊥
-done-waits e g =
-    let z : _≡_ {A = ℕ} 0 1 = cc in
-    omega arith
 
 pub data Finds (size : ℕ) (σ : States) : ℕ → Found → Type 0 where
   finds-none : {at : ℕ} → size ≤ at → Finds size σ at nowhere
@@ -29,15 +21,7 @@ pub data Finds (size : ℕ) (σ : States) : ℕ → Found → Type 0 where
 
 module _ (size : ℕ) (w : List ℕ) (σ : States) (shown : (at : ℕ) → at < size → Shown w at (σ at)) where
   clear-next : (at : ℕ) → Clear σ at → ((l : List Slot) → σ at ≡ waiting l → ⊥) → Clear σ (at + 1)
-  clear-next at c free i l h e = by (eqb i at) refl
-    where
-      by : (b : Bool) → eqb i at ≡ b → ⊥
-      by true q =
-          let same : i ≡ at = eqb-true i at q in
-          free l (rw (← same) e)
-      by false q =
-          let other : (i ≡ at → ⊥) = eqb-false i at q in
-          c i l (omega arith) e
+  clear-next at c free i l h = below-more (λ (j : ℕ). (k : List Slot) → σ j ≡ waiting k → ⊥) at (λ j b k. c j k b) free i h l
 
   search-alike : (n at : ℕ) → at + n ≡ size → Clear σ at → Finds size σ (firstWaiting w at n) (waitingFrom σ at n)
   search-alike zero at e c = finds-none {at = at} (omega arith)

@@ -4,10 +4,11 @@ use mathlib.Core.List.{List, _++_}
 use mathlib.Core.Path.{_≡_, _∙_, refl, sym, ap}
 use Prim.Native.Nat.{ℕ, zero, suc, _+_, _*_, _<_, _≤_, _/_, _%_}
 use native.Mathlib.Omega.{arith}
-use lib.Dec.{eqb, ltb}
+use lib.Dec.{ltb}
 use lib.ListN.{length, getD, set, length-set, length-append, List·getD-append}
 use lib.Seq.{ext-getD, getD-set-same, getD-set-other}
-use borrow.Author.Tests.{eqb-true, eqb-false, ltb-true, ltb-false}
+use borrow.Author.Tests.{ltb-true, ltb-false}
+use Rattle.layout.proofs.Updates.{at-or-after}
 use Rattle.stackmap.specs.Walk.{State, States, blank, waiting, done}
 use Rattle.verifier.specs.Check.{shownState, shownFrom}
 use Rattle.verifier.specs.Examine.{unmarked}
@@ -28,16 +29,10 @@ unmarked-other at (suc n) w j h =
 unmarked-mark : (at n : ℕ) (w : List ℕ) (a : ℕ) → at ≤ a → a < at + n → 4 * a + 3 < length w → getD (unmarked at n w) (4 * a + 3) 0 ≡ 0
 unmarked-mark at zero w a l m r = absurd (omega arith)
 unmarked-mark at (suc n) w a l m r =
-    by (eqb a at) refl
-    (λ h. unmarked-mark (at + 1) n (set w (4 * at + 3) 0) a h (omega arith) (omega (arith, length-set w (4 * at + 3) 0)))
-  where
-    by : (b : Bool) → eqb a at ≡ b → (at + 1 ≤ a → getD (unmarked (at + 1) n (set w (4 * at + 3) 0)) (4 * a + 3) 0 ≡ 0)
-        → getD (unmarked (at + 1) n (set w (4 * at + 3) 0)) (4 * a + 3) 0 ≡ 0
-    by true e later =
-        unmarked-other (at + 1) n (set w (4 * at + 3) 0) (4 * a + 3) (λ b l m g. omega (arith, eqb-true a at e))
-        ∙ (ap (λ (k : ℕ). getD (set w (4 * at + 3) 0) (4 * k + 3) 0) (eqb-true a at e)
-        ∙ getD-set-same w (4 * at + 3) 0 0 (omega (arith, eqb-true a at e)))
-    by false e later = later (omega (arith, eqb-false a at e))
+    at-or-after (λ (j : ℕ). getD (unmarked (at + 1) n (set w (4 * at + 3) 0)) (4 * j + 3) 0 ≡ 0) at a l
+    (unmarked-other (at + 1) n (set w (4 * at + 3) 0) (4 * at + 3) (λ b l m g. omega arith)
+    ∙ getD-set-same w (4 * at + 3) 0 0 (omega arith))
+    (λ (h : at < a). unmarked-mark (at + 1) n (set w (4 * at + 3) 0) a (omega arith) (omega arith) (omega (arith, length-set w (4 * at + 3) 0)))
 
 state-length : (s : State) → length (shownState s) ≡ 4
 state-length blank = refl
@@ -73,6 +68,11 @@ shown-at σ at (suc n) (suc b) k h l =
     ∙ (shown-at σ (at + 1) n b k (omega arith) l
     ∙ ap (λ (a : ℕ). getD (shownState (σ a)) k 0) (let z : at + 1 + b ≡ at + suc b = omega arith in z)))
 
+last-two : (s : State) → (getD (shownState s) 2 0 ≡ 0) × (getD (shownState s) 3 0 ≡ 0)
+last-two blank = (refl, refl)
+last-two (waiting l) = (refl, refl)
+last-two (done l) = (refl, refl)
+
 -- An offset shows its state in the first three of its halfwords, the third being 0.
 shown-field : {w : List ℕ} {at : ℕ} {s : State} → Shown w at s → getD w (4 * at + 2) 0 ≡ 0 → (k : ℕ) → k < 3
     → getD w (4 * at + k) 0 ≡ getD (shownState s) k 0
@@ -88,18 +88,8 @@ shown-field {w} {at} S z (suc zero) h = origin S
     origin (shown-blank x y z) = y
     origin (shown-waiting x y z) = y
     origin (shown-done x y z) = y
-shown-field {w} {at} {s} S z (suc (suc zero)) h = z ∙ sym (third s)
-  where
-    third : (s : State) → getD (shownState s) 2 0 ≡ 0
-    third blank = refl
-    third (waiting l) = refl
-    third (done l) = refl
+shown-field {w} {at} {s} S z (suc (suc zero)) h = z ∙ sym (last-two s .0)
 shown-field S z (suc (suc (suc k))) h = absurd (omega arith)
-
-fourth : (s : State) → getD (shownState s) 3 0 ≡ 0
-fourth blank = refl
-fourth (waiting l) = refl
-fourth (done l) = refl
 
 module _ (σ : States) (w : List ℕ) (n : ℕ) (size : length w ≡ 4 * n) (shown : (at : ℕ) → at < n → Shown w at (σ at))
     (cleared : (at : ℕ) → at < n → getD w (4 * at + 2) 0 ≡ 0) where
@@ -111,7 +101,7 @@ module _ (σ : States) (w : List ℕ) (n : ℕ) (size : length w ≡ 4 * n) (sho
       let z : k ≡ 3 = omega (arith, ltb-false k 3 e) in
       ap (λ (j : ℕ). getD (unmarked 0 n w) (4 * a + j) 0) z
       ∙ (unmarked-mark 0 n w a (omega arith) (omega arith) (omega arith)
-      ∙ (sym (fourth (σ a)) ∙ ap (λ (j : ℕ). getD (shownState (σ a)) j 0) (sym z)))
+      ∙ (sym (last-two (σ a) .1) ∙ ap (λ (j : ℕ). getD (shownState (σ a)) j 0) (sym z)))
 
   at-index : (i a k : ℕ) → i ≡ 4 * a + k → a < n → k < 4 → getD (unmarked 0 n w) i 0 ≡ getD (shownFrom σ 0 n) i 0
   at-index i a k e h l =

@@ -1,38 +1,30 @@
 -- At first the entries wait on both sides: their lists are words, which are coherent whatever else is given.
 use mathlib.Core.List.{List, []}
-use mathlib.Core.Option.{Option, none, some}
-use mathlib.Core.Path.{_≡_}
+use mathlib.Core.Option.{some, Option·none-ne-some}
+use mathlib.Core.Path.{_≡_, refl, _∙_}
 use Prim.Native.Nat.{ℕ, zero, suc, _+_, _-_, _*_, _<_, _≤_}
 use native.Mathlib.Omega.{arith}
-use lib.ListN.{length, getD}
+use lib.ListN.{length}
 use Rattle.entries.specs.Entries.{entryAt, entryCount}
 use Rattle.layout.specs.Cut.{updated}
 use Rattle.layout.specs.Workspace.{marksIn}
 use Rattle.stackmap.specs.Slots.{Slot, pushWords}
 use Rattle.stackmap.specs.Ways.{Module, parametersIn}
 use Rattle.stackmap.specs.StackMap.{Map}
-use Rattle.stackmap.specs.Walk.{blank, waiting, States, mapOf, entriesWait}
+use Rattle.stackmap.specs.Walk.{blank, waiting, States, mapOf, entriesWait, firstStates}
 use Rattle.stackmap.specs.Theorems.{Sound}
 use Rattle.stackmap.proofs.Entering.{entering}
 use Rattle.stackmap.proofs.Pushing.{words-height, pushed-origin}
-use Rattle.stackmap.proofs.Updates.{Change, changed, spared, change}
+use Rattle.stackmap.proofs.Placing.{told-change}
 use Rattle.verifier.specs.Handing.{given, entryGiven, entriesGiven}
-use Rattle.verifier.proofs.Coherence.{Coherent, on-nothing, on-word, Shown, shown-blank, shown-waiting}
+use Rattle.verifier.proofs.Coherence.{Coherent, on-nothing, Shown, shown-waiting}
+use Rattle.verifier.proofs.Passing.{pushed}
 use Rattle.verifier.proofs.Fields.{Within, within-given, given-height, given-origin, given-waits}
-use Rattle.verifier.proofs.Keeping.{Kept, kept-self, kept-then, within-kept, Held, held-change, Sim}
-
-words-coherent : (code : List ℕ) (π : Map) (n : ℕ) → Coherent code π (pushWords n [])
-words-coherent code π zero = on-nothing
-words-coherent code π (suc n) = on-word (words-coherent code π n)
-
-pub not-given : {l : List Slot} → _≡_ {A = Option (List Slot)} none (some l) → ⊥
-not-given e =
-    let z : _≡_ {A = ℕ} 0 1 = cc in
-    omega arith
+use Rattle.verifier.proofs.Keeping.{Held, held-change, Sim}
 
 -- Only lists that are coherent with any map have been given.
 record Fresh (M : Module) (start w : List ℕ) (σ : States) : Type 0 where
-  kept : Kept (length (M .code)) start w
+  kept : length w ≡ length start
   held : Held M w σ
   free : (at : ℕ) (l : List Slot) → mapOf σ at ≡ some l → (π : Map) → Coherent (M .code) π l
 
@@ -47,24 +39,18 @@ module _ (M : Module) (start w : List ℕ) (σ : States) (F : Fresh M start w σ
       shown-waiting {l = pushWords n []} (rw (words-height n) (given-height t w n 0 room))
       (rw (pushed-origin n []) (given-origin t w n 0 room)) (given-waits t w n 0 room)
 
-  words-free : (at : ℕ) (l : List Slot) → mapOf (updated σ t (waiting (pushWords n []))) at ≡ some l
-      → Change σ t (waiting (pushWords n [])) at → (π : Map) → Coherent (M .code) π l
-  words-free at l e (changed g q) π =
-      let same : pushWords n [] ≡ l = cc in
-      rw (← same) (words-coherent (M .code) π n)
-  words-free at l e (spared g q) π = F .free at l (rw (← q) e) π
-
   words-given : Fresh M start (given w t n 0) (updated σ t (waiting (pushWords n [])))
   words-given =
       record {
-        kept = kept-then (F .kept) (within-kept h here);
-        held = held-change M w (given w t n 0) σ t (waiting (pushWords n [])) here h (F .held) words-shown;
-        free = λ at l e. words-free at l e (change σ t (waiting (pushWords n [])) at);
+        kept = here .long ∙ F .kept;
+        held = held-change M w (given w t n 0) σ t (waiting (pushWords n [])) (pushWords n []) here h refl (F .held) words-shown;
+        free = told-change σ t (waiting (pushWords n [])) (pushWords n []) refl
+            (λ (at : ℕ) (l : List Slot). (π : Map) → Coherent (M .code) π l) (λ π. pushed (M .code) π n [] on-nothing) (F .free);
       }
 
 module _ (M : Module) (S : Sound M) (start : List ℕ) where
   enter-one : (p : ℕ) (w : List ℕ) (σ : States) → p < entryCount (M .code) → Fresh M start w σ
-      → Fresh M start (entryGiven (M .code) p w) (entering M S p σ)
+      → Fresh M start (entryGiven (M .code) p w) (entering M p σ)
   unfolding entryGiven
   enter-one p w σ b F =
       words-given M start w σ F (entryAt (M .code) p) (parametersIn (M .code) p) (S .within p (entryAt (M .code) p) (S .entries p b))
@@ -73,30 +59,20 @@ module _ (M : Module) (S : Sound M) (start : List ℕ) where
       → Fresh M start (entriesGiven (M .code) p n w) (entriesWait M p n σ)
   enter-all zero p w σ b F = enter-one 0 w σ (S .counted) F
   enter-all (suc n) p w σ b F =
-      enter-all n (p + 1) (entryGiven (M .code) p w) (entering M S p σ) (omega arith) (enter-one p w σ (omega arith) F)
-
--- The first states.
-abbrev pub firstStates : Module → States
-firstStates M = entriesWait M 1 (entryCount (M .code) - 1) (λ at. blank)
+      enter-all n (p + 1) (entryGiven (M .code) p w) (entering M p σ) (omega arith) (enter-one p w σ (omega arith) F)
 
 abbrev pub firstSpace : List ℕ → List ℕ → List ℕ
 firstSpace code w = entriesGiven code 1 (entryCount code - 1) w
 
 pub start-alike : (M : Module) (w : List ℕ) → Sound M → 4 * length (M .code) ≤ length w
-    → ((at : ℕ) → at < length (M .code) → (getD w (4 * at) 0 ≡ 0) × (getD w (4 * at + 1) 0 ≡ 0) × (getD w (4 * at + 2) 0 ≡ 0))
-    → ((at : ℕ) → marksIn w (length (M .code)) at ≡ M .marks at)
-    → Kept (length (M .code)) w (firstSpace (M .code) w) × Sim M (firstSpace (M .code) w) (firstStates M) 0
+    → ((at : ℕ) → at < length (M .code) → Shown w at blank) → ((at : ℕ) → marksIn w (length (M .code)) at ≡ M .marks at)
+    → (length (firstSpace (M .code) w) ≡ length w) × Sim M (firstSpace (M .code) w) (firstStates M) 0
 start-alike M w S room blanks marks =
     let bare : Held M w (λ at. blank) =
-    record {
-      room = room;
-      marks = marks;
-      shown = λ at h. shown-blank (blanks at h .0) (blanks at h .1) (blanks at h .2);
-      inside = λ at l e. absurd (not-given e);
-    } in
+    record { room = room; marks = marks; shown = blanks; inside = λ at l e. absurd (Option·none-ne-some l e) } in
     let F : Fresh M w (firstSpace (M .code) w) (firstStates M) =
     enter-all M S w (entryCount (M .code) - 1) 1 w (λ at. blank) (omega (arith, S .counted))
-    (record { kept = kept-self (length (M .code)) w; held = bare; free = λ at l e. absurd (not-given e) }) in
+    (record { kept = refl; held = bare; free = λ at l e. absurd (Option·none-ne-some l e) }) in
     let first : Sim M (firstSpace (M .code) w) (firstStates M) 0 =
     record {
       held = F .held;

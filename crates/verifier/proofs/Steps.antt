@@ -1,14 +1,13 @@
 -- The turns of the loops that hand on, walk and give: what is left decides the whole, as the definitions unroll by one turn. And a
 -- start lies in the code.
-use mathlib.Core.Bool.{Bool, true, false, cond}
+use mathlib.Core.Bool.{true}
 use mathlib.Core.List.{List}
 use mathlib.Core.Path.{_≡_, refl, _∙_}
-use Prim.Native.Nat.{ℕ, _+_, _*_, _-_, _<_, _≤_}
-use native.Mathlib.Nat.{sub-eq-zero-of-le}
+use Prim.Native.Nat.{ℕ, _+_, _-_, _<_, _≤_}
+use native.Mathlib.Nat.{sub-eq-zero-of-le, lt-of-not-le}
 use native.Mathlib.Omega.{arith}
-use borrow.Author.Tests.{lt-ltb, le-ltb, ltb-true, eqb-true}
-use lib.Dec.{eqb, ltb}
-use lib.ListN.{length, getD}
+use borrow.Author.Tests.{lt-ltb, le-ltb, eqb-true}
+use lib.ListN.{length}
 use Rattle.entries.specs.Entries.{entryCount}
 use Rattle.words.proofs.Left.{one-left}
 use Rattle.shape.specs.declared.Table.{Table}
@@ -22,12 +21,10 @@ use Rattle.verifier.specs.declared.hand.Handed.the-variants.{From}
 use Rattle.verifier.specs.Handing.{handing, thenHanding, handedTop, handedTargets, visitedTop, firstWaiting, walking, thenWalk, walkTop, entryGiven, entriesGiven}
 
 -- A place outside of the code has mark 0, which is no start's.
-start-by : (b : Bool) (place size mark p : ℕ) → ltb place size ≡ b → eqb (cond b mark 0) (p + 1) ≡ true → place < size
-start-by true place size mark p l e = ltb-true place size l
-start-by false place size mark p l e = let z = eqb-true 0 (p + 1) e in omega arith
-
 pub start-near : (w : List ℕ) (size p place : ℕ) → startsIn (marksIn w size) p place ≡ true → place < size
-start-near w size p place e = start-by (ltb place size) place size (getD w (4 * place + 3) 0) p refl e
+start-near w size p place e = lt-of-not-le λ h.
+    let z : 0 ≡ p + 1 = eqb-true 0 (p + 1) (rw (le-ltb place size h) at e) in
+    omega arith
 
 -- The branches of a switch's table before k are handed their list; nothing waits below `low`.
 pub record Branched (code before : List ℕ) (p at : ℕ) (table : Table) (n : ℕ) (t : Top) (from : ℕ) (w : List ℕ) (low k : ℕ) : Type 0 where

@@ -1,6 +1,6 @@
 -- The turns of the loops that look over the results list, zero the workspace and take the marks away.
 use mathlib.Core.Bool.{true, false}
-use mathlib.Core.List.{List, _++_, append-nil}
+use mathlib.Core.List.{List, _++_}
 use mathlib.Core.Path.{_≡_, refl, sym, _∙_, ap}
 use Prim.Native.Nat.{ℕ, _+_, _*_, _-_, _<_, _≤_}
 use native.Mathlib.Nat.{sub-eq-zero-of-le}
@@ -11,6 +11,7 @@ use borrow.Author.Tests.{le-leb, lt-leb}
 use lib.ListN.{length, getD, set, drop, replicate, length-set, drop-of-length-le}
 use lib.Seq.{drop-cons}
 use Rattle.words.proofs.Left.{one-left}
+use Rattle.words.proofs.Slices.{none-behind}
 use Rattle.verifier.specs.Check.{allAtMost}
 use Rattle.verifier.specs.Examine.{zeroed, unmarked}
 
@@ -43,9 +44,7 @@ module _ {before w : List ℕ} {i : ℕ} (z : Zeroing before w i) where
   pub zeroing-over : i ≡ length w → w ≡ zeroed before
   zeroing-over h =
       let l : i ≡ length before = h ∙ z .kept in
-      z .front
-      ∙ (ap (λ (r : List ℕ). replicate i 0 ++ r) (drop-of-length-le before {i = i} (omega arith))
-      ∙ (append-nil (replicate i 0) ∙ ap (λ (k : ℕ). replicate k 0) l))
+      z .front ∙ (none-behind (replicate i 0) before i (omega arith) ∙ ap (λ (k : ℕ). replicate k 0) l)
 
 -- The marks before `at` are taken away: what is left decides.
 pub record Unmarking (before w : List ℕ) (size at : ℕ) : Type 0 where

@@ -19,17 +19,17 @@ use Rattle.stackmap.specs.Ways.{Module}
 use Rattle.stackmap.specs.StackMap.{waysOf, waysAt}
 use Rattle.stackmap.specs.Walk.{waiting, done, States, slotsIn, mapOf, passed, visited}
 use Rattle.stackmap.specs.Theorems.{Sound}
-use Rattle.stackmap.proofs.Updates.{Change, changed, spared, change}
-use Rattle.stackmap.proofs.Placing.{owner}
+use Rattle.layout.proofs.Updates.{Change, changed, spared, change}
+use Rattle.stackmap.proofs.Counts.{done-waits}
+use Rattle.stackmap.proofs.Placing.{owner, Grows, grows-change}
 use Rattle.compact.specs.Tops.{top}
 use Rattle.verifier.specs.Handing.{visitedWith, visitedTop}
 use Rattle.verifier.proofs.Coherence.{shown-done, topOf}
 use Rattle.verifier.proofs.Agreement.{ways-stand}
 use Rattle.verifier.proofs.Passing.{ways-coherent}
 use Rattle.verifier.proofs.Fields.{Within, within-set}
-use Rattle.verifier.proofs.Keeping.{kept-self, within-kept, Grows, Clear, Sim, shows-map, grows-change, sim-change, all-grow}
+use Rattle.verifier.proofs.Keeping.{Clear, Sim, shows-map, sim-change, all-grow}
 use Rattle.verifier.proofs.Parallel.{Parallel, both-stop, parallel-after, ways-alike}
-use Rattle.verifier.proofs.Searching.{done-waits}
 
 module _ (M : Module) (S : Sound M) (w : List ℕ) (σ : States) (from : ℕ) (X : Sim M w σ from) (at : ℕ) (l : List Slot)
     (h : at < length (M .code)) (waits : σ at ≡ waiting l) (c : Clear σ at) where
@@ -37,10 +37,10 @@ module _ (M : Module) (S : Sound M) (w : List ℕ) (σ : States) (from : ℕ) (X
   has = ap slotsIn waits
 
   high : getD w (4 * at) 0 ≡ length l + 1
-  high = shows-map (X .held) .height at l has
+  high = shows-map (X .held) at l has .height
 
   low : getD w (4 * at + 1) 0 ≡ topOrigin l
-  low = shows-map (X .held) .origin at l has
+  low = shows-map (X .held) at l has .origin
 
   found : top (getD w (4 * at) 0 - 1) (getD w (4 * at + 1) 0) ≡ topOf l
   found = rw (high, low) (ap (λ (n : ℕ). top n (topOrigin l)) (omega arith))
@@ -76,11 +76,11 @@ module _ (M : Module) (S : Sound M) (w : List ℕ) (σ : States) (from : ℕ) (X
   decoded : (d : Decoded) → decodeAt (M .code) (regionEnd (M .code) (owner M at)) at ≡ d
       → Parallel M w σ (visitedWith (M .code) (M .results) w (owner M at) at d)
       (passed M (owner M at) (updated σ at (done l)) (waysOf M (owner M at) at l d))
-  decoded Unserved e = both-stop (kept-self (length (M .code)) w)
-  decoded Past e = both-stop (kept-self (length (M .code)) w)
+  decoded Unserved e = both-stop refl
+  decoded Past e = both-stop refl
   decoded (At i next) e =
       rw found
-      (parallel-after (within-kept h marked) grown
+      (parallel-after (marked .long) grown
       (ways-alike M S (owner M at) at cleared (updated σ at (done l)) (at + 1) finished
       (ways-stand M (owner M at) at next (shapeOf i) w (mapOf σ) l (X .coherent at l has) (shows-map (X .held)))
       λ out g. all-grow grown
