@@ -194,10 +194,7 @@ pub fn calls(code: &[u8], q: Registers, m: &[u32], next: u32, p: u32) -> Effect
     requires { ⌜ length (now m) ≤ 16384 ⌝ }
     ensures { λ e. ⌜ e ≡ calls (now (code .entry)) q (now (m .entry)) next p ⌝ }
 {
-    if p == 0 {
-        return Effect::Trap(23);
-    }
-    if entries::entry_count(code) <= p {
+    if entries::is_no_callee(code, p) {
         return Effect::Trap(23);
     }
     if 64 <= q.calls {

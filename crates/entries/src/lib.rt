@@ -1,6 +1,6 @@
 // The entry table at the start of the code, and the procedures' regions.
 ghost use mathlib.Core.Path.{_≡_};
-ghost use Rattle.entries.specs.Entries.{entryAt, entryCount, countSound, entriesSound, regionEnd};
+ghost use Rattle.entries.specs.Entries.{entryAt, entryCount, noCallee, countSound, entriesSound, regionEnd};
 
 pub fn entry_at(code: &[u8], p: u32) -> u16
     ensures { λ n. ⌜ n ≡ entryAt (now (code .entry)) p ⌝ }
@@ -15,6 +15,16 @@ pub fn entry_count(code: &[u8]) -> u32
         return 1;
     }
     (entry_at(code, 1) / 2) as u32
+}
+
+// Procedure 0 is never called, and past the count there is none.
+pub fn is_no_callee(code: &[u8], p: u32) -> bool
+    ensures { λ b. ⌜ b ≡ noCallee (now (code .entry)) p ⌝ }
+{
+    if p == 0 {
+        return true;
+    }
+    entry_count(code) <= p
 }
 
 fn count_sound(code: &[u8]) -> bool

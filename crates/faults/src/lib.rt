@@ -2,7 +2,7 @@
 ghost use mathlib.Core.Path.{_≡_};
 ghost use mathlib.Core.List.{[], _∷_};
 ghost use mathlib.Core.Bool.{not, _&&_, _||_};
-ghost use lib.Dec.{eqb, leb};
+ghost use lib.Dec.{eqb};
 ghost use Prim.Native.Nat.{_≤_, _<_, _-_};
 ghost use lib.ListN.{length};
 ghost use Rattle.entries.specs.Entries.{entryAt, entryCount};
@@ -153,15 +153,6 @@ fn is_misplaced(code: &[u8], p: u32, at: usize, next: usize, shape: Shape) -> bo
     }
 }
 
-fn is_no_callee(code: &[u8], c: u32) -> bool
-    ensures { λ b. ⌜ b ≡ (eqb c 0 || leb (entryCount (now (code .entry))) c) ⌝ }
-{
-    if c == 0 {
-        return true;
-    }
-    entries::entry_count(code) <= c
-}
-
 // 14: callee 0 or not in the entries.
 fn is_uncallable(code: &[u8], p: u32, at: usize, next: usize, shape: Shape) -> bool
     ensures { λ b. ⌜ b ≡ uncallable (now (code .entry)) p at next shape ⌝ }
@@ -176,7 +167,7 @@ fn is_uncallable(code: &[u8], p: u32, at: usize, next: usize, shape: Shape) -> b
         Shape::Again => false,
         Shape::Select(_, _) => false,
         Shape::Exit => false,
-        Shape::Invoke(c) => is_no_callee(code, c),
+        Shape::Invoke(c) => entries::is_no_callee(code, c),
         Shape::Begin(_) => false,
         Shape::Return => false,
     }

@@ -69,7 +69,7 @@ fn start_of(code: &[u8], areas: Areas) -> Registers
     requires { ⌜ framesStart areas ≤ 16384 ⌝ }
     ensures { λ q. ⌜ q ≡ startOf (program (now (code .entry)) areas) ⌝ }
 {
-    let frames = 3 + areas.globals + areas.constants;
+    let frames = areas.frames_start() as u32;
     Registers {
         pc: entries::entry_at(code, 0) as u32,
         fp: frames,

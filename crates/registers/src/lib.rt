@@ -1,6 +1,7 @@
 // The registers, by value.
 ghost use mathlib.Core.Path.{_≡_};
 ghost use Prim.Native.Nat.{_≤_, _<_, _+_};
+ghost use Rattle.registers.specs.Program.{framesStart};
 ghost use Rattle.registers.specs.Changes.{moved, sized, raised, called, returned};
 
 pub mod access;
@@ -18,6 +19,15 @@ pub struct Registers {
 pub struct Areas {
     pub globals: u32,
     pub constants: u32,
+}
+
+impl Areas {
+    // Where frames begin: behind header words, globals and constants.
+    pub fn frames_start(self) -> usize
+        ensures { λ n. ⌜ n ≡ framesStart self ⌝ }
+    {
+        3 + (self.globals as usize) + (self.constants as usize)
+    }
 }
 
 impl Registers {

@@ -10,7 +10,7 @@ use registers::access;
 pub fn sizes_taken(areas: Areas, memory: &[u32], stack: &[u32]) -> bool
     ensures { λ b. ⌜ b ≡ sizesTaken areas (now (memory .entry)) (now (stack .entry)) ⌝ }
 {
-    if memory.len() < 3 + (areas.globals as usize) + (areas.constants as usize) {
+    if memory.len() < areas.frames_start() {
         return false;
     }
     if 16384 < memory.len() {
@@ -81,6 +81,5 @@ pub fn state_fits(areas: Areas, q: Registers, memory: &[u32], stack: &[u32]) -> 
     if !registers_fit(q, memory, stack) {
         return false;
     }
-    let start = 3 + (areas.globals as usize) + (areas.constants as usize);
-    is_chained(memory, start, q.fp, q.calls)
+    is_chained(memory, areas.frames_start(), q.fp, q.calls)
 }

@@ -1,8 +1,8 @@
 -- `state::state_fits` meets its contract: each return is the first part that does not fit, or the last one.
-use borrow.Author.Needs.{needs}
 use borrow.Author.Tests.{not-true, not-false}
-use Rattle.state.proofs.state_fits.Statement.{statement}
+use borrow.Author.Needs.{needs}
 use Rattle.state.specs.Fits.{fits}
+use Rattle.state.proofs.state_fits.Statement.{statement}
 use Rattle.state.proofs.state_fits.Tie as tie
 
 sizes-taken-requires : tie.Need-sizes-taken-requires
@@ -17,53 +17,24 @@ header-kept-requires c κs = search needs
 
 returns-2 : tie.Need-returns-2
 unfolding fits
-returns-2 c = rw (
-  ← c .before .before .before .sizes-taken .ensures,
-  not-false (c .before .before .before .sizes-taken .result) (c .before .before .if1 .left),
-  ← c .before .header-kept .ensures,
-  not-true (c .before .header-kept .result) (c .if2 .taken),
-)
+returns-2 c = rw (← c .before .before .before .sizes-taken .ensures, not-false (c .before .before .before .sizes-taken .result) (c .before .before .if1 .left), ← c .before .header-kept .ensures, not-true (c .before .header-kept .result) (c .if2 .taken))
 
 registers-fit-requires : tie.Need-registers-fit-requires
 registers-fit-requires c κs = search needs
 
 returns-3 : tie.Need-returns-3
 unfolding fits
-returns-3 c = rw (
-  ← c .before .before .before .before .before .sizes-taken .ensures,
-  not-false (c .before .before .before .before .before .sizes-taken .result) (c .before .before .before .before .if1 .left),
-  ← c .before .before .before .header-kept .ensures,
-  not-false (c .before .before .before .header-kept .result) (c .before .before .if2 .left),
-  ← c .before .registers-fit .ensures,
-  not-true (c .before .registers-fit .result) (c .if3 .taken),
-)
+returns-3 c = rw (← c .before .before .before .before .before .sizes-taken .ensures, not-false (c .before .before .before .before .before .sizes-taken .result) (c .before .before .before .before .if1 .left), ← c .before .before .before .header-kept .ensures, not-false (c .before .before .before .header-kept .result) (c .before .before .if2 .left), ← c .before .registers-fit .ensures, not-true (c .before .registers-fit .result) (c .if3 .taken))
 
-cast-start : tie.Need-cast-start
-cast-start c = search needs
-
-add-start : tie.Need-add-start
-add-start c = search needs
-
-cast-start-2 : tie.Need-cast-start-2
-cast-start-2 c = search needs
-
-add-start-2 : tie.Need-add-start-2
-add-start-2 c = search needs
+frames-start-requires : tie.Need-frames-start-requires
+frames-start-requires c κs = search needs
 
 is-chained-requires : tie.Need-is-chained-requires
 is-chained-requires c κs = search needs
 
 returns-4 : tie.Need-returns-4
 unfolding fits
-returns-4 c = rw (
-  ← c .before .before .before .before .before .before .before .before .sizes-taken .ensures,
-  not-false (c .before .before .before .before .before .before .before .before .sizes-taken .result) (c .before .before .before .before .before .before .before .if1 .left),
-  ← c .before .before .before .before .before .before .header-kept .ensures,
-  not-false (c .before .before .before .before .before .before .header-kept .result) (c .before .before .before .before .before .if2 .left),
-  ← c .before .before .before .before .registers-fit .ensures,
-  not-false (c .before .before .before .before .registers-fit .result) (c .before .before .before .if3 .left),
-  c .is-chained .ensures,
-)
+returns-4 c = rw (← c .before .before .before .before .before .before .before .sizes-taken .ensures, not-false (c .before .before .before .before .before .before .before .sizes-taken .result) (c .before .before .before .before .before .before .if1 .left), ← c .before .before .before .before .before .header-kept .ensures, not-false (c .before .before .before .before .before .header-kept .result) (c .before .before .before .before .if2 .left), ← c .before .before .before .registers-fit .ensures, not-false (c .before .before .before .registers-fit .result) (c .before .before .if3 .left), c .is-chained .ensures, c .before .frames-start .ensures)
 
 pub state-fits-spec : {M : Type 1} → statement M
 state-fits-spec =
@@ -75,9 +46,6 @@ state-fits-spec =
     returns-2
     registers-fit-requires
     returns-3
-    cast-start
-    add-start
-    cast-start-2
-    add-start-2
+    frames-start-requires
     is-chained-requires
     returns-4)
