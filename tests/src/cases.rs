@@ -61,40 +61,40 @@ impl Case {
         }
     }
 
-    /// The answer of an implementation, if it has the call.
-    pub fn answer(&self, library: &Interface) -> Option<Answer> {
+    /// The answer of an implementation.
+    pub fn answer(&self, library: &Interface) -> Answer {
         match self {
             Case::Check { record, results, workspace } => {
                 let mut workspace = workspace.clone();
-                let number = library.check?(record, results, &mut workspace);
-                Some(Answer::Check { number, workspace })
+                let number = (library.check)(record, results, &mut workspace);
+                Answer::Check { number, workspace }
             }
             Case::Load { record, parameters, memory, stack } => {
                 let mut machine =
                     Words { state: [0; STATE_WORDS], memory: memory.clone(), stack: stack.clone() };
                 let Words { state, memory, stack } = &mut machine;
-                let number = (library.machine?.load)(record, parameters, memory, stack, state);
-                Some(Answer::Load { number, machine })
+                let number = (library.load)(record, parameters, memory, stack, state);
+                Answer::Load { number, machine }
             }
             Case::Run { record, budget, machine } => {
                 let mut machine = machine.clone();
                 let Words { state, memory, stack } = &mut machine;
                 // A refused run leaves the outcome as it was, too.
                 let mut outcome = [u32::MAX; OUTCOME_WORDS];
-                let run = library.machine?.run;
-                let ended = match run(record, *budget, memory, stack, state, &mut outcome) {
+                let number = (library.run)(record, *budget, memory, stack, state, &mut outcome);
+                let ended = match number {
                     0 => Ok(outcome),
-                    number if outcome == [u32::MAX; OUTCOME_WORDS] => Err(number),
-                    number => panic!("refused with {number}, but wrote outcome {outcome:?}"),
+                    _ if outcome == [u32::MAX; OUTCOME_WORDS] => Err(number),
+                    _ => panic!("refused with {number}, but wrote outcome {outcome:?}"),
                 };
-                Some(Answer::Run { ended, machine })
+                Answer::Run { ended, machine }
             }
             Case::Line { record, offset } => {
-                let answer = (library.record?.line)(record, *offset);
-                Some(Answer::Line(match (answer >> 32) as u32 {
+                let answer = (library.line)(record, *offset);
+                Answer::Line(match (answer >> 32) as u32 {
                     0 => Ok(answer as u32),
                     number => Err(number),
-                }))
+                })
             }
         }
     }

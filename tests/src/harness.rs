@@ -152,12 +152,9 @@ fn rare(tally: &Tally, expected: &[Expected]) -> Vec<String> {
 pub fn agree(case: &Case, library: &Interface) -> Result<Answer, String> {
     let found = case.answer(library);
     let expected = case.answer(&REFERENCE);
-    match (found, expected) {
-        (Some(found), Some(expected)) if found == expected => Ok(found),
-        (Some(found), Some(expected)) => {
-            let code = listing(case.record());
-            Err(format!("case      {case}\nproved    {found}\nreference {expected}\n{code}"))
-        }
-        _ => Err(format!("{} is not supported", case.verb())),
+    if found == expected {
+        return Ok(found);
     }
+    let code = listing(case.record());
+    Err(format!("case      {case}\nproved    {found}\nreference {expected}\n{code}"))
 }

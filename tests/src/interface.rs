@@ -11,20 +11,27 @@ use crate::{check, record, report};
 pub const STATE_WORDS: usize = 6;
 pub const OUTCOME_WORDS: usize = 3;
 
-pub type RecordNumber = fn(record: &[u8]) -> u32;
-/// number * 2^32 + line
-pub type Line = fn(record: &[u8], offset: u32) -> u64;
-pub type Decode = fn(code: &[u8], limit: usize, at: usize, out: &mut [u32]) -> u32;
-pub type Check = fn(record: &[u8], results: &[u8], workspace: &mut [u16]) -> u32;
-pub type Report = fn(run_file: &[u8], out: &mut [u8]) -> usize;
-pub type Load = fn(
+/// The calls of one implementation.
+#[derive(Clone, Copy)]
+pub struct Interface {
+    pub number: fn(record: &[u8]) -> u32,
+    /// number * 2^32 + line
+    pub line: fn(record: &[u8], offset: u32) -> u64,
+    pub check: fn(record: &[u8], results: &[u8], workspace: &mut [u16]) -> u32,
+    pub report: fn(run_file: &[u8], out: &mut [u8]) -> usize,
+    pub decode: fn(code: &[u8], limit: usize, at: usize, out: &mut [u32]) -> u32,
+    pub load: Load,
+    pub run: Run,
+}
+
+type Load = fn(
     record: &[u8],
     parameters: &[u32],
     memory: &mut [u32],
     stack: &mut [u32],
     state: &mut [u32],
 ) -> u32;
-pub type Run = fn(
+type Run = fn(
     record: &[u8],
     budget: u32,
     memory: &mut [u32],
@@ -33,34 +40,15 @@ pub type Run = fn(
     outcome: &mut [u32],
 ) -> u32;
 
-#[derive(Clone, Copy)]
-pub struct RecordCalls {
-    pub number: RecordNumber,
-    pub line: Line,
-    pub decode: Decode,
-}
-
-#[derive(Clone, Copy)]
-pub struct MachineCalls {
-    pub load: Load,
-    pub run: Run,
-}
-
-/// The calls of one implementation. A group is none where its feature is off.
-#[derive(Clone, Copy)]
-pub struct Interface {
-    pub record: Option<RecordCalls>,
-    pub machine: Option<MachineCalls>,
-    pub check: Option<Check>,
-    pub report: Option<Report>,
-}
-
 /// The reference.
 pub const REFERENCE: Interface = Interface {
-    record: Some(RecordCalls { number: record::number, line, decode }),
-    machine: Some(MachineCalls { load, run }),
-    check: Some(check::check),
-    report: Some(report::report),
+    number: record::number,
+    line,
+    check: check::check,
+    report: report::report,
+    decode,
+    load,
+    run,
 };
 
 fn line(record: &[u8], offset: u32) -> u64 {

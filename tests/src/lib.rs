@@ -17,8 +17,6 @@ pub mod report;
 // Both implementations behind one interface.
 pub mod interface;
 pub mod ffi;
-#[cfg(feature = "selftest")]
-pub mod selftest;
 
 // The comparison.
 pub mod cases;

@@ -10,8 +10,6 @@ use std::fs;
 use std::path::{Path, PathBuf};
 use std::process::ExitCode;
 
-/// Stands for the answer of a call whose feature is off.
-pub const UNSUPPORTED: &str = "unsupported";
 const AGREES: &str = "as in the papers";
 /// Differences that are printed in full.
 const SHOWN: usize = 5;
@@ -22,7 +20,6 @@ const PAGE_BYTES: usize = 4 * LARGEST_RUN_FILE;
 struct Counts {
     passed: usize,
     different: usize,
-    unsupported: usize,
 }
 
 /// Counts by verb, and the differences.
@@ -37,8 +34,6 @@ impl Findings {
         let counts = self.counts.entry(verb).or_default();
         if found == expected {
             counts.passed += 1;
-        } else if found == UNSUPPORTED {
-            counts.unsupported += 1;
         } else {
             counts.different += 1;
             self.differences += 1;
@@ -66,21 +61,18 @@ pub fn main(library: &Interface) -> ExitCode {
 }
 
 /// Runs all vectors of a folder, prints a line of counts for each verb, and says whether
-/// everything that is supported agreed.
+/// everything agreed.
 fn run(folder: &Path, library: &Interface) -> Result<bool, String> {
     let mut findings = Findings::default();
     for (name, finding) in worked_cases::run(library) {
-        let found = finding.map_or(UNSUPPORTED.to_string(), |finding| match finding {
-            Ok(()) => AGREES.to_string(),
-            Err(difference) => difference,
-        });
+        let found = finding.err().unwrap_or(AGREES.to_string());
         findings.note("worked", name, AGREES, &found);
     }
     run_calls(folder, library, &mut findings)?;
     run_pages(folder, library, &mut findings)?;
     for (verb, counts) in &findings.counts {
-        let Counts { passed, different, unsupported } = counts;
-        println!("{verb}: {passed} passed, {different} different, {unsupported} unsupported");
+        let Counts { passed, different } = counts;
+        println!("{verb}: {passed} passed, {different} different");
     }
     Ok(findings.differences == 0)
 }
@@ -94,7 +86,7 @@ fn run_calls(folder: &Path, library: &Interface, findings: &mut Findings) -> Res
     for (index, (case, expected)) in cases.lines().zip(answers.lines()).enumerate() {
         let name = format!("line {}", index + 1);
         let case: Case = case.parse().map_err(|error| format!("{name}: {error}"))?;
-        findings.note(case.verb(), &name, expected, &answer_text(&case, library));
+        findings.note(case.verb(), &name, expected, &case.answer(library).to_string());
         note_record(case.record(), expected, &name, library, findings);
     }
     Ok(())
@@ -111,11 +103,9 @@ fn run_pages(folder: &Path, library: &Interface, findings: &mut Findings) -> Res
         let name = path.display().to_string();
         let file = fs::read(&path).map_err(|error| format!("{name}: {error}"))?;
         let expected = read_text(&path.with_extension("out"))?;
-        let found = library.report.map_or(UNSUPPORTED.to_string(), |report| {
-            let mut out = vec![0; PAGE_BYTES];
-            let written = report(&file, &mut out);
-            String::from_utf8_lossy(&out[..written]).into_owned()
-        });
+        let mut out = vec![0; PAGE_BYTES];
+        let written = (library.report)(&file, &mut out);
+        let found = String::from_utf8_lossy(&out[..written]);
         findings.note("page", &name, &expected, &found);
         if let Some(file) = RunFile::read(&file) {
             note_record(file.record, &expected, &name, library, findings);
@@ -138,14 +128,8 @@ fn note_record(
         _ => "0",
     };
     let expected = if ["1", "2", "3", "4", "5", "6", "7"].contains(&number) { number } else { "0" };
-    let found =
-        library.record.map_or(UNSUPPORTED.to_string(), |calls| (calls.number)(record).to_string());
+    let found = (library.number)(record).to_string();
     findings.note("record", name, expected, &found);
-}
-
-/// The answer line of an implementation.
-pub fn answer_text(case: &Case, library: &Interface) -> String {
-    case.answer(library).map_or(UNSUPPORTED.to_string(), |answer| answer.to_string())
 }
 
 fn read_text(path: &Path) -> Result<String, String> {

@@ -1,9 +1,8 @@
 //! The cases that the papers work out: the twelve of 01 (its plates) and the manual's sample 5.3.
 
-use crate::cases::{Answer, Case, Words};
 use crate::check::STRIDE;
 use crate::generate::record::Parts;
-use crate::interface::Interface;
+use crate::interface::{Interface, OUTCOME_WORDS, STATE_WORDS};
 
 /// A program with what check and run answer for it.
 struct Worked {
@@ -14,7 +13,7 @@ struct Worked {
     memory: usize,
     check: u32,
     /// End, place and steps; none where the papers do not say.
-    outcome: Option<[u32; 3]>,
+    outcome: Option<[u32; OUTCOME_WORDS]>,
     /// Globals and stack at the end, as far as the papers give them.
     globals: Vec<u32>,
     stack: Option<Vec<u32>>,
@@ -62,35 +61,30 @@ impl Worked {
         Worked { stack: Some(stack.to_vec()), ..self }
     }
 
-    /// What differs from the papers, if anything; none where a call is not supported.
-    fn differs(&self, library: &Interface) -> Option<Result<(), String>> {
+    /// Err with what differs from the papers.
+    fn hold(&self, library: &Interface) -> Result<(), String> {
         let record = self.parts.assemble();
-        let workspace = vec![0; STRIDE * self.parts.code.len()];
-        let results = self.results.clone();
-        let check = Case::Check { record: record.clone(), results, workspace }.answer(library)?;
-        if check.number() != self.check {
-            return Some(Err(format!("check {}, not {}", check.number(), self.check)));
+        let mut workspace = vec![0; STRIDE * self.parts.code.len()];
+        let number = (library.check)(&record, &self.results, &mut workspace);
+        if number != self.check {
+            return Err(format!("check {number}, not {}", self.check));
         }
-        let parameters = self.parameters.clone();
-        let (memory, stack) = (vec![9; self.memory], vec![9; STACK]);
-        let load = Case::Load { record: record.clone(), parameters, memory, stack };
-        let Answer::Load { number, machine } = load.answer(library)? else { return None };
+        let mut state = [0; STATE_WORDS];
+        let (mut memory, mut stack) = (vec![9; self.memory], vec![9; STACK]);
+        let (memory, stack) = (&mut memory[..], &mut stack[..]);
+        let number = (library.load)(&record, &self.parameters, memory, stack, &mut state);
         // Load refuses what the record's own tests refuse.
         if number != if self.check <= 7 { self.check } else { 0 } {
-            return Some(Err(format!("load {number}")));
+            return Err(format!("load {number}"));
         }
-        let Some(expected) = self.outcome else { return Some(Ok(())) };
-        let run = Case::Run { record, budget: BUDGET, machine }.answer(library)?;
-        let Answer::Run { ended, machine } = run else { return None };
-        if ended != Ok(expected) {
-            return Some(Err(format!("run {ended:?}, not {expected:?}")));
+        let Some(expected) = self.outcome else { return Ok(()) };
+        let mut outcome = [0; OUTCOME_WORDS];
+        let number = (library.run)(&record, BUDGET, memory, stack, &mut state, &mut outcome);
+        if (number, outcome) != (0, expected) {
+            return Err(format!("run {number} {outcome:?}, not 0 {expected:?}"));
         }
-        Some(self.words_differ(&machine))
-    }
-
-    fn words_differ(&self, machine: &Words) -> Result<(), String> {
-        let globals = &machine.memory[3..3 + self.globals.len()];
-        let stack = &machine.stack[..machine.state[4] as usize];
+        let globals = &memory[3..3 + self.globals.len()];
+        let stack = &stack[..state[4] as usize];
         match &self.stack {
             _ if globals != self.globals => Err(format!("globals {globals:?}")),
             Some(expected) if stack != expected => Err(format!("stack {stack:?}")),
@@ -99,9 +93,9 @@ impl Worked {
     }
 }
 
-/// Name and finding of each case; none where a call is not supported.
-pub fn run(library: &Interface) -> Vec<(&'static str, Option<Result<(), String>>)> {
-    all().iter().map(|worked| (worked.name, worked.differs(library))).collect()
+/// Name and finding of each case.
+pub fn run(library: &Interface) -> Vec<(&'static str, Result<(), String>)> {
+    all().iter().map(|worked| (worked.name, worked.hold(library))).collect()
 }
 
 fn all() -> Vec<Worked> {
@@ -173,7 +167,7 @@ mod tests {
     #[test]
     fn reference_answers_as_the_papers_do() {
         for (name, finding) in super::run(&REFERENCE) {
-            assert_eq!(finding, Some(Ok(())), "case {name}");
+            assert_eq!(finding, Ok(()), "case {name}");
         }
     }
 }

@@ -28,13 +28,12 @@ fn main() -> ExitCode {
         [side, name, count] => one(side, name, count),
         _ => Err("arguments: none, or SIDE WORKLOAD COUNT".to_string()),
     };
-    if let Err(error) = &result {
-        eprintln!("{error}");
-    }
-    if result.is_ok() {
-        ExitCode::SUCCESS
-    } else {
-        ExitCode::FAILURE
+    match result {
+        Ok(()) => ExitCode::SUCCESS,
+        Err(error) => {
+            eprintln!("{error}");
+            ExitCode::FAILURE
+        }
     }
 }
 
@@ -95,13 +94,12 @@ fn one(side: &str, name: &str, count: &str) -> Result<(), String> {
 
 /// Loads the workload and runs it for `steps` steps.
 fn run(library: &Interface, workload: &Workload, steps: u32) -> Result<(), String> {
-    let machine = library.machine.ok_or("the feature machine is off")?;
     let (mut memory, mut stack) = ([0; 256], [0; 64]);
     let mut state = [0; STATE_WORDS];
     let mut outcome = [0; OUTCOME_WORDS];
     let record = black_box(&workload.record[..]);
-    let loaded = (machine.load)(record, &[], &mut memory, &mut stack, &mut state);
-    let ran = (machine.run)(record, steps, &mut memory, &mut stack, &mut state, &mut outcome);
+    let loaded = (library.load)(record, &[], &mut memory, &mut stack, &mut state);
+    let ran = (library.run)(record, steps, &mut memory, &mut stack, &mut state, &mut outcome);
     match (loaded, ran, outcome) {
         (0, 0, [1, _, done]) if done == steps => Ok(()),
         _ => Err(format!("{}: load {loaded}, run {ran}, outcome {outcome:?}", workload.name)),
@@ -110,11 +108,11 @@ fn run(library: &Interface, workload: &Workload, steps: u32) -> Result<(), Strin
 
 /// Checks the workload `times` times.
 fn check(library: &Interface, workload: &Workload, times: u32) -> Result<(), String> {
-    let check = library.check.ok_or("the feature check is off")?;
     let size = Record::read(&workload.record).map_or(0, |record| STRIDE * record.code.len());
     let mut workspace = vec![0; size];
     for _ in 0..times {
-        match check(black_box(&workload.record), black_box(&workload.results), &mut workspace) {
+        let (record, results) = (black_box(&workload.record), black_box(&workload.results));
+        match (library.check)(record, results, &mut workspace) {
             0 => {}
             number => return Err(format!("{}: check {number}", workload.name)),
         }

@@ -6,7 +6,7 @@
 use conformance::case_text::Hex;
 use conformance::ffi::PROVED;
 use conformance::harness::{self, Expected, Tally};
-use conformance::interface::{Decode, REFERENCE};
+use conformance::interface::{Interface, REFERENCE};
 use conformance::parts::PARTS;
 use conformance::random::Random;
 use conformance::switch_table::SwitchTable;
@@ -60,18 +60,16 @@ struct Call<'a> {
 
 impl Call<'_> {
     /// The answer, and all words afterwards.
-    fn answer(&self, decode: Decode) -> (u32, [u32; MARGIN + LONGEST_OUT + MARGIN]) {
+    fn answer(&self, library: &Interface) -> (u32, [u32; MARGIN + LONGEST_OUT + MARGIN]) {
         let mut words = [FILL; MARGIN + LONGEST_OUT + MARGIN];
         let out = &mut words[MARGIN..MARGIN + self.out_words];
-        let number = decode(self.code, self.limit, self.at, out);
+        let number = (library.decode)(self.code, self.limit, self.at, out);
         (number, words)
     }
 
     fn agree(&self, tally: &mut Tally) -> Result<(), String> {
-        const REFERENCE_DECODE: Decode = REFERENCE.record.unwrap().decode;
-        let decode = PROVED.record.ok_or("the feature record is off")?.decode;
-        let found = self.answer(decode);
-        let expected = self.answer(REFERENCE_DECODE);
+        let found = self.answer(&PROVED);
+        let expected = self.answer(&REFERENCE);
         if found != expected {
             let Call { code, limit, at, out_words } = self;
             let shown = code.get(*at..).unwrap_or(&[]);

@@ -9,7 +9,7 @@ use conformance::generate::record::Parts;
 use conformance::generate::{instructions, record, state};
 use conformance::harness::{self, agree, Expected, Tally};
 use conformance::instruction::{decode, Instruction};
-use conformance::interface::{MachineCalls, REFERENCE};
+use conformance::interface::{Interface, REFERENCE};
 use conformance::random::{Random, EDGES};
 use conformance::record::Record;
 
@@ -101,8 +101,7 @@ fn load_and_run(random: &mut Random, tally: &mut Tally, program: &Program) -> Re
     if number > 0 {
         return Ok(());
     }
-    let pieces = random.within(1..=4);
-    run_on(random, tally, record, machine, pieces)
+    run_on(random, tally, record, machine, 4)
 }
 
 /// Runs from a random state that fits, or nearly.
@@ -125,19 +124,18 @@ fn run_from_fitting(
     if unfit {
         state::unfit(random, &mut machine);
     }
-    let pieces = random.within(1..=2);
-    run_on(random, tally, record, machine, pieces)
+    run_on(random, tally, record, machine, 2)
 }
 
-/// Runs, and goes on from where the last run ended, whatever its end.
+/// Runs, and goes on from where the last run ended, whatever its end: 1 to `most` times.
 fn run_on(
     random: &mut Random,
     tally: &mut Tally,
     record: Vec<u8>,
     mut machine: Words,
-    pieces: usize,
+    most: usize,
 ) -> Result<(), String> {
-    for _ in 0..pieces {
+    for _ in 0..random.within(1..=most) {
         let budget = random.pick(&[0, 1, 1, 2, 3, 10, 60, 300]);
         let first = opcode_at(&record, machine.state[0]);
         let case = Case::Run { record: record.clone(), budget, machine };
@@ -190,17 +188,17 @@ fn other_lengths(random: &mut Random) -> Result<(), String> {
     let (memory, stack) = state::fresh(random, &record);
     let state_words = random.pick(&[0, 1, 5, 6, 7, 12]);
     let outcome_words = if state_words == 6 { random.pick(&[0, 2, 4, 6]) } else { 3 };
-    let try_both = |machine: MachineCalls| {
+    let try_both = |library: &Interface| {
         let (mut memory, mut stack) = (memory.clone(), stack.clone());
         let mut state = vec![9; state_words];
         let mut outcome = vec![9; outcome_words];
         let (memory, stack) = (&mut memory[..], &mut stack[..]);
-        let ran = (machine.run)(&record, 5, memory, stack, &mut state, &mut outcome);
-        let loaded = (machine.load)(&record, &[], memory, stack, &mut state);
+        let ran = (library.run)(&record, 5, memory, stack, &mut state, &mut outcome);
+        let loaded = (library.load)(&record, &[], memory, stack, &mut state);
         (loaded, ran, memory.to_vec(), stack.to_vec(), state, outcome)
     };
-    match (PROVED.machine, REFERENCE.machine) {
-        (Some(proved), Some(reference)) if try_both(proved) == try_both(reference) => Ok(()),
-        _ => Err(format!("state of {state_words} words, outcome of {outcome_words} words")),
+    if try_both(&PROVED) != try_both(&REFERENCE) {
+        return Err(format!("state of {state_words} words, outcome of {outcome_words} words"));
     }
+    Ok(())
 }

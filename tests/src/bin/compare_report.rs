@@ -31,8 +31,7 @@ fn compare(random: &mut Random, tally: &mut Tally) -> Result<(), String> {
         let expected_written = report::report(&file, &mut expected);
         tally.note("too short", u32::from(expected_written == 0));
         let mut found = vec![FILL; length];
-        let call = PROVED.report.ok_or("the feature report is off")?;
-        let written = call(&file, &mut found);
+        let written = (PROVED.report)(&file, &mut found);
         if (written, &found) != (expected_written, &expected) {
             let found = String::from_utf8_lossy(&found);
             return Err(format!(

@@ -52,7 +52,7 @@ fn checked(record: &[u8], results: &[u8]) -> Result<Vec<u16>, String> {
     let (record, results) = (record.to_vec(), results.to_vec());
     let case = Case::Check { record, results, workspace: vec![0xffff; size] };
     match case.answer(&PROVED) {
-        Some(Answer::Check { number: 0, workspace }) => Ok(workspace),
+        Answer::Check { number: 0, workspace } => Ok(workspace),
         _ => Err(format!("refused: {case}")),
     }
 }
@@ -67,7 +67,7 @@ fn loaded(random: &mut Random, bytes: &[u8], record: &Record) -> Result<Words, S
     let stack = random.words(stack);
     let case = Case::Load { record: bytes.to_vec(), parameters, memory, stack };
     match case.answer(&PROVED) {
-        Some(Answer::Load { number: 0, machine }) => Ok(machine),
+        Answer::Load { number: 0, machine } => Ok(machine),
         _ => Err(format!("refused: {case}")),
     }
 }
@@ -120,7 +120,7 @@ impl Follower<'_> {
     fn step(&self, machine: &Words) -> Result<(u32, Words), String> {
         let case = Case::Run { record: self.bytes.to_vec(), budget: 1, machine: machine.clone() };
         match case.answer(&PROVED) {
-            Some(Answer::Run { ended: Ok([end, at, steps]), machine: after }) => {
+            Answer::Run { ended: Ok([end, at, steps]), machine: after } => {
                 let counted = u32::from(end <= 1);
                 let place = if end == 1 { after.state[0] } else { machine.state[0] };
                 if (at, steps) != (place, counted) {

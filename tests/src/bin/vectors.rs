@@ -1,5 +1,4 @@
-//! Runs the stored vectors through the proved library, as far as the enabled features allow.
-//! Argument: the folder of the vectors.
+//! Runs the stored vectors through the proved library. Argument: the folder of the vectors.
 
 use conformance::ffi::PROVED;
 use conformance::vectors;
