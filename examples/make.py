@@ -11,16 +11,9 @@ eleven the positions differ; on page twelve a star is listed twice.
 import sys
 from pathlib import Path
 
-
-def word(number):
-    """A number in 32 bits, highest byte first."""
-    return number.to_bytes(4, "big")
-
-
-def halfword(number):
-    """A number in 16 bits, highest byte first."""
-    return number.to_bytes(2, "big")
-
+FOLDER = Path(__file__).resolve().parent
+sys.path.append(str(FOLDER.parent / "tests"))
+from stored import halfword, main, word
 
 CODE = bytes([
     # offset                     source
@@ -79,24 +72,5 @@ PAGES = {
 }
 
 
-def holds(path, content):
-    return path.is_file() and path.read_bytes() == content
-
-
-def main():
-    folder = Path(__file__).resolve().parent
-    if sys.argv[1:] == ["--check"]:
-        differing = [name for name, content in PAGES.items() if not holds(folder / name, content)]
-        for name in differing:
-            print(f"{name} is not what make.py writes", file=sys.stderr)
-        return 1 if differing else 0
-    if len(sys.argv) > 1:
-        print("usage: examples/make.py [--check]", file=sys.stderr)
-        return 2
-    for name, content in PAGES.items():
-        (folder / name).write_bytes(content)
-    return 0
-
-
 if __name__ == "__main__":
-    sys.exit(main())
+    sys.exit(main(FOLDER, PAGES))

@@ -10,13 +10,9 @@ The pages are 01's: its sample, its twelve plates, and a run file for each numbe
 import sys
 from pathlib import Path
 
+from stored import halfword, main, word
 
-def word(number):
-    return number.to_bytes(4, "big")
-
-
-def halfword(number):
-    return number.to_bytes(2, "big")
+FOLDER = Path(__file__).resolve().parent.parent / "crates"
 
 
 def record(code, globals_=0, source=(), version=b"", imports=0, tail=b""):
@@ -108,20 +104,5 @@ def files():
     }
 
 
-def main():
-    folder = Path(__file__).resolve().parent.parent / "crates"
-    if sys.argv[1:] == ["--check"]:
-        differing = [name for name, content in files().items() if (folder / name).read_bytes() != content]
-        for name in differing:
-            print(f"crates/{name} is not what report_cases.py writes", file=sys.stderr)
-        return 1 if differing else 0
-    if len(sys.argv) > 1:
-        print("usage: tests/report_cases.py [--check]", file=sys.stderr)
-        return 2
-    for name, content in files().items():
-        (folder / name).write_bytes(content)
-    return 0
-
-
 if __name__ == "__main__":
-    sys.exit(main())
+    sys.exit(main(FOLDER, files()))
