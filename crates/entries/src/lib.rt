@@ -18,13 +18,13 @@ pub fn entry_count(code: &[u8]) -> u32
 }
 
 // Procedure 0 is never called, and past the count there is none.
-pub fn is_no_callee(code: &[u8], p: u32) -> bool
-    ensures { λ b. ⌜ b ≡ noCallee (now (code .entry)) p ⌝ }
+pub fn is_no_callee(code: &[u8], callee: u32) -> bool
+    ensures { λ b. ⌜ b ≡ noCallee (now (code .entry)) callee ⌝ }
 {
-    if p == 0 {
+    if callee == 0 {
         return true;
     }
-    entry_count(code) <= p
+    entry_count(code) <= callee
 }
 
 fn count_sound(code: &[u8]) -> bool
