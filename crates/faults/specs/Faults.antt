@@ -1,9 +1,10 @@
 -- The numbers 12 to 14. 01: "12 to 14 look at every instruction cut, reached or not".
-use mathlib.Core.Bool.{Bool, true, false, not, _&&_, _||_}
+use mathlib.Core.Bool.{Bool, false, not, _&&_, _||_}
 use mathlib.Core.List.{List, [], _∷_}
 use Prim.Native.Nat.{ℕ, zero, suc, _+_}
 use lib.Dec.{eqb}
 use lib.ListN.{length}
+use Rattle.words.specs.Order.{every}
 use Rattle.words.specs.Refusal.{Test, refusal, _when_}
 use Rattle.entries.specs.Entries.{entryAt, noCallee, regionEnd}
 use Rattle.opcode.specs.Decode.{decodeAt}
@@ -16,8 +17,7 @@ use Rattle.layout.specs.Cut.{Marks, startsIn}
 use Rattle.successors.specs.Successors.{targets}
 
 abbrev pub allStart : Marks → ℕ → List ℕ → Bool
-allStart marks p [] = true
-allStart marks p (t ∷ ts) = startsIn marks p t && allStart marks p ts
+allStart marks p places = every (startsIn marks p) places
 
 -- 12: "a successor or switch label is no start in its region".
 unfoldable pub strays : List ℕ → Marks → ℕ → ℕ → ℕ → Shape → Bool

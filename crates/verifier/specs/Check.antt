@@ -1,12 +1,13 @@
 -- The check. 01: "check [makes tests] 1 to 15"; "Refusals 1 to 9 leave the workspace untouched, 10 to 15 zero four halfwords per code
 -- byte. Acceptance writes per code byte: height plus 1 (0 if unpictured), 1 plus the offset of the topmost label's maker (0 if none),
 -- 0, 0. Workspace past that is untouched."
-use mathlib.Core.Bool.{Bool, true, cond, not, _&&_}
+use mathlib.Core.Bool.{Bool, cond, not, _&&_}
 use mathlib.Core.List.{List, [], _∷_, _++_}
 use mathlib.Core.Option.{Option, none, some}
 use Prim.Native.Nat.{ℕ, zero, suc, _+_, _*_}
 use lib.Dec.{eqb, leb, ltb}
 use lib.ListN.{length, getD, drop, replicate}
+use Rattle.words.specs.Order.{every}
 use Rattle.words.specs.Refusal.{Test, _when_}
 use Rattle.header.specs.Header.{codeOf}
 use Rattle.entries.specs.Entries.{entryCount}
@@ -19,8 +20,7 @@ use Rattle.stackmap.specs.Ways.{Module}
 use Rattle.stackmap.specs.Walk.{State, States, blank, waiting, done, walkOf}
 
 abbrev pub allAtMost : ℕ → List ℕ → Bool
-allAtMost most [] = true
-allAtMost most (x ∷ xs) = leb x most && allAtMost most xs
+allAtMost most xs = every (λ x. leb x most) xs
 
 -- 9: "results list of wrong length or content". "one byte 0 to 2 per procedure from 0 up, ..; procedure 0 has 0".
 unfoldable pub resultsSound : List ℕ → List ℕ → Bool
