@@ -1,5 +1,5 @@
 -- A step leaves a state that fits: each instruction's effect keeps memory and frames, and carrying it out keeps the stack.
-use Prim.Native.Nat.{ℕ, _+_, _-_}
+use Prim.Native.Nat.{ℕ, _+_, _-_, _≤_}
 use mathlib.Core.Path.{_≡_, refl}
 use mathlib.Core.Bool.{Bool, true, false, cond}
 use mathlib.Core.List.{List}
@@ -9,12 +9,9 @@ use lib.ListN.{length}
 use lib.Seq.{length-sets}
 use mir.Syntax.{w32}
 use mir.Val.{toZ}
-use borrow.Author.Tests.{ltb-false, leb-true, leb-false, eqb-false}
+use borrow.Author.Tests.{leb-true, leb-false, eqb-false}
 use Rattle.words.proofs.Tests.{by-test}
 use Rattle.entries.specs.Entries.{entryAt, noCallee}
-use Rattle.opcode.specs.Decode.{decodeAt}
-use Rattle.opcode.specs.declared.Decoded.{Decoded}
-use Rattle.opcode.specs.declared.Decoded.the-variants.{Unserved, Past, At}
 use Rattle.opcode.specs.declared.instruction.Instruction.{Instruction}
 use Rattle.opcode.specs.declared.instruction.Instruction.the-variants.{LoadConstant, Load, LoadAddress, Store, Pop, Swap, Nop, Signed, Unsigned, Negate, Equal, NotEqual, CompareSigned, CompareUnsigned, Set, Not, Alloc, Free, Jump, JumpC, JumpT, JumpF, Iter, Next, Switch, SwitchX, Leave, Call, Enter, Rtn}
 use Rattle.opcode.specs.declared.instruction.Mode.the-variants.{Normal}
@@ -24,7 +21,9 @@ use Rattle.operate.specs.declared.Value.the-variants.{Word, Trap as Stop}
 use Rattle.shape.specs.Counts.{needed, popped, wordsIn}
 use Rattle.effect.specs.declared.effect.Effect.{Effect}
 use Rattle.effect.specs.declared.effect.Effect.the-variants.{Trap, Finish, Go}
+use Rattle.effect.specs.declared.effect.Push.{Push}
 use Rattle.effect.specs.declared.effect.Push.the-variants.{NoPush, PushOne}
+use Rattle.effect.specs.declared.effect.Write.{Write}
 use Rattle.effect.specs.declared.effect.Write.the-variants.{NoWrite, WriteOne, WriteTwo}
 use Rattle.registers.specs.declared.Areas.{Areas}
 use Rattle.registers.specs.declared.Registers.{Registers}
@@ -36,9 +35,9 @@ use Rattle.operand.specs.Distance.{placeAt}
 use Rattle.control.specs.Control.{jumps, jumpsIfFalse, jumpsKeeping, beyond, iterates, nextSum, wentRound, summed, repeats, switches, searches, calls, enters, returns}
 use Rattle.execute.specs.Depth.{topWords}
 use Rattle.execute.specs.Execute.{execute}
-use Rattle.step.specs.Step.{After, after, written, pushed, settled, performed, stepOf}
+use Rattle.step.specs.Step.{After, written, pushed, stepOf}
+use Rattle.step.proofs.Leaving.{carriedOut, step-leaves}
 use Rattle.step.specs.declared.Machine.{Machine}
-use Rattle.step.specs.declared.Outcome.{Outcome}
 use Rattle.state.specs.Fits.{fits}
 use Rattle.state.proofs.Fitting.{Fitting, fitting, fitted}
 use Rattle.machine.proofs.Keeping.{Steady, Keeps, sized-keeps, moved-keeps, stored-keeps, storable-keeps, mode-keeps, entered-keeps, called-keeps, returned-keeps}
@@ -82,7 +81,7 @@ module _ (code : List ℕ) (A : Areas) (q : Registers) (m s : List ℕ) (F : Fit
       (λ d. tested (leb (q .mp + 2) (length m)) (Go 0 NoPush (WriteTwo (q .mp) (q .fp) next) (called q (entryAt code p))) 35
       (λ r. called-keeps A q m s F 0 NoPush next (entryAt code p) (leb-false 64 (q .calls) d) (leb-true (q .mp + 2) (length m) r))))
 
-  pub execute-keeps : (next : ℕ) (ws : List ℕ) (i : Instruction) → Keeps A q m (execute (program code A) q m next ws i)
+  execute-keeps : (next : ℕ) (ws : List ℕ) (i : Instruction) → Keeps A q m (execute (program code A) q m next ws i)
   unfolding execute loadFrom addressOf storeTo inverted allocated freed jumps jumpsIfFalse iterates repeats switches searches enters returns
   execute-keeps next ws (LoadConstant n) = moved-keeps A q m s F 0 (PushOne n) next
   execute-keeps next ws (Load base mode n) =
@@ -144,52 +143,38 @@ pub record Holds (A : Areas) (q : Registers) (m : List ℕ) (a : After) : Type 0
   pub fit : fits A (a .stepped .machine .registers) (a .memory) (a .stack) ≡ true
   pub spared : (b : ℕ) → protects A q m b ≡ true → read (a .memory) b ≡ read m b
 
-module _ (code : List ℕ) (M : Machine) (m s : List ℕ) (f : fits (M .areas) (M .registers) m s ≡ true) where
-  F : Fitting (M .areas) (M .registers) m s
-  F = fitting (M .areas) (M .registers) m s f
+pub step-holds : (code : List ℕ) (M : Machine) (m s : List ℕ) → fits (M .areas) (M .registers) m s ≡ true
+    → Holds (M .areas) (M .registers) m (stepOf code M m s)
+step-holds code M m s f =
+    step-leaves M m s (Holds (M .areas) (M .registers) m) (Keeps (M .areas) (M .registers) m)
+    (λ o n. record { areas = refl; fit = f; spared = λ b p. refl }) went code
+    (λ i next. execute-keeps code (M .areas) (M .registers) m s F next (topWords (needed i) (M .registers .height) s) i)
+  where
+    F : Fitting (M .areas) (M .registers) m s
+    F = fitting (M .areas) (M .registers) m s f
 
-  still : (o : Outcome) → Holds (M .areas) (M .registers) m (after (record { outcome = o; machine = M }) m s)
-  still o = record { areas = refl; fit = f; spared = λ b p. refl }
-
-  settled-holds : (size : ℕ) (e : Effect) → Keeps (M .areas) (M .registers) m e → Holds (M .areas) (M .registers) m (settled size M m s e)
-  unfolding settled
-  settled-holds size (Trap n) k = still _
-  settled-holds size Finish k = still _
-  settled-holds size (Go gone push write next) k =
-      let h : ℕ = M .registers .height - gone + pushes push in
-      let n : List ℕ = written m (topWords gone (M .registers .height) s) write in
-      let y : Steady (M .areas) (M .registers) next m n = k (topWords gone (M .registers .height) s) in
-      by-test (Holds (M .areas) (M .registers) m) (ltb (length s) h) _ _ (λ t. still _)
-      (λ t. by-test (Holds (M .areas) (M .registers) m) (ltb (next .pc) size) _ _
-      (λ u. record {
-        areas = refl;
-        fit = fitted (M .areas) _ _ _ (record {
-          areas = rw (y .size) (F .areas);
-          room = rw (y .size) (F .room);
-          deep = rw (length-sets s (M .registers .height - gone) (pushed push)) (F .deep);
-          word0 = y .word0;
-          word1 = y .word1;
-          word2 = y .word2;
-          global = y .global;
-          frame = y .frame;
-          within = rw (y .size) (y .within);
-          height = rw (length-sets s (M .registers .height - gone) (pushed push)) (ltb-false (length s) h t);
-          depth = y .depth;
-          links = y .links;
-        });
-        spared = y .spared;
-      })
-      (λ u. still _))
-
-  performed-holds : (d : Decoded) → Holds (M .areas) (M .registers) m (performed code M m s d)
-  unfolding performed
-  performed-holds Unserved = still _
-  performed-holds Past = still _
-  performed-holds (At i next) =
-      by-test (Holds (M .areas) (M .registers) m) (ltb (M .registers .height) (needed i)) _ _ (λ t. still _)
-      (λ t. settled-holds (length code) _
-      (execute-keeps code (M .areas) (M .registers) m s F next (topWords (needed i) (M .registers .height) s) i))
-
-  pub step-holds : Holds (M .areas) (M .registers) m (stepOf code M m s)
-  unfolding stepOf
-  step-holds = performed-holds (decodeAt code (length code) (M .registers .pc))
+    went : (gone : ℕ) (push : Push) (write : Write) (next : Registers) → Keeps (M .areas) (M .registers) m (Go gone push write next)
+        → M .registers .height - gone + pushes push ≤ length s
+        → Holds (M .areas) (M .registers) m (carriedOut M m s gone push write next)
+    went gone push write next k room =
+        let n : List ℕ = written m (topWords gone (M .registers .height) s) write in
+        let y : Steady (M .areas) (M .registers) next m n = k (topWords gone (M .registers .height) s) in
+        let deep = length-sets s (M .registers .height - gone) (pushed push) in
+        record {
+          areas = refl;
+          fit = fitted (M .areas) _ _ _ (record {
+            areas = rw (y .size) (F .areas);
+            room = rw (y .size) (F .room);
+            deep = rw deep (F .deep);
+            word0 = y .word0;
+            word1 = y .word1;
+            word2 = y .word2;
+            global = y .global;
+            frame = y .frame;
+            within = rw (y .size) (y .within);
+            height = rw deep room;
+            depth = y .depth;
+            links = y .links;
+          });
+          spared = y .spared;
+        }

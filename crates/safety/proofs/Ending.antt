@@ -15,7 +15,7 @@ use Rattle.step.specs.declared.Outcome.{Outcome}
 use Rattle.step.specs.declared.Outcome.the-variants.{Went, Finished, Trapped}
 use Rattle.load.specs.Load.{loadOf}
 use Rattle.machine.specs.Run.{proceed, runFrom, runNumber, runOf}
-use Rattle.step.proofs.Stopping.{step-stops}
+use Rattle.step.proofs.Leaving.{step-stops}
 use Rattle.safety.specs.Active.{Configuration, stepOn, advance, Visits, at-first, one-more}
 use Rattle.safety.specs.Demand3.{Proper, finished, spent, data-trap, loadedConfiguration, Ends, Claim}
 use Rattle.safety.proofs.Parts.{Inv, DataTrap, data-trapped, Steps}

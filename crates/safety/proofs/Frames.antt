@@ -5,31 +5,29 @@ use mathlib.Core.List.{List, [], _∷_}
 use mathlib.Core.Path.{_≡_, _∙_, refl, sym}
 use Prim.Native.Nat.{ℕ, suc, _+_, _-_}
 use native.Mathlib.Omega.{arith}
-use lib.Dec.{eqb, ltb}
+use lib.Dec.{eqb}
 use lib.ListN.{length, set, length-set}
 use lib.Seq.{sets, getD-set-same, getD-set-other}
-use Rattle.words.proofs.Tests.{either}
-use Rattle.opcode.specs.declared.Decoded.the-variants.{At}
 use Rattle.opcode.specs.declared.instruction.Instruction.{Instruction}
 use Rattle.shape.specs.Counts.{needed}
 use Rattle.shape.specs.Shape.{shapeOf}
 use Rattle.shape.specs.Linkage.{Linkage, inside, calling, entering, returning, linkageOf}
-use Rattle.effect.specs.declared.effect.Effect.{Effect}
-use Rattle.effect.specs.declared.effect.Effect.the-variants.{Trap, Finish, Go}
+use Rattle.effect.specs.declared.effect.Effect.the-variants.{Go}
+use Rattle.effect.specs.declared.effect.Push.{Push}
 use Rattle.effect.specs.declared.effect.Write.{Write}
 use Rattle.registers.specs.declared.Registers.{Registers}
 use Rattle.registers.specs.Memory.{read, savedFp, isLink}
 use Rattle.registers.specs.Program.{program, framesStart}
-use Rattle.effect.specs.Data.{pushes}
 use Rattle.registers.proofs.Links.{link-near}
 use Rattle.execute.specs.Depth.{topWords}
 use Rattle.stackmap.specs.Ways.{Module}
 use Rattle.step.specs.declared.Machine.{Machine}
-use Rattle.step.specs.declared.Outcome.the-variants.{Went, Trapped}
-use Rattle.step.specs.Step.{After, written, settled, performed, stepOf}
+use Rattle.step.specs.declared.Outcome.the-variants.{Went}
+use Rattle.step.specs.Step.{After, written, stepOf}
+use Rattle.step.proofs.Leaving.{carriedOut, performed-leaves}
 use Rattle.safety.specs.Active.{Call, Configuration, begun, callers, callsBy, stepOn}
 use Rattle.safety.proofs.AsLoaded.{links-kept}
-use Rattle.safety.proofs.Effects.{Does, traps, finishes, goes, Stays, Begins, Leaves, Framing, execute-does}
+use Rattle.safety.proofs.Effects.{Does, goes, Stays, Begins, Leaves, Framing, execute-does}
 use Rattle.safety.proofs.Parts.{Framed, no-frame, a-frame, registersOf, Doing, FramesKept}
 
 -- What a completed step did: a write and registers of which P holds.
@@ -42,45 +40,28 @@ pub record Did (P : Write → Registers → Type 0) (m : List ℕ) (a : After) :
   pub fp : a .stepped .machine .registers .fp ≡ registers .fp
   pub calls : a .stepped .machine .registers .calls ≡ registers .calls
 
--- A step that goes on did so.
-abbrev DidIf : (Write → Registers → Type 0) → List ℕ → After → Type 0
-DidIf P m a = a .stepped .outcome ≡ Went → Did P m a
-
-trapped-not : {A : Type 0} (n : ℕ) → Trapped n ≡ Went → A
-trapped-not n w = let z : _≡_ {A = ℕ} 0 1 = cc in absurd (omega arith)
-
-module _ (M : Machine) (m s : List ℕ) where
-  settled-did : (size k : ℕ) (P : Write → Registers → Type 0) (e : Effect) → Does k P e
-      → DidIf P m (settled size M m s e)
-  unfolding settled
-  settled-did size k P (Trap n) traps = trapped-not n
-  settled-did size k P Finish finishes = λ w. let z : _≡_ {A = ℕ} 0 1 = cc in absurd (omega arith)
-  settled-did size k P (Go gone push write next) (goes l p) =
-      either (DidIf P m) (ltb (length s) (M .registers .height - gone + pushes push)) _ _ (trapped-not 36)
-      (either (DidIf P m) (ltb (next .pc) size) _ _
-      (λ w. record {
-        write = write;
-        registers = next;
-        gone = topWords gone (M .registers .height) s;
-        done = p;
-        memory = refl;
-        fp = refl;
-        calls = refl;
-      })
-      (trapped-not 21))
-
-  performed-did : (code : List ℕ) (i : Instruction) (next : ℕ)
-      → DidIf (Framing (M .registers) m next (linkageOf (shapeOf i))) m (performed code M m s (At i next))
-  unfolding performed
-  performed-did code i next =
-      either (DidIf _ m) (ltb (M .registers .height) (needed i)) _ _ (trapped-not 22)
-      (settled-did (length code) (needed i) _ _
-      (execute-does (M .registers) m next (program code (M .areas)) (topWords (needed i) (M .registers .height) s) i))
+did-go : (M : Machine) (m s : List ℕ) (k : ℕ) (P : Write → Registers → Type 0) (gone : ℕ) (push : Push) (write : Write) (next : Registers)
+    → Does k P (Go gone push write next) → Did P m (carriedOut M m s gone push write next)
+did-go M m s k P gone push write next (goes l p) =
+    record {
+      write = write;
+      registers = next;
+      gone = topWords gone (M .registers .height) s;
+      done = p;
+      memory = refl;
+      fp = refl;
+      calls = refl;
+    }
 
 pub step-did : (M : Module) (c : Configuration) (i : Instruction) (next : ℕ) → Doing M c i next → stepOn M c .stepped .outcome ≡ Went
     → Did (Framing (registersOf c) (c .memory) next (linkageOf (shapeOf i))) (c .memory) (stepOn M c)
 unfolding stepOf
-step-did M c i next D = rw (D .decoded) (performed-did (c .machine) (c .memory) (c .stack) (M .code) i next)
+step-did M c i next D =
+    let P : Write → Registers → Type 0 = Framing (registersOf c) (c .memory) next (linkageOf (shapeOf i)) in
+    rw (D .decoded) (performed-leaves (c .machine) (c .memory) (c .stack)
+    (λ a. a .stepped .outcome ≡ Went → Did P (c .memory) a) (Does (needed i) P) (λ o n w. absurd (n w))
+    (λ gone push write q h room w. did-go (c .machine) (c .memory) (c .stack) (needed i) P gone push write q h) (M .code) i next
+    (execute-does (registersOf c) (c .memory) next (program (M .code) (c .machine .areas)) _ i))
 
 saved-fp : (m : List ℕ) (fp link saved : ℕ) → fp ≡ link + 2 → read m link ≡ saved → savedFp m fp ≡ saved
 saved-fp m fp link saved e r =

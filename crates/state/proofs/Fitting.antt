@@ -1,11 +1,12 @@
 -- What a state that fits keeps, fact by fact.
 use Prim.Native.Nat.{ℕ, _≤_}
-use mathlib.Core.Path.{_≡_, refl}
-use mathlib.Core.Bool.{Bool, true, false, _&&_}
+use mathlib.Core.Path.{_≡_}
+use mathlib.Core.Bool.{Bool, true, _&&_}
 use mathlib.Core.List.{List}
 use lib.Dec.{eqb, leb}
 use lib.ListN.{length}
 use borrow.Author.Tests.{eqb-true, leb-true, eq-eqb, le-leb}
+use Rattle.words.proofs.Tests.{both-true}
 use Rattle.registers.specs.declared.Areas.{Areas}
 use Rattle.registers.specs.declared.Registers.{Registers}
 use Rattle.registers.specs.Program.{constantsStart, framesStart}
@@ -27,14 +28,16 @@ pub record Fitting (A : Areas) (q : Registers) (m s : List ℕ) : Type 0 where
   pub links : chained m (framesStart A) (q .fp) (q .calls) ≡ true
 
 three : (a b c : Bool) → (a && (b && c)) ≡ true → (a ≡ true) × (b ≡ true) × (c ≡ true)
-three true true c e = (refl, refl, e)
-three true false c e = (refl, e, cc)
-three false b c e = (e, cc, cc)
+three a b c e =
+    let p = both-true a (b && c) e in
+    let q = both-true b c (p .1) in
+    (p .0, q .0, q .1)
 
 five : (a b c d f : Bool) → (a && (b && (c && (d && f)))) ≡ true → (a ≡ true) × (b ≡ true) × (c ≡ true) × (d ≡ true) × (f ≡ true)
-five true true c d f e = let t = three c d f e in (refl, refl, t .0, t .1, t .2)
-five true false c d f e = (refl, e, cc, cc, cc)
-five false b c d f e = (e, cc, cc, cc, cc)
+five a b c d f e =
+    let p = three a b (c && (d && f)) e in
+    let q = three c d f (p .2) in
+    (p .0, p .1, q .0, q .1, q .2)
 
 -- Sizes that load takes hold the data areas, and are at most the largest.
 pub sizes-taken : (A : Areas) (m s : List ℕ) → sizesTaken A m s ≡ true → (framesStart A ≤ length m) × (length m ≤ 16384) × (length s ≤ 1024)
@@ -48,11 +51,11 @@ module _ (A : Areas) (q : Registers) (m s : List ℕ) where
   unfolding fits headerKept registersFit
   fitting h =
       let w = three (sizesTaken A m s) (headerKept A m) (registersFit q m s && chained m (framesStart A) (q .fp) (q .calls)) h in
-      let l = three true (registersFit q m s) (chained m (framesStart A) (q .fp) (q .calls)) (w .2) in
+      let l = both-true (registersFit q m s) (chained m (framesStart A) (q .fp) (q .calls)) (w .2) in
       let (areas, room, deep) = sizes-taken A m s (w .0) in
       let k = three (eqb (read m 0) 0) (eqb (read m 1) 0) (eqb (read m 2) (constantsStart A)) (w .1) in
       let r =
-      five (eqb (q .gp) 3) (leb (q .fp) (q .mp)) (leb (q .mp) (length m)) (leb (q .height) (length s)) (leb (q .calls) 64) (l .1) in
+      five (eqb (q .gp) 3) (leb (q .fp) (q .mp)) (leb (q .mp) (length m)) (leb (q .height) (length s)) (leb (q .calls) 64) (l .0) in
       record {
         areas = areas;
         room = room;
@@ -65,7 +68,7 @@ module _ (A : Areas) (q : Registers) (m s : List ℕ) where
         within = leb-true (q .mp) (length m) (r .2);
         height = leb-true (q .height) (length s) (r .3);
         depth = leb-true (q .calls) 64 (r .4);
-        links = l .2;
+        links = l .1;
       }
 
   pub fitted : Fitting A q m s → fits A q m s ≡ true

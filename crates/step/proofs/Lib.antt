@@ -1,4 +1,4 @@
--- How many words are pushed, the effects of each group, and a step that does not go on.
+-- How many words are pushed, the effects of each group, and what a step leaves.
 pub mod Pushing
 pub mod Carrying
-pub mod Stopping
+pub mod Leaving
