@@ -8,7 +8,7 @@ use native.Mathlib.Nat.{lt-of-not-le}
 use native.Mathlib.Omega.{arith}
 use lib.Dec.{leb, ltb}
 use lib.ListN.{length, set}
-use lib.Seq.{sets, getD-set-same, getD-set-other}
+use lib.Seq.{sets, getD-set-other}
 use borrow.Author.Tests.{ltb-false, le-leb}
 use Rattle.words.proofs.Sets.{sets-other}
 use Rattle.words.proofs.Tests.{by-test}
@@ -29,7 +29,7 @@ use Rattle.registers.proofs.Links.{chain-lower, chain-rest}
 use Rattle.registers.proofs.Protected.{free-above}
 use Rattle.step.specs.Step.{written}
 use Rattle.state.proofs.Fitting.{Fitting}
-use Rattle.machine.proofs.Stored.{apart, Intact, intact-none, intact-then, stored-above}
+use Rattle.machine.proofs.Stored.{apart, Intact, intact-none, intact-then, two-stored, stored-above}
 use Rattle.machine.proofs.Stored.{stored as stored-one}
 
 -- The registers q lie rightly in the memory n, which came of m under the registers q₀ with each protected word as it was.
@@ -142,8 +142,7 @@ module _ (A : Areas) (q : Registers) (m s : List ℕ) (F : Fitting A q m s) wher
       stored-above m (framesStart A) (q .fp) (q .calls) (q .mp) (q .fp ∷ next ∷ []) (F .links) (omega arith) (F .frame) in
       let e : q .mp + 2 - 2 ≡ q .mp = omega arith in
       let saved : savedFp n (q .mp + 2) ≡ q .fp =
-      rw e (getD-set-other (set m (q .mp) (q .fp)) (suc (q .mp)) (q .mp) next 0 (λ z. omega arith)
-      ∙ getD-set-same m (q .mp) (q .fp) 0 (omega arith)) in
+      rw e (two-stored m (q .mp) (q .fp) next r .0) in
       let k : q .calls + 1 ≡ suc (q .calls) = omega arith in
       λ vs. record {
         size = i .size;

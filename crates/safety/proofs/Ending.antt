@@ -17,14 +17,11 @@ use Rattle.load.specs.Load.{loadOf}
 use Rattle.machine.specs.Run.{proceed, runFrom, runNumber, runOf}
 use Rattle.step.proofs.Leaving.{step-stops}
 use Rattle.safety.specs.Active.{Configuration, stepOn, advance, Visits, at-first, one-more}
-use Rattle.safety.specs.Demand3.{Proper, finished, spent, data-trap, loadedConfiguration, Ends, Claim}
-use Rattle.safety.proofs.Parts.{Inv, DataTrap, data-trapped, Steps}
+use Rattle.safety.specs.Demand3.{finished, spent, loadedConfiguration, Ends, Claim}
+use Rattle.safety.proofs.Parts.{Inv, DataTrap, Steps}
 use Rattle.safety.proofs.Places.{Checked, checked}
 use Rattle.safety.proofs.Advancing.{at-place, steps}
 use Rattle.safety.proofs.Throughout.{keeps, at-load, run-safe}
-
-trap-proper : {n : ℕ} → DataTrap n → Proper (stop n)
-trap-proper (data-trapped l h) = data-trap l h
 
 module _ (M : Module) (C : Checked M) (A : Areas) (first : Configuration) (I : Inv M A first) where
   ended-at : {n : ℕ} {c : Configuration} → Visits M first n c → (left : ℕ) → Inv M A c → (o : Outcome) → stepOn M c .stepped .outcome ≡ o
@@ -39,7 +36,7 @@ module _ (M : Module) (C : Checked M) (A : Areas) (first : Configuration) (I : I
       let U = step-stops (c .machine) (c .memory) (c .stack) (M .code) (λ w. let z : _≡_ {A = ℕ} 0 1 = cc in omega arith) in
       let d : DataTrap k =
       subst (λ (x : Outcome). Steps M c (at-place M C A c J .out) (linkageOf (shapeOf (at-place M C A c J .instruction))) x) e (steps M C A c J) in
-      record { steps = n; last = c; visited = v; ending = stop k; proper = trap-proper d; ends = rw (U .machine, U .memory, U .stack) }
+      record { steps = n; last = c; visited = v; ending = stop k; proper = d; ends = rw (U .machine, U .memory, U .stack) }
 
   ended : (left : ℕ) {n : ℕ} {c : Configuration} → Visits M first n c
       → Ends M first (runFrom (M .code) left n (c .machine) (c .memory) (c .stack))

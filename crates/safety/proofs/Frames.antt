@@ -3,11 +3,11 @@
 use mathlib.Core.Bool.{true, _||_, or-true}
 use mathlib.Core.List.{List, [], _∷_}
 use mathlib.Core.Path.{_≡_, _∙_, refl, sym}
-use Prim.Native.Nat.{ℕ, suc, _+_, _-_}
+use Prim.Native.Nat.{ℕ, _+_, _-_}
 use native.Mathlib.Omega.{arith}
 use lib.Dec.{eqb}
-use lib.ListN.{length, set, length-set}
-use lib.Seq.{sets, getD-set-same, getD-set-other}
+use lib.ListN.{length}
+use lib.Seq.{sets}
 use Rattle.opcode.specs.declared.instruction.Instruction.{Instruction}
 use Rattle.shape.specs.Counts.{needed}
 use Rattle.shape.specs.Shape.{shapeOf}
@@ -25,6 +25,7 @@ use Rattle.step.specs.declared.Machine.{Machine}
 use Rattle.step.specs.declared.Outcome.the-variants.{Went}
 use Rattle.step.specs.Step.{After, written, stepOf}
 use Rattle.step.proofs.Leaving.{carriedOut, performed-leaves}
+use Rattle.machine.proofs.Stored.{two-stored}
 use Rattle.safety.specs.Active.{Call, Configuration, begun, callers, callsBy, stepOn}
 use Rattle.safety.proofs.AsLoaded.{links-kept}
 use Rattle.safety.proofs.Effects.{Does, goes, Stays, Begins, Leaves, Framing, execute-does}
@@ -100,13 +101,9 @@ module _ (M : Module) (start next : ℕ) (m n gone : List ℕ) (q : Registers) (
       → InStep n start q' (begun M q p next calls)
   begins-framed p write q' y e =
       let made : n ≡ sets m (q .mp) (q .fp ∷ next ∷ []) = e ∙ rw (y .wrote) in
-      let second : q .mp + 1 ≡ suc (q .mp) = omega arith in
-      let first : read n (q .mp) ≡ q .fp =
-      rw made (getD-set-other (set m (q .mp) (q .fp)) (suc (q .mp)) (q .mp) next 0 (λ z. omega arith)
-      ∙ getD-set-same m (q .mp) (q .fp) 0 (omega (arith, y .room))) in
-      let back : read n (q .mp + 1) ≡ next =
-      rw (made, second) (getD-set-same (set m (q .mp) (q .fp)) (suc (q .mp)) next 0
-      (omega (arith, y .room, length-set m (q .mp) (q .fp)))) in
+      let two = two-stored m (q .mp) (q .fp) next (y .room) in
+      let first : read n (q .mp) ≡ q .fp = rw made (two .0) in
+      let back : read n (q .mp + 1) ≡ next = rw made (two .1) in
       (a-frame (y .fp) first back same-frames, omega (arith, count, y .calls))
 
   leaves-framed : (write : Write) (q' : Registers) → Leaves q m write q' → n ≡ written m gone write

@@ -32,18 +32,13 @@ load-number-range r parameters m s = after-range r 8 (loadTests r parameters m s
 pub not-loaded : (r parameters m s : List ℕ) {l : Loaded} {m' : List ℕ} → loading l m' ≡ loadOf r parameters m s → {n : ℕ} → l ≡ NotLoaded n
     → ProperAnswer (Refused n)
 unfolding loadOf
-not-loaded r parameters m s {l} e {n} f = by (loadNumber r parameters m s) refl
-  where
-    by : (k : ℕ) → loadNumber r parameters m s ≡ k → ProperAnswer (Refused n)
-    by zero g =
-        let h : loadOf r parameters m s .answer ≡ Ready (startOf (programOf r)) = rw g in
-        let z : l ≡ Ready (startOf (programOf r)) = ap (λ (x : Loading). x .answer) e ∙ h in
-        refused-not n _ (sym f ∙ z)
-    by (suc k) g =
-        let h : loadOf r parameters m s .answer ≡ NotLoaded (suc k) = rw (g, eqb·suc-zero k) in
-        let z : l ≡ NotLoaded (suc k) = ap (λ (x : Loading). x .answer) e ∙ h in
-        let y : n ≡ suc k = cc in
-        not-run {n = n} (omega arith) (omega (arith, g, load-number-range r parameters m s))
+not-loaded r parameters m s {l} {m'} e {n} f =
+    by-test (λ (x : Loading). loading l m' ≡ x → ProperAnswer (Refused n)) (eqb (loadNumber r parameters m s) 0) _ _
+    (λ t g. refused-not n (startOf (programOf r)) (sym f ∙ ap (λ (x : Loading). x .answer) g))
+    (λ t g.
+    let h : NotLoaded n ≡ NotLoaded (loadNumber r parameters m s) = sym f ∙ ap (λ (x : Loading). x .answer) g in
+    let y : n ≡ loadNumber r parameters m s = cc in
+    not-run {n = n} (omega (arith, eqb-false (loadNumber r parameters m s) 0 t)) (omega (arith, load-number-range r parameters m s))) e
 
 pub not-accepted : (r results w : List ℕ) {n : ℕ} {w' : List ℕ} → checking n w' ≡ checkOf r results w → (n ≡ 0 → ⊥) → ProperAnswer (Refused n)
 not-accepted r results w {n} e f =

@@ -1,8 +1,7 @@
 -- The instructions that make or use a label. ITER and the switches push the word that their origin's label must hold; NEXT and LEAVE
 -- find it on top of the share.
-use mathlib.Core.Bool.{Bool, true, false, cond}
 use mathlib.Core.List.{List, [], _∷_}
-use mathlib.Core.Option.{none, some}
+use mathlib.Core.Option.{some}
 use mathlib.Core.Path.{_≡_, refl, _∙_}
 use Prim.Native.Nat.{ℕ, suc, _+_, _-_, _≤_}
 use native.Mathlib.Omega.{arith}
@@ -40,7 +39,7 @@ use Rattle.stackmap.specs.StackMap.{here}
 use Rattle.safety.specs.Active.{shareOf, Configuration}
 use Rattle.safety.proofs.Parts.{registersOf, Doing}
 use Rattle.safety.proofs.Traps.{data-number, Valued, a-trap, signed-valued}
-use Rattle.safety.proofs.Sharing.{nothing, dropped-size, popped-drops, holds-top}
+use Rattle.safety.proofs.Sharing.{nothing, only-if, dropped-size, popped-drops, holds-top}
 use Rattle.safety.proofs.Settling.{good-trap, Good, good-storable}
 use Rattle.safety.proofs.Moving.{Start, Taken, taken, among-taken, Stays, words-go, popped-go, label-goes}
 use Rattle.safety.proofs.Jumping.{among-on, among-away}
@@ -117,36 +116,26 @@ module _ {code : List ℕ} {c : Configuration} {out : List Way} {Done : Type 0} 
       → Stays code c out Done (repeats A (registersOf c) m next a u s (read (topWords 5 (registersOf c .height) (c .stack)) 4))
   again-goes A m next a u s [] S w = nothing out w
   again-goes A m next a u s (word ∷ l) S w = nothing out w
-  again-goes A m next a u s (label origin ∷ l) S w = by (isLoop code origin) w
-    where
-      by : (t : Bool)
-          → cond t (after (popWords 4 l) (λ rest. both (next gets rest) (labelWord code origin gets (label origin ∷ l)))) none ≡ some out
-          → Stays code c out Done (repeats A (registersOf c) m next a u s (read (topWords 5 (registersOf c .height) (c .stack)) 4))
-      by true e =
-          let back : ℕ = labelWord code origin in
-          let T : Taken (popWords 4 l) (λ rest. both (next gets rest) (back gets (label origin ∷ l))) out = taken (popWords 4 l) _ out e in
-          let five : dropSlots 5 (label origin ∷ l) ≡ some (T .rest) = popped-drops 4 l (T .rest) (T .found) in
-          let size = dropped-size 5 (label origin ∷ l) (T .rest) five in
-          rw (label-word 4 S (omega arith))
-          (repeats-goes next back
-          (λ write. words-go S 5 NoPush write (moved (registersOf c) next) (T .rest) five
-          (among-taken T next (T .rest) (among-on next back (T .rest) (label origin ∷ l))))
-          (λ write. words-go S 0 NoPush write (moved (registersOf c) back) (label origin ∷ l) refl
-          (among-taken T back (label origin ∷ l) (among-away next back (T .rest) (label origin ∷ l)))) A m a u s)
-      by false e = nothing out e
+  again-goes A m next a u s (label origin ∷ l) S w =
+      let back : ℕ = labelWord code origin in
+      let T : Taken (popWords 4 l) (λ rest. both (next gets rest) (back gets (label origin ∷ l))) out =
+      taken (popWords 4 l) _ out (only-if (isLoop code origin) _ out w .1) in
+      let five : dropSlots 5 (label origin ∷ l) ≡ some (T .rest) = popped-drops 4 l (T .rest) (T .found) in
+      let size = dropped-size 5 (label origin ∷ l) (T .rest) five in
+      rw (label-word 4 S (omega arith))
+      (repeats-goes next back
+      (λ write. words-go S 5 NoPush write (moved (registersOf c) next) (T .rest) five
+      (among-taken T next (T .rest) (among-on next back (T .rest) (label origin ∷ l))))
+      (λ write. words-go S 0 NoPush write (moved (registersOf c) back) (label origin ∷ l) refl
+      (among-taken T back (label origin ∷ l) (among-away next back (T .rest) (label origin ∷ l)))) A m a u s)
 
   -- LEAVE.
   pub exit-goes : (l : List Slot) → Start code c l out → exit code l ≡ some out
       → Stays code c out Done (Go 1 NoPush NoWrite (moved (registersOf c) (read (topWords 1 (registersOf c .height) (c .stack)) 0)))
   exit-goes [] S w = nothing out w
   exit-goes (word ∷ l) S w = nothing out w
-  exit-goes (label origin ∷ l) S w = by (isSelect code origin) w
-    where
-      by : (t : Bool) → cond t (some (labelWord code origin gets l ∷ [])) none ≡ some out
-          → Stays code c out Done (Go 1 NoPush NoWrite (moved (registersOf c) (read (topWords 1 (registersOf c .height) (c .stack)) 0)))
-      by true e =
-          let away : ℕ = labelWord code origin in
-          let T : Taken (some l) (λ rest. away gets l ∷ []) out = taken (some l) _ out e in
-          rw (label-word 0 S (omega arith))
-          (words-go S 1 NoPush NoWrite (moved (registersOf c) away) l refl (among-taken T away l here))
-      by false e = nothing out e
+  exit-goes (label origin ∷ l) S w =
+      let away : ℕ = labelWord code origin in
+      let T : Taken (some l) (λ rest. away gets l ∷ []) out = taken (some l) _ out (only-if (isSelect code origin) _ out w .1) in
+      rw (label-word 0 S (omega arith))
+      (words-go S 1 NoPush NoWrite (moved (registersOf c) away) l refl (among-taken T away l here))

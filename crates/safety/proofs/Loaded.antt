@@ -1,6 +1,6 @@
 -- The invariant holds of a record that is freshly loaded: no call is active, the stack is empty, and procedure 0's entry is where its
 -- stack picture begins.
-use mathlib.Core.Bool.{Bool, true, false, cond, not, _&&_}
+use mathlib.Core.Bool.{Bool, true, not, _&&_}
 use mathlib.Core.List.{List, [], _∷_}
 use mathlib.Core.Path.{_≡_, _∙_, refl}
 use Prim.Native.Nat.{ℕ, _≤_, _<_}
@@ -10,7 +10,7 @@ use lib.ListN.{length}
 use borrow.Author.Tests.{eqb-true, leb-true, not-false, eq-eqb}
 use Rattle.words.specs.Refusal.{_when_}
 use Rattle.words.proofs.Refusal.{cleared}
-use Rattle.words.proofs.Tests.{both-true}
+use Rattle.words.proofs.Tests.{both-true, by-test}
 use Rattle.header.specs.Header.{headerOf, codeOf}
 use Rattle.entries.specs.Entries.{entryCount}
 use Rattle.record.specs.Number.{recordNumber}
@@ -18,7 +18,7 @@ use Rattle.registers.specs.declared.Registers.{Registers}
 use Rattle.registers.specs.Program.{areasOf, programOf, framesStart}
 use Rattle.load.specs.declared.Loaded.the-variants.{Refused, Ready}
 use Rattle.state.specs.Fits.{sizesTaken}
-use Rattle.load.specs.Load.{loading, loadedMemory, startOf, loadNumber, loadOf}
+use Rattle.load.specs.Load.{Loading, loadedMemory, startOf, loadNumber, loadOf}
 use Rattle.state.proofs.Fitting.{Fitting, sizes-taken, fitted}
 use Rattle.load.proofs.Loading.{loaded-word, loaded-length, word-low, word-third}
 use Rattle.stackmap.specs.Ways.{Module}
@@ -44,19 +44,14 @@ module _ (r parameters m s : List ℕ) (q : Registers) (sound : recordNumber r �
       let sizes : Bool = sizesTaken (areasOf r) m s in
       both-true few sizes (not-false (few && sizes) (cleared (8 when not (few && sizes) ∷ []) refl (rw (eq-eqb (recordNumber r) 0 sound) at e) .0))
 
-  pub load-taken : loadOf r parameters m s .answer ≡ Ready q → Taken r parameters m s q
+  load-taken : loadOf r parameters m s .answer ≡ Ready q → Taken r parameters m s q
   unfolding loadOf
-  load-taken = by (eqb (loadNumber r parameters m s) 0) refl
-    where
-      by : (t : Bool) → eqb (loadNumber r parameters m s) 0 ≡ t
-          → cond t (loading (Ready (startOf (programOf r))) (loadedMemory r parameters (length m)))
-          (loading (Refused (loadNumber r parameters m s)) m) .answer
-          ≡ Ready q
-          → Taken r parameters m s q
-      by true e ready =
-          let (few, sizes) = no-number (eqb-true (loadNumber r parameters m s) 0 e) in
-          record { few = leb-true (length parameters) (areasOf r .globals) few; sizes = sizes; start = cc; memory = rw e }
-      by false e ready = refused-not (loadNumber r parameters m s) q ready
+  load-taken =
+      by-test (λ (l : Loading). l .answer ≡ Ready q → Taken r parameters m s q) (eqb (loadNumber r parameters m s) 0) _ _
+      (λ e ready.
+      let (few, sizes) = no-number (eqb-true (loadNumber r parameters m s) 0 e) in
+      record { few = leb-true (length parameters) (areasOf r .globals) few; sizes = sizes; start = cc; memory = rw e })
+      (λ e. refused-not (loadNumber r parameters m s) q)
 
   module _ (ready : loadOf r parameters m s .answer ≡ Ready q) where
     loaded-fits : Fitting (areasOf r) q (loadOf r parameters m s .memory) s

@@ -24,8 +24,9 @@ use Rattle.step.specs.declared.Outcome.{Outcome}
 use Rattle.step.specs.declared.Outcome.the-variants.{Went, Finished, Trapped}
 use Rattle.step.specs.Step.{After}
 use Rattle.state.specs.Fits.{fits}
+use Rattle.machine.specs.declared.run.End.the-variants.{Trapped as stop}
 use Rattle.safety.specs.Active.{Call, running, shareOf, Configuration, stepOn, advance}
-use Rattle.safety.specs.Demand3.{Holds, SameFrom, Unread}
+use Rattle.safety.specs.Demand3.{Proper, Holds, SameFrom, Unread}
 
 abbrev pub registersOf : Configuration → Registers
 registersOf c = c .machine .registers
@@ -77,8 +78,8 @@ StepUnread =
     → shareOf (c .calls) + needed i ≤ registersOf c .height → (s' : List ℕ) → SameFrom (shareOf (c .calls)) (c .stack) s' → Unread M c s'
 
 -- Part 3: what a step does to the share, by the shape of its instruction.
-pub data DataTrap (n : ℕ) : Type 0 where
-  data-trapped : 30 ≤ n → n ≤ 38 → DataTrap n
+abbrev pub DataTrap : ℕ → Type 0
+DataTrap n = Proper (stop n)
 
 -- Where control goes within the procedure: to one of the ways out, with its list on the share.
 pub record Within (code : List ℕ) (share : ℕ) (out : List Way) (q : Registers) (s : List ℕ) : Type 0 where

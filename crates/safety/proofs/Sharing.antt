@@ -1,7 +1,8 @@
 -- The words of a share while words go and come on top of it: labels lie below where words are put, so they stay.
+use mathlib.Core.Bool.{Bool, true, false, cond}
 use mathlib.Core.List.{List, [], _∷_}
-use mathlib.Core.Option.{none, some, Option·none-ne-some}
-use mathlib.Core.Path.{_≡_, _∙_}
+use mathlib.Core.Option.{Option, none, some, Option·none-ne-some}
+use mathlib.Core.Path.{_≡_, _∙_, refl}
 use Prim.Native.Nat.{ℕ, zero, suc, _+_, _≤_, _<_}
 use native.Mathlib.Omega.{arith}
 use lib.ListN.{length, getD}
@@ -15,13 +16,23 @@ use Rattle.safety.specs.Demand3.{Holds, holds-none, holds-word, holds-la
 pub nothing : {A B : Type 0} (x : A) → none ≡ some x → B
 nothing x e = absurd (Option·none-ne-some x e)
 
+-- What is given only where a test holds.
+pub only-if : {A : Type 0} (t : Bool) (o : Option A) (x : A) → cond t o none ≡ some x → (t ≡ true) × (o ≡ some x)
+only-if true o x e = (refl, e)
+only-if false o x e = nothing x e
+
+-- Slots look at the words of their share alone.
+pub holds-kept : {code s : List ℕ} {bottom : ℕ} {l : List Slot} (s' : List ℕ) → ((i : ℕ) → i < bottom + length l → getD s' i 0 ≡ getD s i 0)
+    → Holds code s bottom l → Holds code s' bottom l
+holds-kept s' k holds-none = holds-none
+holds-kept s' k (holds-word h) = holds-word (holds-kept s' (λ i b. k i (omega arith)) h)
+holds-kept s' k (holds-label {bottom = bottom} {l = l} e h) =
+    holds-label (k (bottom + length l) (omega arith) ∙ e) (holds-kept s' (λ i b. k i (omega arith)) h)
+
 -- Words that are put above a share leave it as it is.
 pub holds-below : {code s : List ℕ} {share : ℕ} {l : List Slot} (i : ℕ) (vs : List ℕ) → share + length l ≤ i → Holds code s share l
     → Holds code (sets s i vs) share l
-holds-below i vs h holds-none = holds-none
-holds-below i vs h (holds-word k) = holds-word (holds-below i vs (omega arith) k)
-holds-below {s = s} i vs h (holds-label {bottom = share} {l = l} e k) =
-    holds-label (sets-other s i vs (share + length l) (λ a b. omega arith) ∙ e) (holds-below i vs (omega arith) k)
+holds-below {s = s} i vs h = holds-kept (sets s i vs) (λ j b. sets-other s i vs j (λ low high. omega arith))
 
 -- What lies under n slots, and how many slots there are.
 holds-tail : {code s : List ℕ} {share : ℕ} {x : Slot} {l : List Slot} → Holds code s share (x ∷ l) → Holds code s share l

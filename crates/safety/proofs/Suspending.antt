@@ -1,6 +1,6 @@
 -- The shares of suspended callers: they lie below the running call's, so that words above leave them as they are; CALL suspends the
 -- caller callers the words that it gives, and RTN goes back to it with the words that it gets.
-use mathlib.Core.Bool.{Bool, true, false, cond}
+use mathlib.Core.Bool.{cond}
 use mathlib.Core.List.{List, [], _∷_}
 use mathlib.Core.Option.{none, some}
 use mathlib.Core.Path.{_≡_, _∙_, refl, sym}
@@ -17,21 +17,13 @@ use Rattle.stackmap.specs.Slots.{Slot, pushWords, popWords, isWords, topOrigin}
 use Rattle.stackmap.specs.Ways.{Module, Way, _gets_, parametersIn, resultsIn, straight}
 use Rattle.stackmap.specs.StackMap.{Among, here, Reached, entered}
 use Rattle.safety.specs.Active.{Call, running, shareOf, begun, callers}
-use Rattle.safety.specs.Demand3.{Holds, holds-none, holds-word, holds-label}
+use Rattle.safety.specs.Demand3.{Holds, holds-none}
 use Rattle.safety.proofs.Parts.{Framed, no-frame, a-frame, Suspended, no-caller, a-caller, Placed}
 use Rattle.verifier.proofs.Levels.{words-test}
 use Rattle.stackmap.proofs.Pushing.{pushed-height}
-use Rattle.safety.proofs.Sharing.{nothing, holds-under, dropped-size, popped-drops, holds-words}
+use Rattle.safety.proofs.Sharing.{only-if, holds-kept, holds-under, dropped-size, popped-drops, holds-words}
 use Rattle.safety.proofs.Moving.{Taken, taken, among-taken}
 use Rattle.safety.proofs.Places.{Checked, reached-inside}
-
--- Slots look at the words of their share alone.
-holds-kept : {code s : List ℕ} {bottom : ℕ} {l : List Slot} (s' : List ℕ) → ((i : ℕ) → i < bottom + length l → getD s' i 0 ≡ getD s i 0)
-    → Holds code s bottom l → Holds code s' bottom l
-holds-kept s' k holds-none = holds-none
-holds-kept s' k (holds-word h) = holds-word (holds-kept s' (λ i b. k i (omega arith)) h)
-holds-kept s' k (holds-label {bottom = bottom} {l = l} e h) =
-    holds-label (k (bottom + length l) (omega arith) ∙ e) (holds-kept s' (λ i b. k i (omega arith)) h)
 
 pub suspended-kept : (M : Module) (s s' : List ℕ) (calls : List Call) → ((i : ℕ) → i < shareOf calls → getD s' i 0 ≡ getD s i 0)
     → Suspended M s calls → Suspended M s' calls
@@ -42,11 +34,9 @@ suspended-kept M s s' (c ∷ calls) k (a-caller l reached share holds p rest) =
 
 -- RTN finds exactly its results.
 results-found : (n : ℕ) (l : List Slot) (out : List Way) → cond (isWords n l) (some []) none ≡ some out → length l ≡ n
-results-found n l out = by (isWords n l) refl
-  where
-    by : (t : Bool) → isWords n l ≡ t → cond t (some []) none ≡ some out → length l ≡ n
-    by true e w = eqb-true (length l) n (both-true (eqb (length l) n) (eqb (topOrigin l) 0) (sym (words-test n l) ∙ e) .0)
-    by false e w = nothing out w
+results-found n l out w =
+    let words = sym (words-test n l) ∙ only-if (isWords n l) (some []) out w .0 in
+    eqb-true (length l) n (both-true (eqb (length l) n) (eqb (topOrigin l) 0) words .0)
 
 module _ (M : Module) (C : Checked M) where
   running-procedure : (s : List ℕ) (calls : List Call) → Suspended M s calls → running calls < entryCount (M .code)

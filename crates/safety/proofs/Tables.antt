@@ -1,12 +1,13 @@
 -- Where a switch goes: to the ELSE part or to a branch of its table, all of which are among its targets.
-use mathlib.Core.Bool.{Bool, true, false, cond}
+use mathlib.Core.Bool.{cond}
 use mathlib.Core.List.{List, _∷_}
-use mathlib.Core.Path.{_≡_, refl}
+use mathlib.Core.Path.{_≡_}
 use Prim.Native.Nat.{ℕ, zero, suc, _+_, _<_}
 use native.Mathlib.Omega.{arith}
 use lib.Dec.{leb}
 use borrow.Author.Tests.{leb-true}
-use Rattle.switch_table.specs.Switch.{elseDistance, branchDistance, rangeDistance, rangeHolds, searchFrom, searchDistance, orElse}
+use Rattle.words.proofs.Tests.{either, by-test}
+use Rattle.switch_table.specs.Switch.{elseDistance, branchDistance, rangeHolds, searchFrom, searchDistance, orElse}
 use Rattle.shape.specs.declared.Table.{Table}
 use Rattle.shape.specs.declared.Table.the-variants.{Branches, Ranges}
 use Rattle.successors.specs.Successors.{tableTarget, tableFrom, selectTargets}
@@ -32,31 +33,21 @@ module _ (code : List ℕ) (at : ℕ) where
   -- SWITCH.
   pub in-branches : (n x : ℕ) → In (at + cond (leb x n) (branchDistance code at x) (elseDistance code at)) (selectTargets code at Branches n)
   unfolding selectTargets
-  in-branches n x = by (leb x n) refl
-    where
-      by : (b : Bool) → leb x n ≡ b
-          → In (at + cond b (branchDistance code at x) (elseDistance code at)) ((at + elseDistance code at) ∷ tableFrom code at Branches 0 (n + 1))
-      by true e =
-          let z : 0 + x ≡ x = omega arith in
-          in-later (rw z at (in-table Branches 0 (n + 1) x (omega (arith, leb-true x n e))))
-      by false e = in-first
+  in-branches n x =
+      let z : 0 + x ≡ x = omega arith in
+      by-test (λ (d : ℕ). In (at + d) (selectTargets code at Branches n)) (leb x n) _ _ (λ e. in-later (rw z at (in-table Branches 0 (n + 1) x (omega (arith, leb-true x n e)))))
+      (λ e. in-first)
 
   -- SWITCH_X: the first range that holds the selector, or ELSE.
   in-found : (x k n : ℕ)
       → In (at + orElse (searchFrom code at x k n) (elseDistance code at)) ((at + elseDistance code at) ∷ tableFrom code at Ranges k n)
   in-found x k zero = in-first
-  in-found x k (suc n) = by (rangeHolds code at k x) (in-found x (k + 1) n)
+  in-found x k (suc n) =
+      either (λ (d : ℕ). In (at + orElse d (elseDistance code at)) ((at + elseDistance code at) ∷ tableFrom code at Ranges k (suc n))) (rangeHolds code at k x) _ _ (in-later in-first) (skip (in-found x (k + 1) n))
     where
       skip : {t u v : ℕ} {ts : List ℕ} → In t (u ∷ ts) → In t (u ∷ v ∷ ts)
       skip in-first = in-first
       skip (in-later h) = in-later (in-later h)
-
-      by : (b : Bool)
-          → In (at + orElse (searchFrom code at x (k + 1) n) (elseDistance code at)) ((at + elseDistance code at) ∷ tableFrom code at Ranges (k + 1) n)
-          → In (at + orElse (cond b (rangeDistance code at k) (searchFrom code at x (k + 1) n)) (elseDistance code at))
-          ((at + elseDistance code at) ∷ tableTarget code at Ranges k ∷ tableFrom code at Ranges (k + 1) n)
-      by true h = in-later in-first
-      by false h = skip h
 
   pub in-ranges : (n x : ℕ) → In (at + orElse (searchDistance code at n x) (elseDistance code at)) (selectTargets code at Ranges n)
   unfolding selectTargets searchDistance

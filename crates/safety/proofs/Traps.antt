@@ -15,11 +15,12 @@ use Rattle.operate.specs.declared.Value.{Value}
 use Rattle.operate.specs.declared.Value.the-variants.{Word, Trap as Stop}
 use Rattle.operate.specs.Value.{signedWord, unsignedWord}
 use Rattle.operate.specs.Arithmetic.{signedNumber, unsignedNumber, divides, signedValue, unsignedValue, negatedValue}
-use Rattle.safety.proofs.Parts.{DataTrap, data-trapped}
+use Rattle.safety.specs.Demand3.{data-trap}
+use Rattle.safety.proofs.Parts.{DataTrap}
 
 -- A number that is written out.
 pub data-number : (n : ℕ) → leb 30 n ≡ true → leb n 38 ≡ true → DataTrap n
-data-number n l r = data-trapped (leb-true 30 n l) (leb-true n 38 r)
+data-number n l r = data-trap (leb-true 30 n l) (leb-true n 38 r)
 
 pub data Valued : Value → Type 0 where
   a-word : {x : ℕ} → Valued (Word x)

@@ -1,9 +1,8 @@
 -- An instruction finds its words in the share: where the check has a way out, so many slots could be taken off the list.
-use mathlib.Core.Bool.{Bool, true, false, cond}
 use mathlib.Core.List.{List, [], _∷_}
-use mathlib.Core.Option.{none, some}
+use mathlib.Core.Option.{some}
 use mathlib.Core.Path.{_≡_}
-use Prim.Native.Nat.{ℕ, suc, _≤_}
+use Prim.Native.Nat.{ℕ, _≤_}
 use native.Mathlib.Omega.{arith}
 use lib.ListN.{length}
 use Rattle.opcode.specs.declared.instruction.Instruction.the-variants.{LoadConstant, Load, LoadAddress, Store, Pop, Swap, Nop, Signed, Unsigned, Negate, Equal, NotEqual, CompareSigned, CompareUnsigned, Set, Not, Alloc, Free, Jump, JumpC, JumpT, JumpF, Iter, Next, Switch, SwitchX, Leave, Call, Enter, Rtn}
@@ -12,7 +11,7 @@ use Rattle.shape.specs.Shape.{shapeOf}
 use Rattle.stackmap.specs.Slots.{Slot, word, label, popWords, dropSlots}
 use Rattle.stackmap.specs.Ways.{Way, after, isLoop, again, exit, ways}
 use Rattle.safety.proofs.Parts.{FindsWords}
-use Rattle.safety.proofs.Sharing.{nothing, dropped-size, popped-drops}
+use Rattle.safety.proofs.Sharing.{nothing, only-if, dropped-size, popped-drops}
 use Rattle.safety.proofs.Moving.{taken}
 
 dropped-fits : (n : ℕ) (l : List Slot) (f : List Slot → List Way) (out : List Way) → after (dropSlots n l) f ≡ some out → n ≤ length l
@@ -29,11 +28,7 @@ popped-fits n l f out e =
 again-fits : (code : List ℕ) (next : ℕ) (l : List Slot) (out : List Way) → again code next l ≡ some out → 5 ≤ length l
 again-fits code next [] out e = nothing out e
 again-fits code next (word ∷ l) out e = nothing out e
-again-fits code next (label origin ∷ l) out e = by (isLoop code origin) _ e
-  where
-    by : (t : Bool) (f : List Slot → List Way) → cond t (after (popWords 4 l) f) none ≡ some out → 5 ≤ suc (length l)
-    by true f d = omega (arith, popped-fits 4 l f out d)
-    by false f d = nothing out d
+again-fits code next (label origin ∷ l) out e = omega (arith, popped-fits 4 l _ out (only-if (isLoop code origin) _ out e .1))
 
 -- LEAVE: the label.
 exit-fits : (code : List ℕ) (l : List Slot) (out : List Way) → exit code l ≡ some out → 1 ≤ length l
