@@ -9,9 +9,10 @@ use lib.ListN.{length, replicate, length-append, length-replicate, List·getD-ap
 use lib.Seq.{getD-append-add}
 use borrow.Author.Tests.{eqb-true, eqb-false, le-leb, lt-leb, eq-eqb, ne-eqb}
 use Rattle.words.specs.Bytes.{wordAt, wordsFrom}
-use Rattle.words.proofs.Tests.{either}
+use Rattle.words.proofs.Tests.{either, by-test}
 use Rattle.words.proofs.Series.{series-at, series-length}
 use Rattle.record.proofs.Sound.{sound-sizes}
+use Rattle.record.specs.declared.Reading.{Reading}
 use Rattle.record.specs.declared.Reading.the-variants.{Sound, Refused as NotRead}
 use Rattle.header.specs.declared.Header.{Header}
 use Rattle.header.specs.Header.{headerOf, constantsAt}
@@ -30,19 +31,15 @@ apart n h e = let z : _≡_ {A = ℕ} 0 1 = cc in omega arith
 -- A record that reading takes has no number, and what is handed back is its header; else it is the number.
 pub sound-header : (r : List ℕ) (h : Header) → readingOf r ≡ Sound h → (recordNumber r ≡ 0) × (h ≡ headerOf r)
 unfolding readingOf
-sound-header r h e = by (eqb (recordNumber r) 0) refl
-  where
-    by : (t : Bool) → eqb (recordNumber r) 0 ≡ t → (recordNumber r ≡ 0) × (h ≡ headerOf r)
-    by true q = let s : Sound (headerOf r) ≡ Sound h = rw q at e in (eqb-true (recordNumber r) 0 q, cc)
-    by false q = absurd (apart (recordNumber r) h (rw q at e))
+sound-header r h =
+    by-test (λ (x : Reading). x ≡ Sound h → (recordNumber r ≡ 0) × (h ≡ headerOf r)) (eqb (recordNumber r) 0) _ _
+    (λ t e. (eqb-true (recordNumber r) 0 t, cc)) (λ t e. absurd (apart (recordNumber r) h e))
 
 pub refused-number : (r : List ℕ) (n : ℕ) → readingOf r ≡ NotRead n → (recordNumber r ≡ 0 → ⊥) × (n ≡ recordNumber r)
 unfolding readingOf
-refused-number r n e = by (eqb (recordNumber r) 0) refl
-  where
-    by : (t : Bool) → eqb (recordNumber r) 0 ≡ t → (recordNumber r ≡ 0 → ⊥) × (n ≡ recordNumber r)
-    by true q = absurd (apart n (headerOf r) (sym (rw q at e)))
-    by false q = let s : NotRead (recordNumber r) ≡ NotRead n = rw q at e in (eqb-false (recordNumber r) 0 q, cc)
+refused-number r n =
+    by-test (λ (x : Reading). x ≡ NotRead n → (recordNumber r ≡ 0 → ⊥) × (n ≡ recordNumber r)) (eqb (recordNumber r) 0) _ _
+    (λ t e. absurd (apart n (headerOf r) (sym e))) (λ t e. (eqb-false (recordNumber r) 0 t, cc))
 
 -- An element behind the first part of a list; zeros, and zeros behind a list.
 behind : (xs ys : List ℕ) (k : ℕ) → length xs ≤ k → read (xs ++ ys) k ≡ read ys (k - length xs)
