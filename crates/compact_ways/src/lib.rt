@@ -41,7 +41,7 @@ pub fn callee_results(results: &[u8], p: u32) -> u32
     words::byte_at(results, p as usize) as u32
 }
 
-fn way_toward(place: usize, t: Top) -> Way
+pub fn way_toward(place: usize, t: Top) -> Way
     ensures { λ a. ⌜ a ≡ toward place t ⌝ }
 {
     Way {

@@ -39,7 +39,7 @@ lower-three false false true false false false = refl
 lower-three false false false false false true = refl
 lower-three false false false false false false = refl
 
-pub lower-zero : (a : ℕ) → lower a 0 ≡ a
+lower-zero : (a : ℕ) → lower a 0 ≡ a
 unfolding lower
 lower-zero zero = refl
 lower-zero (suc n) = rw (ne-eqb (suc n) 0 (λ e. omega arith))

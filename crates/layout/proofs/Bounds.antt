@@ -10,7 +10,7 @@ use Rattle.words.proofs.Bytes.{halfword-below}
 use Rattle.entries.specs.Entries.{entryAt, entryCount, regionEnd}
 
 module _ (code : List ℕ) (bytes : Bytes code) where
-  pub entry-below : (p : ℕ) → entryAt code p ≤ 65535
+  entry-below : (p : ℕ) → entryAt code p ≤ 65535
   unfolding entryAt
   entry-below p = omega (arith, halfword-below code bytes (2 * p))
 

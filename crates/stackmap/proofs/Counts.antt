@@ -33,7 +33,7 @@ module _ (σ τ : States) (stays : (at : ℕ) (l : List Slot) → σ at ≡ done
   one-lower at (waiting l) e = one-most (τ at)
   one-lower at (done l) e = rw (stays at l e) (omega arith)
 
-  pub undone-lower : (n : ℕ) → undone τ n ≤ undone σ n
+  undone-lower : (n : ℕ) → undone τ n ≤ undone σ n
   undone-lower zero = omega arith
   undone-lower (suc n) = omega (arith, one-lower n (σ n) refl, undone-lower n)
 

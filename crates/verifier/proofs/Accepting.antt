@@ -10,7 +10,7 @@ use Rattle.header.specs.Header.{codeOf}
 use Rattle.layout.specs.Cut.{Marks, Cut, bad, cut, cutOf}
 use Rattle.faults.specs.Faults.{codeNumber}
 use Rattle.stackmap.specs.Walk.{States, walkOf}
-use Rattle.verifier.specs.Check.{listNumber, moduleOf, refuted, accepted, verdictOf, concluded, checkOf}
+use Rattle.verifier.specs.Check.{listNumber, moduleOf, refuted, walked, verdictOf, concluded, checkOf}
 use Rattle.workspace.specs.Checking.{checking}
 use Rattle.verifier.proofs.Ranges.{list-range, code-range, cut-range}
 use Rattle.verifier.proofs.Records.{Listed, listed}
@@ -32,20 +32,14 @@ answers r results w = by (listNumber r results (length w)) refl
 pub data Judged (code results : List ℕ) : Type 0 where
   miscut : (n : ℕ) → cutOf code ≡ bad n → verdictOf code results ≡ refuted n → Judged code results
   faulty : (marks : Marks) (n : ℕ) → cutOf code ≡ cut marks → codeNumber code marks ≡ suc n → verdictOf code results ≡ refuted (suc n) → Judged code results
-  unmapped : (marks : Marks) → cutOf code ≡ cut marks → codeNumber code marks ≡ 0 → walkOf (moduleOf code results marks) ≡ none → verdictOf code results ≡ refuted 15 → Judged code results
-  mapped : (marks : Marks) → cutOf code ≡ cut marks → codeNumber code marks ≡ 0 → (σ : States) → walkOf (moduleOf code results marks) ≡ some σ → verdictOf code results ≡ accepted σ → Judged code results
+  sound-code : (marks : Marks) → cutOf code ≡ cut marks → codeNumber code marks ≡ 0 → verdictOf code results ≡ walked (walkOf (moduleOf code results marks)) → Judged code results
 
 pub judged : (code results : List ℕ) → Judged code results
 unfolding verdictOf
 judged code results = by (cutOf code) refl
   where
-    walks : (marks : Marks) → cutOf code ≡ cut marks → codeNumber code marks ≡ 0 → (o : Option States)
-        → walkOf (moduleOf code results marks) ≡ o → Judged code results
-    walks marks c f none g = unmapped marks c f g (rw (c, f, g))
-    walks marks c f (some σ) g = mapped marks c f σ g (rw (c, f, g))
-
     faults : (marks : Marks) → cutOf code ≡ cut marks → (n : ℕ) → codeNumber code marks ≡ n → Judged code results
-    faults marks c zero f = walks marks c f (walkOf (moduleOf code results marks)) refl
+    faults marks c zero f = sound-code marks c f (rw (c, f))
     faults marks c (suc n) f = faulty marks n c f (rw (c, f, eqb·suc-zero n))
 
     by : (c : Cut) → cutOf code ≡ c → Judged code results
@@ -56,11 +50,14 @@ judged code results = by (cutOf code) refl
 pub check-range : (r results w : List ℕ) → checkOf r results w .number ≤ 15
 check-range r results w = by (answers r results w)
   where
+    walks : (o : Option States) → concluded (length (codeOf r)) w (walked o) .number ≤ 15
+    walks none = let z : 15 ≤ 15 = omega arith in z
+    walks (some σ) = let z : 0 ≤ 15 = omega arith in z
+
     verdict : Judged (codeOf r) results → concluded (length (codeOf r)) w (verdictOf (codeOf r) results) .number ≤ 15
     verdict (miscut n c v) = rw v (let z = cut-range (codeOf r) n c in omega arith)
     verdict (faulty marks n c f v) = rw v (omega (arith, f, code-range (codeOf r) marks))
-    verdict (unmapped marks c f h v) = rw v (let z : 15 ≤ 15 = omega arith in z)
-    verdict (mapped marks c f σ h v) = rw v (let z : 0 ≤ 15 = omega arith in z)
+    verdict (sound-code marks c f v) = rw v (walks (walkOf (moduleOf (codeOf r) results marks)))
 
     by : Answers r results w → checkOf r results w .number ≤ 15
     by (early n f g) = rw g (omega (arith, f, list-range r results (length w)))

@@ -18,6 +18,7 @@ use Rattle.compact_ways.specs.declared.Ways.{Ways}
 use Rattle.compact_ways.specs.declared.Ways.the-variants.{Broken, Ended, One, Two, Many}
 use Rattle.compact.specs.Tops.{top}
 use Rattle.compact_ways.specs.Ways.{way}
+use Rattle.verifier.specs.Check.{shownState}
 use Rattle.verifier.specs.Exact.{Shows}
 
 -- The list l lies under the label of an origin: ITER's label on the list that ITER found, four words on top; a switch's in place of
@@ -31,11 +32,17 @@ pub data Coherent (code : List ℕ) (π : Map) : List Slot → Type 0 where
   on-word : {l : List Slot} → Coherent code π l → Coherent code π (word ∷ l)
   on-label : {origin : ℕ} {l : List Slot} → Lies code π origin l → Coherent code π l → Coherent code π (label origin ∷ l)
 
--- Four halfwords of the workspace show the state of an offset.
-pub data Shown (w : List ℕ) (at : ℕ) : State → Type 0 where
-  shown-blank : getD w (4 * at) 0 ≡ 0 → getD w (4 * at + 1) 0 ≡ 0 → getD w (4 * at + 2) 0 ≡ 0 → Shown w at blank
-  shown-waiting : {l : List Slot} → getD w (4 * at) 0 ≡ length l + 1 → getD w (4 * at + 1) 0 ≡ topOrigin l → getD w (4 * at + 2) 0 ≡ 1 → Shown w at (waiting l)
-  shown-done : {l : List Slot} → getD w (4 * at) 0 ≡ length l + 1 → getD w (4 * at + 1) 0 ≡ topOrigin l → getD w (4 * at + 2) 0 ≡ 0 → Shown w at (done l)
+-- The third halfword of an offset tells whether it waits.
+abbrev pub waitsIn : State → ℕ
+waitsIn blank = 0
+waitsIn (waiting l) = 1
+waitsIn (done l) = 0
+
+-- The first three halfwords of an offset in the workspace show its state.
+pub record Shown (w : List ℕ) (at : ℕ) (s : State) : Type 0 where
+  pub height : getD w (4 * at) 0 ≡ getD (shownState s) 0 0
+  pub origin : getD w (4 * at + 1) 0 ≡ getD (shownState s) 1 0
+  pub waits : getD w (4 * at + 2) 0 ≡ waitsIn s
 
 -- The workspace shows the lists of a map where it has one.
 abbrev pub ShowsMap : List ℕ → Map → Type 0

@@ -4,7 +4,8 @@ use mathlib.Core.Bool.{true, cond}
 use mathlib.Core.List.{List, _++_}
 use mathlib.Core.Option.{Option, none, some}
 use mathlib.Core.Path.{_≡_, _∙_, refl, sym, ap}
-use Prim.Native.Nat.{ℕ, zero, suc, _+_, _*_, _<_}
+use Prim.Native.Nat.{ℕ, zero, suc, _+_, _*_, _<_, _≤_}
+use native.Mathlib.Nat.{add-zero}
 use native.Mathlib.Omega.{arith}
 use lib.Dec.{eqb, eqb·suc-zero}
 use lib.ListN.{length, getD, drop, replicate, length-replicate, getD-replicate}
@@ -22,7 +23,7 @@ use Rattle.verifier.specs.Check.{moduleOf, refuted, walked, verdictOf, c
 use Rattle.workspace.specs.Checking.{checking}
 use Rattle.verifier.specs.Handing.{walkedTop}
 use Rattle.verifier.specs.Examine.{zeroed, unmarked, afterWalk, afterFaults, afterMarks, examinedTop}
-use Rattle.verifier.proofs.Coherence.{Shown, shown-blank}
+use Rattle.verifier.proofs.Coherence.{Shown}
 use Rattle.verifier.proofs.Simulation.{Alike, walks-alike}
 use Rattle.verifier.proofs.Showing.{unmarked-shows}
 
@@ -46,8 +47,14 @@ module _ (code results w : List ℕ) (e : entriesSound code ≡ true) (b : Bytes
   zeros-at : (i : ℕ) → i < 4 * length code → getD zeros i 0 ≡ 0
   zeros-at i h = getD-replicate (length w) i 0 0 (omega arith)
 
+  room : 4 * length code ≤ length zeros
+  room = omega (arith, zeros-length)
+
+  clean : (at : ℕ) → at < length code → getD zeros (4 * at + 3) 0 ≡ 0
+  clean at h = zeros-at (4 * at + 3) (omega arith)
+
   marked-length : length marked ≡ 4 * length code
-  marked-length = marking-keeps-length code zeros ∙ zeros-length
+  marked-length = marking-keeps-length code e zeros room clean ∙ zeros-length
 
   -- All of the workspace zeroed, which is just as long as it must be.
   cleared : (n : ℕ) (u : List ℕ) → length u ≡ 4 * length code → checking n (zeroed u) ≡ concluded (length code) w (refuted n)
@@ -58,7 +65,7 @@ module _ (code results w : List ℕ) (e : entriesSound code ≡ true) (b : Bytes
 
   module _ (number : markAll code zeros .number ≡ 0) where
     is-cut : cutOf code ≡ cut (marksIn marked (length code))
-    is-cut = marking-cuts code e zeros (omega (arith, zeros-length)) (λ at h. zeros-at (4 * at + 3) (omega arith)) number
+    is-cut = marking-cuts code e zeros room clean number
 
     alike : Alike (moduleOf code results (marksIn marked (length code))) marked (walkedTop code results marked)
     alike =
@@ -66,12 +73,15 @@ module _ (code results w : List ℕ) (e : entriesSound code ≡ true) (b : Bytes
         (sound code results (marksIn marked (length code)) e b is-cut) (omega (arith, marked-length)) blanks (λ at. refl)
       where
         same : (at k : ℕ) → at < length code → k < 3 → getD marked (4 * at + k) 0 ≡ 0
-        same at k h l = marking-keeps-others code zeros at k l ∙ zeros-at (4 * at + k) (omega arith)
+        same at k h l = marking-keeps-others code e zeros room clean at k l ∙ zeros-at (4 * at + k) (omega arith)
 
         blanks : (at : ℕ) → at < length code → Shown marked at blank
         blanks at h =
-            shown-blank (ap (λ (j : ℕ). getD marked j 0) (let z : 4 * at ≡ 4 * at + 0 = omega arith in z) ∙ same at 0 h (omega arith))
-            (same at 1 h (omega arith)) (same at 2 h (omega arith))
+            record {
+              height = rw (add-zero (4 * at)) at (same at 0 h (omega arith));
+              origin = same at 1 h (omega arith);
+              waits = same at 2 h (omega arith);
+            }
 
     walks : (o : Option States) → walkOf (moduleOf code results (marksIn marked (length code))) ≡ o
         → afterWalk code (walkedTop code results marked) ≡ concluded (length code) w (walked o)
@@ -94,7 +104,7 @@ module _ (code results w : List ℕ) (e : entriesSound code ≡ true) (b : Bytes
   unfolding verdictOf
   marks zero f = rw (is-cut f) (faults f (codeNumber code (marksIn marked (length code))) refl)
   marks (suc n) f =
-      rw (marking-refuses code e zeros (omega (arith, zeros-length)) (λ at h. zeros-at (4 * at + 3) (omega arith)) n f, eqb·suc-zero n)
+      rw (marking-refuses code e zeros room clean n f, eqb·suc-zero n)
       (cleared (suc n) marked marked-length)
 
   pub examined-concludes : examinedTop code results w ≡ concluded (length code) w (verdictOf code results)

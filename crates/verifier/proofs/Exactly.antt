@@ -2,9 +2,10 @@
 -- shows what is reached: where the rules are met the walk decides, and any number but 1 to 14 says that they are.
 use mathlib.Core.List.{List}
 use mathlib.Core.Logic.{_⊎_, inl, inr, ⊎-elim}
-use mathlib.Core.Option.{Option, none, some, Option·none-ne-some}
-use mathlib.Core.Path.{_≡_, _∙_, refl, ap}
+use mathlib.Core.Option.{Option, none, some}
+use mathlib.Core.Path.{_≡_, _∙_, refl}
 use Prim.Native.Nat.{ℕ, suc, _+_, _*_, _<_, _≤_}
+use native.Mathlib.Nat.{zero-add}
 use native.Mathlib.Omega.{arith}
 use lib.ListN.{length, getD, drop, List·getD-append}
 use borrow.Author.Tests.{le-ltb}
@@ -15,27 +16,21 @@ use Rattle.stackmap.specs.Walk.{State, States, slotsIn, blank, waiting, done, w
 use Rattle.stackmap.proofs.Placing.{in-told}
 use Rattle.stackmap.proofs.Exact.{finds-maps, refutes-maps, finds-reached, has-reached}
 use Rattle.verifier.specs.Check.{listNumber, accepted, walked, verdictOf, concluded, shownState, shownFrom, checkOf}
-use Rattle.workspace.specs.Checking.{Checking}
 use Rattle.words.specs.Bytes.{Bytes}
-use Rattle.verifier.specs.Exact.{Ruled, subject, Unmapped, Room, AcceptsOnly, AcceptsAll, RefusesOnly, RefusesAll, Shows, ShowsReached, ShowsNoMore}
+use Rattle.verifier.specs.Exact.{Ruled, subject, Unmapped, Room, AcceptsOnly, AcceptsAll, RefusesOnly, RefusesAll, ShowsReached, ShowsNoMore}
 use Rattle.record.proofs.Sound.{numberless}
 use Rattle.verifier.proofs.Records.{Listed, code-bytes}
+use Rattle.verifier.proofs.Keeping.{state-shows}
 use Rattle.verifier.proofs.Concluding.{sound}
 use Rattle.verifier.proofs.Showing.{shown-at, shown-length}
 use Rattle.verifier.proofs.Ranges.{list-range, code-range, cut-range}
-use Rattle.verifier.proofs.Accepting.{Answers, early, late, answers, Judged, miscut, faulty, unmapped, mapped, judged}
+use Rattle.verifier.proofs.Accepting.{Answers, early, late, answers, Judged, miscut, faulty, sound-code, judged}
 
 -- A state has a list or is blank.
 listed-or-blank : (s : State) → ((l : List Slot) × (slotsIn s ≡ some l)) ⊎ (s ≡ blank)
 listed-or-blank blank = inr refl
 listed-or-blank (waiting l) = inl (l, refl)
 listed-or-blank (done l) = inl (l, refl)
-
--- The list that a state has, as the workspace shows it.
-state-shows : (s : State) (l : List Slot) → slotsIn s ≡ some l → Shows (shownState s) 0 l
-state-shows blank l e = absurd (Option·none-ne-some l e)
-state-shows (waiting k) l e = let z : k ≡ l = cc in record { height = rw z; origin = rw z }
-state-shows (done k) l e = let z : k ≡ l = cc in record { height = rw z; origin = rw z }
 
 module _ (r results w : List ℕ) where
   abbrev code : List ℕ
@@ -65,9 +60,7 @@ module _ (r results w : List ℕ) where
       late-by L g (faulty marks n c f v) =
           let z : suc n ≤ 14 → suc n ≡ 0 = rw (g, v) at other in
           absurd (omega (arith, z (omega (arith, f, code-range code marks))))
-      late-by L g (unmapped marks c f h v) =
-          (L .enough, record { record-sound = L .numberless; list-sound = L .fitting; marks = marks; is-cut = c; in-order = f })
-      late-by L g (mapped marks c f σ h v) =
+      late-by L g (sound-code marks c f v) =
           (L .enough, record { record-sound = L .numberless; list-sound = L .fitting; marks = marks; is-cut = c; in-order = f })
 
       by : Answers r results w → Room r w × Ruled r results
@@ -93,11 +86,9 @@ module _ (r results w : List ℕ) where
   index : {R : Ruled r results} (P : Passed R) (i at k : ℕ) → i ≡ 4 * at + k → at < length code → k < 4
       → getD (checkOf r results w .workspace) i 0 ≡ getD (shownState (P .states at)) k 0
   index P i at k e a b =
-      rw e (ap (λ (c : Checking). getD (c .workspace) (4 * at + k) 0) (P .leaves)
-      ∙ (List·getD-append (shownFrom (P .states) 0 (length code)) (drop (4 * length code) w) 0 (4 * at + k)
-      (omega (arith, shown-length (P .states) 0 (length code)))
-      ∙ (shown-at (P .states) 0 (length code) at k a b
-      ∙ ap (λ (j : ℕ). getD (shownState (P .states j)) k 0) (let z : 0 + at ≡ at = omega arith in z))))
+      let shown = shownFrom (P .states) 0 (length code) in
+      let near : 4 * at + k < length shown = omega (arith, shown-length (P .states) 0 (length code)) in
+      rw (e, P .leaves, List·getD-append shown (drop (4 * length code) w) 0 (4 * at + k) near, shown-at (P .states) 0 (length code) at k a b, zero-add at)
 
 pub accepts-only : AcceptsOnly
 accepts-only r results w b e =

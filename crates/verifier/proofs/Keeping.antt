@@ -11,11 +11,12 @@ use Rattle.layout.specs.Workspace.{marksIn}
 use Rattle.stackmap.specs.Slots.{Slot}
 use Rattle.stackmap.specs.Ways.{Module, Way}
 use Rattle.stackmap.specs.StackMap.{Map}
-use Rattle.stackmap.specs.Walk.{State, waiting, States, slotsIn, mapOf}
+use Rattle.stackmap.specs.Walk.{State, blank, waiting, done, States, slotsIn, mapOf}
 use Rattle.layout.proofs.Updates.{Change, changed, spared, change}
 use Rattle.stackmap.proofs.Placing.{Grows, told-change, grows-change}
+use Rattle.verifier.specs.Check.{shownState}
 use Rattle.verifier.specs.Exact.{Shows}
-use Rattle.verifier.proofs.Coherence.{Coherent, Shown, shown-blank, shown-waiting, shown-done, ShowsMap, AllCoherent, no-way, a-way}
+use Rattle.verifier.proofs.Coherence.{Coherent, Shown, ShowsMap, AllCoherent, no-way, a-way}
 use Rattle.verifier.proofs.Pairs.{coherent-grows}
 use Rattle.verifier.proofs.Fields.{Within, shown-other, marks-other}
 
@@ -36,14 +37,16 @@ pub record Sim (M : Module) (w : List ℕ) (σ : States) (from : ℕ) : Type 0 w
   pub clear : Clear σ from
 
 -- The lists that are shown.
-slots-shown : {w : List ℕ} {at : ℕ} {s : State} {l : List Slot} → Shown w at s → slotsIn s ≡ some l
-    → Shows w at l
-slots-shown (shown-blank x y z) e = absurd (Option·none-ne-some _ e)
-slots-shown (shown-waiting x y z) e = record { height = cc; origin = cc }
-slots-shown (shown-done x y z) e = record { height = cc; origin = cc }
+pub state-shows : (s : State) (l : List Slot) → slotsIn s ≡ some l → Shows (shownState s) 0 l
+state-shows blank l e = absurd (Option·none-ne-some l e)
+state-shows (waiting k) l e = let z : k ≡ l = cc in record { height = rw z; origin = rw z }
+state-shows (done k) l e = let z : k ≡ l = cc in record { height = rw z; origin = rw z }
 
 pub shows-map : {M : Module} {w : List ℕ} {σ : States} → Held M w σ → ShowsMap w (mapOf σ)
-shows-map H at l e = slots-shown (H .shown at (H .inside at l e)) e
+shows-map {M} {w} {σ} H at l e =
+    let S = H .shown at (H .inside at l e) in
+    let s = state-shows (σ at) l e in
+    record { height = S .height ∙ s .height; origin = S .origin ∙ s .origin }
 
 -- One offset is changed.
 pub held-change : (M : Module) (w v : List ℕ) (σ : States) (t : ℕ) (s : State) (k : List Slot) → Within t w v → t < length (M .code)

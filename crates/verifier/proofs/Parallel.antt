@@ -24,9 +24,9 @@ use Rattle.compact_ways.specs.declared.Ways.{Ways}
 use Rattle.compact_ways.specs.Ways.{way}
 use Rattle.verifier.specs.declared.hand.Handed.the-variants.{Stuck, From}
 use Rattle.verifier.specs.Handing.{Handing, handing, given, least, takenTop, handedTop, thenHanding, handedTwo, handedTargets, handedWays}
-use Rattle.verifier.proofs.Coherence.{Coherent, Shown, shown-blank, shown-waiting, shown-done, topOf, compactOf, Stands, broken, ended, one, two, many, AllCoherent, no-way, a-way}
+use Rattle.verifier.proofs.Coherence.{Coherent, Shown, topOf, compactOf, Stands, broken, ended, one, two, many, AllCoherent, no-way, a-way}
 use Rattle.verifier.proofs.Pairs.{pair-determines, coherent-grows}
-use Rattle.verifier.proofs.Fields.{within-given, given-height, given-origin, given-waits}
+use Rattle.verifier.proofs.Fields.{within-given, given-shown}
 use Rattle.verifier.proofs.Keeping.{Sim, sim-change, all-grow}
 
 -- Both broke, or both went on and are still alike.
@@ -87,13 +87,8 @@ module _ (M : Module) (S : Sound M) (p : ℕ) where
       took b =
           both-go (within-given t w (length k) (topOrigin k) .long) (grows-change σ t (waiting k) k refl none-yet)
           (sim-change t (waiting k) k (least t from) X h (within-given t w (length k) (topOrigin k))
-          (shown-waiting (given-height t w (length k) (topOrigin k) room) (given-origin t w (length k) (topOrigin k) room)
-          (given-waits t w (length k) (topOrigin k) room))
-          refl none-yet c (λ at l b e. still at l b e (change σ t (waiting k) at)))
+          (given-shown t w k (omega (arith, X .held .room))) refl none-yet c (λ at l b e. still at l b e (change σ t (waiting k) at)))
         where
-          room : 4 * t + 4 ≤ length w
-          room = omega (arith, X .held .room)
-
           none-yet : (l : List Slot) → mapOf σ t ≡ some l → l ≡ k
           none-yet l e = cc
 
@@ -116,9 +111,9 @@ module _ (M : Module) (S : Sound M) (p : ℕ) where
       offered : (s : State) → σ t ≡ s → Shown w t s
           → Parallel M w σ (takenTop w (way t (length k) (topOrigin k)) from) (taken σ t k s)
       unfolding takenTop
-      offered blank e (shown-blank x y z) = rw x (took e)
-      offered (waiting l) e (shown-waiting x y z) = met l (ap slotsIn e) x y
-      offered (done l) e (shown-done x y z) = met l (ap slotsIn e) x y
+      offered blank e shown = rw (shown .height) (took e)
+      offered (waiting l) e shown = met l (ap slotsIn e) (shown .height) (shown .origin)
+      offered (done l) e shown = met l (ap slotsIn e) (shown .height) (shown .origin)
 
     one-way : Parallel M w σ (handedTop (length (M .code)) p (way t (length k) (topOrigin k)) from w) (handed M p σ (t gets k))
     unfolding handedTop

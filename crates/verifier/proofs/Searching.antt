@@ -12,7 +12,7 @@ use Rattle.stackmap.specs.Slots.{Slot}
 use Rattle.stackmap.specs.Walk.{State, blank, waiting, done, States, Found, nowhere, found, orLater, waitingFrom}
 use Rattle.stackmap.proofs.Counts.{blank-waits, done-waits}
 use Rattle.verifier.specs.Handing.{firstWaiting}
-use Rattle.verifier.proofs.Coherence.{Shown, shown-blank, shown-waiting, shown-done}
+use Rattle.verifier.proofs.Coherence.{Shown}
 use Rattle.verifier.proofs.Keeping.{Clear}
 
 pub data Finds (size : ℕ) (σ : States) : ℕ → Found → Type 0 where
@@ -29,9 +29,9 @@ module _ (size : ℕ) (w : List ℕ) (σ : States) (shown : (at : ℕ) → at < 
     where
       by : (Clear σ (at + 1) → Finds size σ (firstWaiting w (at + 1) n) (waitingFrom σ (at + 1) n)) → (s : State) → σ at ≡ s
           → Shown w at s → Finds size σ (firstWaiting w at (suc n)) (orLater at (waitingFrom σ (at + 1) n) s)
-      by go blank q (shown-blank x y z) = rw z (go (clear-next at c λ l g. blank-waits q g))
-      by go (waiting l) q (shown-waiting x y z) = rw z (finds-one {at = at} (omega arith) q c)
-      by go (done l) q (shown-done x y z) = rw z (go (clear-next at c λ j g. done-waits q g))
+      by go blank q S = rw (S .waits) (go (clear-next at c λ l g. blank-waits q g))
+      by go (waiting l) q S = rw (S .waits) (finds-one {at = at} (omega arith) q c)
+      by go (done l) q S = rw (S .waits) (go (clear-next at c λ j g. done-waits q g))
 
   -- The search over lists begins at 0.
   module _ (from : ℕ) (c : Clear σ from) where

@@ -1,8 +1,9 @@
 -- The workspace of an accepted walk, its marks taken away, is what the check shows of the lists found: index by index.
 use mathlib.Core.Bool.{Bool, true, false}
 use mathlib.Core.List.{List, _++_}
-use mathlib.Core.Path.{_≡_, _∙_, refl, sym, ap}
+use mathlib.Core.Path.{_≡_, _∙_, refl, sym}
 use Prim.Native.Nat.{ℕ, zero, suc, _+_, _*_, _<_, _≤_, _/_, _%_}
+use native.Mathlib.Nat.{add-zero, zero-add}
 use native.Mathlib.Omega.{arith}
 use lib.Dec.{ltb}
 use lib.ListN.{length, getD, set, length-set, length-append, List·getD-append}
@@ -12,9 +13,9 @@ use Rattle.layout.proofs.Updates.{at-or-after}
 use Rattle.stackmap.specs.Walk.{State, States, blank, waiting, done}
 use Rattle.verifier.specs.Check.{shownState, shownFrom}
 use Rattle.verifier.specs.Examine.{unmarked}
-use Rattle.verifier.proofs.Coherence.{Shown, shown-blank, shown-waiting, shown-done}
+use Rattle.verifier.proofs.Coherence.{Shown}
 
-pub unmarked-length : (at n : ℕ) (w : List ℕ) → length (unmarked at n w) ≡ length w
+unmarked-length : (at n : ℕ) (w : List ℕ) → length (unmarked at n w) ≡ length w
 unmarked-length at zero w = refl
 unmarked-length at (suc n) w = unmarked-length (at + 1) n (set w (4 * at + 3) 0) ∙ length-set w (4 * at + 3) 0
 
@@ -58,15 +59,12 @@ pub shown-at : (σ : States) (at n b k : ℕ) → b < n → k < 4
     → getD (shownFrom σ at n) (4 * b + k) 0 ≡ getD (shownState (σ (at + b))) k 0
 shown-at σ at zero b k h l = absurd (omega arith)
 shown-at σ at (suc n) zero k h l =
-    ap (λ (j : ℕ). getD (shownState (σ at) ++ shownFrom σ (at + 1) n) j 0) (let z : 4 * 0 + k ≡ k = omega arith in z)
-    ∙ (state-first (σ at) (shownFrom σ (at + 1) n) k l
-    ∙ ap (λ (a : ℕ). getD (shownState (σ a)) k 0) (let z : at ≡ at + 0 = omega arith in z))
+    let y : 4 * 0 + k ≡ k = omega arith in
+    rw (y, add-zero at) (state-first (σ at) (shownFrom σ (at + 1) n) k l)
 shown-at σ at (suc n) (suc b) k h l =
-    ap (λ (j : ℕ). getD (shownState (σ at) ++ shownFrom σ (at + 1) n) j 0)
-    (let z : 4 * suc b + k ≡ suc (suc (suc (suc (4 * b + k)))) = omega arith in z)
-    ∙ (state-past (σ at) (shownFrom σ (at + 1) n) (4 * b + k)
-    ∙ (shown-at σ (at + 1) n b k (omega arith) l
-    ∙ ap (λ (a : ℕ). getD (shownState (σ a)) k 0) (let z : at + 1 + b ≡ at + suc b = omega arith in z)))
+    let y : 4 * suc b + k ≡ suc (suc (suc (suc (4 * b + k)))) = omega arith in
+    let z : at + suc b ≡ at + 1 + b = omega arith in
+    rw (y, state-past (σ at) (shownFrom σ (at + 1) n) (4 * b + k), z) (shown-at σ (at + 1) n b k (omega arith) l)
 
 last-two : (s : State) → (getD (shownState s) 2 0 ≡ 0) × (getD (shownState s) 3 0 ≡ 0)
 last-two blank = (refl, refl)
@@ -76,18 +74,8 @@ last-two (done l) = (refl, refl)
 -- An offset shows its state in the first three of its halfwords, the third being 0.
 shown-field : {w : List ℕ} {at : ℕ} {s : State} → Shown w at s → getD w (4 * at + 2) 0 ≡ 0 → (k : ℕ) → k < 3
     → getD w (4 * at + k) 0 ≡ getD (shownState s) k 0
-shown-field {w} {at} S z zero h = ap (λ (j : ℕ). getD w j 0) (let y : 4 * at + 0 ≡ 4 * at = omega arith in y) ∙ height S
-  where
-    height : {s : State} → Shown w at s → getD w (4 * at) 0 ≡ getD (shownState s) 0 0
-    height (shown-blank x y z) = x
-    height (shown-waiting x y z) = x
-    height (shown-done x y z) = x
-shown-field {w} {at} S z (suc zero) h = origin S
-  where
-    origin : {s : State} → Shown w at s → getD w (4 * at + 1) 0 ≡ getD (shownState s) 1 0
-    origin (shown-blank x y z) = y
-    origin (shown-waiting x y z) = y
-    origin (shown-done x y z) = y
+shown-field {at = at} S z zero h = rw (add-zero (4 * at)) (S .height)
+shown-field S z (suc zero) h = S .origin
 shown-field {w} {at} {s} S z (suc (suc zero)) h = z ∙ sym (last-two s .0)
 shown-field S z (suc (suc (suc k))) h = absurd (omega arith)
 
@@ -99,16 +87,11 @@ module _ (σ : States) (w : List ℕ) (n : ℕ) (size : length w ≡ 4 * n) (sho
       ∙ shown-field (shown a h) (cleared a h) k (ltb-true k 3 e)
   each a k h l false e =
       let z : k ≡ 3 = omega (arith, ltb-false k 3 e) in
-      ap (λ (j : ℕ). getD (unmarked 0 n w) (4 * a + j) 0) z
-      ∙ (unmarked-mark 0 n w a (omega arith) (omega arith) (omega arith)
-      ∙ (sym (last-two (σ a) .1) ∙ ap (λ (j : ℕ). getD (shownState (σ a)) j 0) (sym z)))
+      rw z (unmarked-mark 0 n w a (omega arith) (omega arith) (omega arith) ∙ sym (last-two (σ a) .1))
 
   at-index : (i a k : ℕ) → i ≡ 4 * a + k → a < n → k < 4 → getD (unmarked 0 n w) i 0 ≡ getD (shownFrom σ 0 n) i 0
   at-index i a k e h l =
-      ap (λ (j : ℕ). getD (unmarked 0 n w) j 0) e
-      ∙ (each a k h l (ltb k 3) refl
-      ∙ (ap (λ (b : ℕ). getD (shownState (σ b)) k 0) (let z : a ≡ 0 + a = omega arith in z)
-      ∙ (sym (shown-at σ 0 n a k h l) ∙ ap (λ (j : ℕ). getD (shownFrom σ 0 n) j 0) (sym e))))
+      rw (e, shown-at σ 0 n a k h l, zero-add a) (each a k h l (ltb k 3) refl)
 
   pub unmarked-shows : unmarked 0 n w ≡ shownFrom σ 0 n
   unmarked-shows =

@@ -11,12 +11,12 @@ use Rattle.layout.specs.Cut.{Marks}
 use Rattle.layout.specs.Workspace.{marksIn}
 use Rattle.stackmap.specs.Slots.{Slot}
 use Rattle.stackmap.specs.Ways.{Module}
-use Rattle.stackmap.specs.Walk.{State, blank, waiting, States, Found, thenHand, visitNext, walk, firstStates, walkOf}
+use Rattle.stackmap.specs.Walk.{State, blank, waiting, done, States, Found, thenHand, visitNext, walk, firstStates, walkOf}
 use Rattle.stackmap.specs.Theorems.{Sound}
 use Rattle.stackmap.proofs.Exact.{final}
 use Rattle.verifier.specs.Check.{moduleOf}
 use Rattle.verifier.specs.Handing.{Handing, Walking, walking, thenWalk, visitFirst, walkTop, walkedTop}
-use Rattle.verifier.proofs.Coherence.{Shown, shown-blank, shown-waiting, shown-done}
+use Rattle.verifier.proofs.Coherence.{waitsIn, Shown}
 use Rattle.verifier.proofs.Keeping.{Held, Sim}
 use Rattle.verifier.proofs.Parallel.{Parallel, both-stop, both-go}
 use Rattle.verifier.proofs.Searching.{Finds, finds-none, finds-one, finds}
@@ -52,10 +52,10 @@ pub record Alike (M : Module) (w : List ℕ) (W : Walking) : Type 0 where
   pub refused : walkOf M ≡ none → W .accepts ≡ false
   pub accepted : (σ : States) → walkOf M ≡ some σ → Accepted M σ W
 
-third-cleared : {w : List ℕ} {at : ℕ} {s : State} → ((l : List Slot) → s ≡ waiting l → ⊥) → Shown w at s → getD w (4 * at + 2) 0 ≡ 0
-third-cleared free (shown-blank x y z) = z
-third-cleared free (shown-waiting {l} x y z) = absurd (free l refl)
-third-cleared free (shown-done x y z) = z
+third-cleared : (s : State) → ((l : List Slot) → s ≡ waiting l → ⊥) → waitsIn s ≡ 0
+third-cleared blank free = refl
+third-cleared (waiting l) free = absurd (free l refl)
+third-cleared (done l) free = refl
 
 ending-alike : (M : Module) (w : List ℕ) → Sound M → {W : Walking} (o : Option States) → walkOf M ≡ o → Ending M w W o → Alike M w W
 ending-alike M w S none e (both-refuse k) =
@@ -69,7 +69,7 @@ ending-alike M w S (some τ) e (both-accept {v} k H) =
           rw (← same) (record {
             accepts = refl;
             shown = H .shown;
-            cleared = λ at h. third-cleared (final M S τ e .idle at) (H .shown at h);
+            cleared = λ at h. H .shown at h .waits ∙ third-cleared (τ at) (final M S τ e .idle at);
           });
     }
 

@@ -17,9 +17,9 @@ use Rattle.stackmap.proofs.Entering.{entering}
 use Rattle.stackmap.proofs.Pushing.{words-height, pushed-origin}
 use Rattle.stackmap.proofs.Placing.{told-change}
 use Rattle.verifier.specs.Handing.{given, entryGiven, entriesGiven}
-use Rattle.verifier.proofs.Coherence.{Coherent, on-nothing, Shown, shown-waiting}
+use Rattle.verifier.proofs.Coherence.{Coherent, on-nothing, Shown}
 use Rattle.verifier.proofs.Passing.{pushed}
-use Rattle.verifier.proofs.Fields.{Within, within-given, given-height, given-origin, given-waits}
+use Rattle.verifier.proofs.Fields.{Within, within-given, given-shown}
 use Rattle.verifier.proofs.Keeping.{Held, held-change, Sim}
 
 -- Only lists that are coherent with any map have been given.
@@ -35,9 +35,7 @@ module _ (M : Module) (start w : List ℕ) (σ : States) (F : Fresh M start w σ
 
   words-shown : Shown (given w t n 0) t (waiting (pushWords n []))
   words-shown =
-      let room : 4 * t + 4 ≤ length w = omega (arith, F .held .room) in
-      shown-waiting {l = pushWords n []} (rw (words-height n) (given-height t w n 0 room))
-      (rw (pushed-origin n []) (given-origin t w n 0 room)) (given-waits t w n 0 room)
+      rw (words-height n, pushed-origin n []) at (given-shown t w (pushWords n []) (omega (arith, F .held .room)))
 
   words-given : Fresh M start (given w t n 0) (updated σ t (waiting (pushWords n [])))
   words-given =

@@ -24,7 +24,7 @@ use Rattle.stackmap.proofs.Counts.{done-waits}
 use Rattle.stackmap.proofs.Placing.{owner, Grows, grows-change}
 use Rattle.compact.specs.Tops.{top}
 use Rattle.verifier.specs.Handing.{visitedWith, visitedTop}
-use Rattle.verifier.proofs.Coherence.{shown-done, topOf}
+use Rattle.verifier.proofs.Coherence.{topOf}
 use Rattle.verifier.proofs.Agreement.{ways-stand}
 use Rattle.verifier.proofs.Passing.{ways-coherent}
 use Rattle.verifier.proofs.Fields.{Within, within-set}
@@ -64,9 +64,11 @@ module _ (M : Module) (S : Sound M) (w : List ℕ) (σ : States) (from : ℕ) (X
   finished : Sim M cleared (updated σ at (done l)) (at + 1)
   finished =
       sim-change at (done l) l (at + 1) X h marked
-      (shown-done (getD-set-other w (4 * at + 2) (4 * at) 0 0 (λ e. omega arith) ∙ high)
-      (getD-set-other w (4 * at + 2) (4 * at + 1) 0 0 (λ e. omega arith) ∙ low)
-      (getD-set-same w (4 * at + 2) 0 0 (omega (arith, X .held .room))))
+      (record {
+        height = getD-set-other w (4 * at + 2) (4 * at) 0 0 (λ e. omega arith) ∙ high;
+        origin = getD-set-other w (4 * at + 2) (4 * at + 1) 0 0 (λ e. omega arith) ∙ low;
+        waits = getD-set-same w (4 * at + 2) 0 0 (omega (arith, X .held .room));
+      })
       refl same (X .coherent at l has) λ a j b e. by a j b e (change σ at (done l) a)
     where
       by : (a : ℕ) (j : List Slot) → a < at + 1 → updated σ at (done l) a ≡ waiting j → Change σ at (done l) a → ⊥

@@ -95,12 +95,7 @@ fn hand_table(
     let mut low = from;
     for k in 0..size {
         let place = successors::table_target(code, at, table, k as u32);
-        let way = Way {
-            place: place,
-            height: t.height as usize,
-            origin: t.origin,
-        };
-        match hand(code.len(), w, p, way, low) {
+        match hand(code.len(), w, p, compact_ways::way_toward(place, t), low) {
             Handed::Stuck => {
                 return Handed::Stuck;
             }
@@ -128,12 +123,8 @@ fn hand_many(
     requires { ⌜ at < 65535 ⌝ }
     ensures { λ a. ⌜ handing a (now (w .exit)) ≡ handedTargets (length (now (code .entry))) p t (selectTargets (now (code .entry)) at table n) from (now (w .entry)) ⌝ }
 {
-    let way = Way {
-        place: successors::else_target(code, at),
-        height: t.height as usize,
-        origin: t.origin,
-    };
-    match hand(code.len(), w, p, way, from) {
+    let place = successors::else_target(code, at);
+    match hand(code.len(), w, p, compact_ways::way_toward(place, t), from) {
         Handed::Stuck => Handed::Stuck,
         Handed::From(low) => hand_table(code, w, p, at, table, n, t, low),
     }

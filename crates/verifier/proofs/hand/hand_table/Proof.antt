@@ -26,8 +26,8 @@ cast-table-target c = omega (arith, c .before .before .table-size .ensures, size
 table-target-requires : tie.Need-table-target-requires Inv-loop μ-loop
 table-target-requires c κs = search needs
 
-cast-hand : tie.Need-cast-hand Inv-loop μ-loop
-cast-hand c = search needs
+way-toward-requires : tie.Need-way-toward-requires Inv-loop μ-loop
+way-toward-requires c κs = search needs
 
 hand-requires : tie.Need-hand-requires Inv-loop μ-loop
 hand-requires c κs = search needs
@@ -39,7 +39,7 @@ same-length : tie.Need-same-length Inv-loop μ-loop
 same-length c = search needs
 
 returns : tie.Need-returns Inv-loop μ-loop
-returns c = branched-turn (c .before .before .before .before .before .before .before .before .before .loop .inv) (rw (c .before .before .before .before .before .before .before .before .before .before .table-size .ensures) at (c .before .before .before .before .before .before .before .before .loop-test .taken)) (c .before .before .before .before .before .before .before .table-target .ensures) (rw (c .enum-told .given .1) at (c .before .before .before .before .hand .ensures))
+returns c = branched-turn (c .before .before .before .before .before .before .before .before .before .loop .inv) (rw (c .before .before .before .before .before .before .before .before .before .before .table-size .ensures) at (c .before .before .before .before .before .before .before .before .loop-test .taken)) (c .before .before .before .before .before .before .before .table-target .ensures) (rw (c .enum-told .given .1, c .before .before .before .before .before .way-toward .ensures) at (c .before .before .before .before .hand .ensures))
 
 enum-known-next : tie.Need-enum-known-next Inv-loop μ-loop
 enum-known-next c = search needs
@@ -51,7 +51,7 @@ loop-less : tie.Need-loop-less Inv-loop μ-loop
 loop-less c = search needs
 
 loop-again : tie.Need-loop-again Inv-loop μ-loop
-loop-again c = branched-next (c .before .before .before .before .before .before .before .before .before .before .loop .inv) (rw (c .before .before .before .before .before .before .before .before .before .before .before .table-size .ensures) at (c .before .before .before .before .before .before .before .before .before .loop-test .taken)) (c .before .before .before .before .before .before .before .before .table-target .ensures) (c .before .before .before .before .before .hand .ensures) (c .before .next .given .1) (c .before .before .before .before .before .hand .kept .1 .0)
+loop-again c = branched-next (c .before .before .before .before .before .before .before .before .before .before .loop .inv) (rw (c .before .before .before .before .before .before .before .before .before .before .before .table-size .ensures) at (c .before .before .before .before .before .before .before .before .before .loop-test .taken)) (c .before .before .before .before .before .before .before .before .table-target .ensures) (rw (c .before .before .before .before .before .before .way-toward .ensures) at (c .before .before .before .before .before .hand .ensures)) (c .before .next .given .1) (c .before .before .before .before .before .hand .kept .1 .0)
 
 same-length-2 : tie.Need-same-length-2 Inv-loop μ-loop
 same-length-2 c = search needs
@@ -69,7 +69,7 @@ hand-table-spec =
     loop-holds
     cast-table-target
     table-target-requires
-    cast-hand
+    way-toward-requires
     hand-requires
     enum-told
     same-length
