@@ -27,8 +27,11 @@ pub record Placed (code : List ℕ) (p at : ℕ) : Type 0 where
 pub same-marks : {m m′ : Marks} → cut m ≡ cut m′ → m ≡ m′
 same-marks e = cc
 
+not-bad : {n : ℕ} {m : Marks} → bad n ≡ cut m → ⊥
+not-bad e = let z : _≡_ {A = ℕ} 0 1 = cc in omega arith
+
 thens : (go : Marks → Cut) (c : Cut) {m′ : Marks} → thenCut go c ≡ cut m′ → (m : Marks) × (c ≡ cut m) × (go m ≡ cut m′)
-thens go (bad n) e = let z : _≡_ {A = ℕ} 0 1 = cc in absurd (omega arith)
+thens go (bad n) e = absurd (not-bad e)
 thens go (cut m) e = (m, refl, e)
 
 module _ (code : List ℕ) where
@@ -76,8 +79,8 @@ module _ (code : List ℕ) where
         cond b (cutAt (cutFrom code p n) p at marks d) (cut marks) ≡ cut marks′ → Grown (suc n) at marks marks′
     grown-step n at marks marks′ false d b′ d′ rest e =
         grown-none (suc n) at marks marks′ (λ some. ltb-false at (regionEnd code p) b′) (same-marks e)
-    grown-step n at marks marks′ true Unserved b′ d′ rest e = let z : _≡_ {A = ℕ} 0 1 = cc in absurd (omega arith)
-    grown-step n at marks marks′ true Past b′ d′ rest e = let z : _≡_ {A = ℕ} 0 1 = cc in absurd (omega arith)
+    grown-step n at marks marks′ true Unserved b′ d′ rest e = absurd (not-bad e)
+    grown-step n at marks marks′ true Past b′ d′ rest e = absurd (not-bad e)
     grown-step n at marks marks′ true (At i next) b′ d′ rest e =
         grown-one n at next i marks marks′ (ltb-true at (regionEnd code p) b′) d′ (rest next (updated marks at (p + 1)) e)
 

@@ -1,6 +1,6 @@
 -- Entries that are sound: they rise in the order 1, 2, .., 0, so that each region begins where the one before ends, has a byte, and
 -- ends within the code.
-use mathlib.Core.Bool.{Bool, true, false, cond, _&&_, _||_, and-eq-true-iff}
+use mathlib.Core.Bool.{Bool, true, false, cond, _&&_, _||_, and-eq-true-iff, false≢true}
 use mathlib.Core.Path.{_≡_, refl}
 use mathlib.Core.List.{List, [], _∷_, _++_}
 use Prim.Native.Nat.{ℕ, zero, suc, _+_, _-_, _/_, _%_, _<_, _≤_}
@@ -76,8 +76,8 @@ module _ (code : List ℕ) where
       (single || (even && (low && high))) ≡ true → 1 ≤ cond single 1 (entryAt code 1 / 2)
   counted true even low high e s = omega arith
   counted false true true high e s = omega (arith, leb-true 4 (entryAt code 1) e)
-  counted false true false high e s = let z : _≡_ {A = ℕ} 0 1 = cc in absurd (omega arith)
-  counted false false low high e s = let z : _≡_ {A = ℕ} 0 1 = cc in absurd (omega arith)
+  counted false true false high e s = absurd (false≢true s)
+  counted false false low high e s = absurd (false≢true s)
 
   count-some : countSound code ≡ true → 1 ≤ entryCount code
   unfolding countSound entryCount

@@ -27,7 +27,11 @@ pub undone-most : (σ : States) (n : ℕ) → undone σ n ≤ n
 undone-most σ zero = omega arith
 undone-most σ (suc n) = omega (arith, one-most (σ n), undone-most σ n)
 
-module _ (σ τ : States) (stays : (at : ℕ) (l : List Slot) → σ at ≡ done l → τ at ≡ done l) where
+-- What is done in one state is done in another.
+abbrev pub Stays : States → States → Type 0
+Stays σ τ = (at : ℕ) (l : List Slot) → σ at ≡ done l → τ at ≡ done l
+
+module _ (σ τ : States) (stays : Stays σ τ) where
   one-lower : (at : ℕ) (s : State) → σ at ≡ s → undoneIn (τ at) ≤ undoneIn s
   one-lower at blank e = one-most (τ at)
   one-lower at (waiting l) e = one-most (τ at)
@@ -46,8 +50,7 @@ module _ (σ τ : States) (stays : (at : ℕ) (l : List Slot) → σ at ≡ done
       (λ (b : at < n). omega (arith, undone-drops at l k w d n b, one-lower n (σ n) refl))
 
 -- A change of an offset that is not done leaves those that are.
-pub done-stays : (σ : States) (t : ℕ) (x : State) → undoneIn (σ t) ≡ 1 → (a : ℕ) (k : List Slot) → σ a ≡ done k
-    → updated σ t x a ≡ done k
+pub done-stays : (σ : States) (t : ℕ) (x : State) → undoneIn (σ t) ≡ 1 → Stays σ (updated σ t x)
 done-stays σ t x u a k d = by (change σ t x a)
   where
     by : Change σ t x a → updated σ t x a ≡ done k

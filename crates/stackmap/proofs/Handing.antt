@@ -17,6 +17,7 @@ use Rattle.stackmap.specs.Theorems.{mapIn}
 use Rattle.words.proofs.Tests.{both-true}
 use Rattle.layout.proofs.Updates.{updated-here}
 use Rattle.stackmap.proofs.Comparing.{slots-equal, slots-same}
+use Rattle.stackmap.proofs.Counts.{Stays}
 use Rattle.stackmap.proofs.Reaching.{reached-in}
 use Rattle.stackmap.proofs.Placing.{AllPlaced, placed, placed-reached, placed-update, Later, later-self, later-later, blank-later, waiting-early, in-given, gives-later}
 
@@ -45,7 +46,7 @@ NoMap M p = (π : Map) → IsMap M p π → ⊥
 pub record Handed (M : Module) (p : ℕ) (ws : List Way) (σ τ : States) : Type 0 where
   pub sane : AllPlaced M τ
   pub later : Later σ τ
-  pub early : (at : ℕ) (l : List Slot) → τ at ≡ done l → σ at ≡ done l
+  pub early : Stays τ σ
   pub gives : Gives (mapIn M p τ) ws
 
 module _ (M : Module) (p : ℕ) (σ : States) (P : AllPlaced M σ) (t : ℕ) (l : List Slot) (r : Reached M p t l) where

@@ -15,7 +15,7 @@ use Rattle.stackmap.specs.StackMap.{Map, Gives, given-all, given-one, Re
 use Rattle.stackmap.specs.Walk.{State, blank, waiting, done, States, slotsIn, mapOf}
 use Rattle.stackmap.specs.Theorems.{mapIn}
 use Rattle.layout.proofs.Updates.{Change, changed, spared, change}
-use Rattle.stackmap.proofs.Counts.{undoneIn, done-stays}
+use Rattle.stackmap.proofs.Counts.{undoneIn, Stays, done-stays}
 
 -- The procedure in whose region a start lies.
 abbrev pub owner : Module → ℕ → ℕ
@@ -75,7 +75,7 @@ placed-update M σ at l P p = told-change σ at (waiting l) l refl (Placed M) p 
 -- A later state has what an earlier one gave, and its done offsets.
 pub record Later (σ τ : States) : Type 0 where
   pub kept : Grows (mapOf σ) (mapOf τ)
-  pub stays : (at : ℕ) (l : List Slot) → σ at ≡ done l → τ at ≡ done l
+  pub stays : Stays σ τ
 
 pub later-self : (σ : States) → Later σ σ
 later-self σ = record { kept = λ at l e. e; stays = λ at l e. e }
@@ -93,7 +93,7 @@ blank-later σ t l b =
     }
 
 -- A list is given, and nothing is done thereby.
-pub waiting-early : (σ : States) (t : ℕ) (l : List Slot) (at : ℕ) (k : List Slot) → updated σ t (waiting l) at ≡ done k → σ at ≡ done k
+pub waiting-early : (σ : States) (t : ℕ) (l : List Slot) → Stays (updated σ t (waiting l)) σ
 waiting-early σ t l at k e = by (change σ t (waiting l) at)
   where
     by : Change σ t (waiting l) at → σ at ≡ done k

@@ -1,7 +1,7 @@
 -- A visit passes on a waiting instruction and leaves the others as they must be; so at its end a walk has passed on whatever it gave,
 -- or some region has no map.
 use mathlib.Core.List.{List}
-use mathlib.Core.Option.{Option, none, some}
+use mathlib.Core.Option.{Option, none, some, Option·none-ne-some}
 use mathlib.Core.Path.{_≡_, refl, sym, ap, _∙_}
 use Prim.Native.Nat.{ℕ, zero, suc, _≤_, _<_}
 use native.Mathlib.Omega.{arith}
@@ -79,8 +79,7 @@ module _ (M : Module) (S : Sound M) (σ : States) (G : Good M σ) (at : ℕ) (l 
           → Ends (Refuted M) (Visited M σ at l) (passed M (owner M at) (updated σ at (done l)) o)
       by none e = broken (refuted λ π m.
           let o = m .obeys at l (reached-in M (owner M at) π m at l (this .reached)) in
-          let z : _≡_ {A = ℕ} 0 1 = cc (o .found) in
-          absurd (omega arith))
+          Option·none-ne-some (o .out) (sym e ∙ o .found))
       by (some out) e = ends-map refuted (handed-on out e)
           (handing M (owner M at) out (updated σ at (done l)) marked-sane (λ t k a. stepped (this .reached) e a))
 

@@ -56,12 +56,12 @@ loop-not-select code m e =
     let b : byteAt code m ≡ 0xE0 = eqb-true (byteAt code m) 0xE0 e in
     rw b
 
-module _ (code w : List ℕ) (π : Map) (S : ShowsMap w π) where
+module _ {code w : List ℕ} {π : Map} (S : ShowsMap w π) where
   lies-height : (m : ℕ) (l : List Slot) → Lies code π m l → labelHeight code w (suc m) ≡ suc (length l)
   lies-height m l (on-loop a e r p) = rw (a, S m l e .height) (omega arith)
   lies-height m l (on-select a b e) = rw (a, S m (word ∷ l) e .height) (omega arith)
 
-  pub lies-origin : (m : ℕ) (l : List Slot) → Lies code π m l → originUnder w (suc m) ≡ topOrigin l
+  lies-origin : (m : ℕ) (l : List Slot) → Lies code π m l → originUnder w (suc m) ≡ topOrigin l
   lies-origin m l (on-loop a e r p) = S m l e .origin
   lies-origin m l (on-select a b e) = S m (word ∷ l) e .origin
 

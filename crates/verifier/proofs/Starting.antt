@@ -43,7 +43,7 @@ module _ (M : Module) (start w : List ℕ) (σ : States) (F : Fresh M start w σ
         kept = here .long ∙ F .kept;
         held = held-change M w (given w t n 0) σ t (waiting (pushWords n [])) (pushWords n []) here h refl (F .held) words-shown;
         free = told-change σ t (waiting (pushWords n [])) (pushWords n []) refl
-            (λ (at : ℕ) (l : List Slot). (π : Map) → Coherent (M .code) π l) (λ π. pushed (M .code) π n [] on-nothing) (F .free);
+            (λ (at : ℕ) (l : List Slot). (π : Map) → Coherent (M .code) π l) (λ π. pushed n [] on-nothing) (F .free);
       }
 
 module _ (M : Module) (S : Sound M) (start : List ℕ) where
