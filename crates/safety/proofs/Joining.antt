@@ -4,7 +4,9 @@ use mathlib.Core.List.{List}
 use mathlib.Core.Path.{_≡_, refl, sym, ap, subst, _∙_}
 use Prim.Native.Nat.{ℕ, zero, suc, _≤_}
 use native.Mathlib.Omega.{arith}
-use lib.Dec.{eqb·suc-zero}
+use lib.Dec.{eqb, eqb·suc-zero}
+use borrow.Author.Tests.{eqb-false}
+use Rattle.words.proofs.Tests.{by-test}
 use Rattle.registers.specs.Program.{programOf}
 use Rattle.record.proofs.Sound.{after-range}
 use Rattle.verifier.proofs.Accepting.{check-range}
