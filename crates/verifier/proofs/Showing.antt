@@ -1,7 +1,7 @@
 -- The workspace of an accepted walk, its marks taken away, is what the check shows of the lists found: index by index.
 use mathlib.Core.Bool.{Bool, true, false}
-use mathlib.Core.List.{List, _++_}
-use mathlib.Core.Path.{_≡_, _∙_, refl, sym}
+use mathlib.Core.List.{List, [], _∷_, _++_}
+use mathlib.Core.Path.{_≡_, _∙_, refl, sym, ap}
 use Prim.Native.Nat.{ℕ, zero, suc, _+_, _*_, _<_, _≤_, _/_, _%_}
 use native.Mathlib.Nat.{add-zero, zero-add}
 use native.Mathlib.Omega.{arith}
@@ -35,10 +35,14 @@ unmarked-mark at (suc n) w a l m r =
     ∙ getD-set-same w (4 * at + 3) 0 0 (omega arith))
     (λ (h : at < a). unmarked-mark (at + 1) n (set w (4 * at + 3) 0) a (omega arith) (omega arith) (omega (arith, length-set w (4 * at + 3) 0)))
 
+-- Four halfwords for a state, of which two are 0.
+state-four : (s : State) → shownState s ≡ getD (shownState s) 0 0 ∷ getD (shownState s) 1 0 ∷ 0 ∷ 0 ∷ []
+state-four blank = refl
+state-four (waiting l) = refl
+state-four (done l) = refl
+
 state-length : (s : State) → length (shownState s) ≡ 4
-state-length blank = refl
-state-length (waiting l) = refl
-state-length (done l) = refl
+state-length s = ap length (state-four s)
 
 pub shown-length : (σ : States) (at n : ℕ) → length (shownFrom σ at n) ≡ 4 * n
 shown-length σ at zero = refl
@@ -48,9 +52,7 @@ shown-length σ at (suc n) =
 
 -- The k-th halfword of the b-th offset.
 state-past : (s : State) (rest : List ℕ) (j : ℕ) → getD (shownState s ++ rest) (suc (suc (suc (suc j)))) 0 ≡ getD rest j 0
-state-past blank rest j = refl
-state-past (waiting l) rest j = refl
-state-past (done l) rest j = refl
+state-past s rest j = ap (λ (l : List ℕ). getD (l ++ rest) (suc (suc (suc (suc j)))) 0) (state-four s)
 
 state-first : (s : State) (rest : List ℕ) (k : ℕ) → k < 4 → getD (shownState s ++ rest) k 0 ≡ getD (shownState s) k 0
 state-first s rest k h = List·getD-append (shownState s) rest 0 k (omega (arith, state-length s))
@@ -66,17 +68,12 @@ shown-at σ at (suc n) (suc b) k h l =
     let z : at + suc b ≡ at + 1 + b = omega arith in
     rw (y, state-past (σ at) (shownFrom σ (at + 1) n) (4 * b + k), z) (shown-at σ (at + 1) n b k (omega arith) l)
 
-last-two : (s : State) → (getD (shownState s) 2 0 ≡ 0) × (getD (shownState s) 3 0 ≡ 0)
-last-two blank = (refl, refl)
-last-two (waiting l) = (refl, refl)
-last-two (done l) = (refl, refl)
-
 -- An offset shows its state in the first three of its halfwords, the third being 0.
 shown-field : {w : List ℕ} {at : ℕ} {s : State} → Shown w at s → getD w (4 * at + 2) 0 ≡ 0 → (k : ℕ) → k < 3
     → getD w (4 * at + k) 0 ≡ getD (shownState s) k 0
 shown-field {at = at} S z zero h = rw (add-zero (4 * at)) (S .height)
 shown-field S z (suc zero) h = S .origin
-shown-field {w} {at} {s} S z (suc (suc zero)) h = z ∙ sym (last-two s .0)
+shown-field {w} {at} {s} S z (suc (suc zero)) h = z ∙ sym (ap (λ (l : List ℕ). getD l 2 0) (state-four s))
 shown-field S z (suc (suc (suc k))) h = absurd (omega arith)
 
 module _ (σ : States) (w : List ℕ) (n : ℕ) (size : length w ≡ 4 * n) (shown : (at : ℕ) → at < n → Shown w at (σ at))
@@ -87,7 +84,7 @@ module _ (σ : States) (w : List ℕ) (n : ℕ) (size : length w ≡ 4 * n) (sho
       ∙ shown-field (shown a h) (cleared a h) k (ltb-true k 3 e)
   each a k h l false e =
       let z : k ≡ 3 = omega (arith, ltb-false k 3 e) in
-      rw z (unmarked-mark 0 n w a (omega arith) (omega arith) (omega arith) ∙ sym (last-two (σ a) .1))
+      rw z (unmarked-mark 0 n w a (omega arith) (omega arith) (omega arith) ∙ sym (ap (λ (l : List ℕ). getD l 3 0) (state-four (σ a))))
 
   at-index : (i a k : ℕ) → i ≡ 4 * a + k → a < n → k < 4 → getD (unmarked 0 n w) i 0 ≡ getD (shownFrom σ 0 n) i 0
   at-index i a k e h l =
