@@ -1,6 +1,6 @@
 -- An instruction whose tag is none of a group's is not of the group: what the last arm of a match over the group is told. By a table
 -- of the groups by tag; that none of the told tags is the group's is computed.
-use mathlib.Core.Bool.{Bool, true, not, _&&_}
+use mathlib.Core.Bool.{Bool, true, not, _&&_, and-eq-true-iff}
 use mathlib.Core.Logic.{inl, inr}
 use mathlib.Core.Path.{_≡_, _∙_, refl, sym, ap}
 use mathlib.Core.List.{List, [], _∷_}
@@ -10,7 +10,6 @@ use lib.ListN.{getD}
 use borrow.Author.Tests.{eqb-false, not-true}
 use denote.Enum.Declared.{tagOf}
 use types.Run.{OneOf}
-use Rattle.words.proofs.Tests.{both-true}
 use Rattle.opcode.specs.declared.instruction.Instruction.{Instruction}
 use Rattle.opcode.specs.declared.instruction.Instruction.the-variants.{LoadConstant, Load, LoadAddress, Store, Pop, Swap, Nop, Signed, Unsigned, Negate, Equal, NotEqual, CompareSigned, CompareUnsigned, Set, Not, Alloc, Free, Jump, JumpC, JumpT, JumpF, Iter, Next, Switch, SwitchX, Leave, Call, Enter, Rtn}
 use Rattle.opcode.proofs.instruction.Instruction.{the-type}
@@ -69,7 +68,7 @@ apart g (k ∷ ks) = not (eqb (numberOf (groupAt k)) (numberOf g)) && apart g ks
 other : (g : Kind) (k : ℕ) (rest : Bool) → (not (eqb (numberOf (groupAt k)) (numberOf g)) && rest) ≡ true → (t : ℕ) → t ≡ k → groupAt t ≡ g → ⊥
 other g k rest a t o e =
     eqb-false (numberOf (groupAt k)) (numberOf g)
-    (not-true (eqb (numberOf (groupAt k)) (numberOf g)) (both-true (not (eqb (numberOf (groupAt k)) (numberOf g))) rest a .0))
+    (not-true (eqb (numberOf (groupAt k)) (numberOf g)) (and-eq-true-iff (not (eqb (numberOf (groupAt k)) (numberOf g))) rest .0 a .0))
     (ap (λ (j : ℕ). numberOf (groupAt j)) (sym o) ∙ ap numberOf e)
 
 none : (g : Kind) (ks : List ℕ) → apart g ks ≡ true → (t : ℕ) → OneOf ks t → groupAt t ≡ g → ⊥
@@ -77,7 +76,7 @@ none g [] a t o e = o
 none g (k ∷ []) a t o e = other g k true a t o e
 none g (k ∷ j ∷ ks) a t (inl o) e = other g k (apart g (j ∷ ks)) a t o e
 none g (k ∷ j ∷ ks) a t (inr o) e =
-    none g (j ∷ ks) (both-true (not (eqb (numberOf (groupAt k)) (numberOf g))) (apart g (j ∷ ks)) a .1) t o e
+    none g (j ∷ ks) (and-eq-true-iff (not (eqb (numberOf (groupAt k)) (numberOf g))) (apart g (j ∷ ks)) .0 a .1) t o e
 
 pub told : (g : Kind) (ks : List ℕ) → apart g ks ≡ true → (i : Instruction) → OneOf ks (tagOf the-type i) → groupOf i ≡ g → ⊥
 told g ks a i o e = none g ks a (tagOf the-type i) o (tagged i ∙ e)

@@ -1,6 +1,6 @@
 -- What the numbers 1 to 7 being absent says, the sizes of the record and its entries; and how large numbers are. A refusal of 0 passes
 -- each of its tests.
-use mathlib.Core.Bool.{Bool, true, false, _&&_}
+use mathlib.Core.Bool.{Bool, true, false, _&&_, and-eq-true-iff}
 use mathlib.Core.List.{List}
 use mathlib.Core.Path.{_≡_, refl}
 use Prim.Native.Nat.{ℕ, _≤_}
@@ -10,7 +10,7 @@ use lib.ListN.{length, drop, length-take}
 use borrow.Author.Tests.{leb-true, eqb-true, eqb-false, not-false}
 use Rattle.words.specs.Refusal.{Test, refusal}
 use Rattle.words.proofs.Refusal.{Clear, positive, within, cleared, most}
-use Rattle.words.proofs.Tests.{both-true, either}
+use Rattle.words.proofs.Tests.{either}
 use Rattle.header.specs.Header.{headerOf, sizesFit, codeAt, codeOf}
 use Rattle.header.specs.declared.Header.{Header}
 use Rattle.entries.specs.Entries.{entriesSound}
@@ -55,10 +55,10 @@ sizes : (h : Header) → sizesFit h ≡ true → Sizes h
 unfolding sizesFit
 sizes h e =
     let rest = leb (h .relocation) 4096 && (leb (h .versions) 16 && leb (h .sources) 2048) in
-    let a = both-true (leb (h .imports) 16) (leb (h .code) 4096 && (leb (h .globals) 1024 && (leb (h .constants) 1024 && rest))) e in
-    let b = both-true (leb (h .code) 4096) (leb (h .globals) 1024 && (leb (h .constants) 1024 && rest)) (a .1) in
-    let c = both-true (leb (h .globals) 1024) (leb (h .constants) 1024 && rest) (b .1) in
-    let d = both-true (leb (h .constants) 1024) rest (c .1) in
+    let a = and-eq-true-iff (leb (h .imports) 16) (leb (h .code) 4096 && (leb (h .globals) 1024 && (leb (h .constants) 1024 && rest))) .0 e in
+    let b = and-eq-true-iff (leb (h .code) 4096) (leb (h .globals) 1024 && (leb (h .constants) 1024 && rest)) .0 (a .1) in
+    let c = and-eq-true-iff (leb (h .globals) 1024) (leb (h .constants) 1024 && rest) .0 (b .1) in
+    let d = and-eq-true-iff (leb (h .constants) 1024) rest .0 (c .1) in
     record {
       code = leb-true (h .code) 4096 (b .0);
       globals = leb-true (h .globals) 1024 (c .0);

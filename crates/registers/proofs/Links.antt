@@ -2,12 +2,11 @@
 -- below the one that it called.
 use Prim.Native.Nat.{ℕ, zero, suc, _+_, _-_, _<_, _≤_}
 use mathlib.Core.Path.{_≡_, _∙_, refl}
-use mathlib.Core.Bool.{Bool, true, false}
+use mathlib.Core.Bool.{Bool, true, false, and-eq-true-iff}
 use mathlib.Core.List.{List}
 use native.Mathlib.Omega.{arith}
 use lib.Dec.{eqb, leb}
 use borrow.Author.Tests.{eqb-true, leb-true, eq-eqb, ne-eqb}
-use Rattle.words.proofs.Tests.{both-true}
 use Rattle.words.proofs.Left.{one-left}
 use Rattle.registers.specs.Memory.{savedFp, isLink, chained}
 
@@ -16,10 +15,10 @@ pub chain-end : (m : List ℕ) (start fp : ℕ) → chained m start fp zero ≡ 
 chain-end m start fp h = eqb-true fp start h
 
 pub chain-lower : (m : List ℕ) (start fp n : ℕ) → chained m start fp (suc n) ≡ true → savedFp m fp + 2 ≤ fp
-chain-lower m start fp n h = leb-true _ _ (both-true (leb (savedFp m fp + 2) fp) (chained m start (savedFp m fp) n) h .0)
+chain-lower m start fp n h = leb-true _ _ (and-eq-true-iff (leb (savedFp m fp + 2) fp) (chained m start (savedFp m fp) n) .0 h .0)
 
 pub chain-rest : (m : List ℕ) (start fp n : ℕ) → chained m start fp (suc n) ≡ true → chained m start (savedFp m fp) n ≡ true
-chain-rest m start fp n h = both-true (leb (savedFp m fp + 2) fp) (chained m start (savedFp m fp) n) h .1
+chain-rest m start fp n h = and-eq-true-iff (leb (savedFp m fp + 2) fp) (chained m start (savedFp m fp) n) .0 h .1
 
 pub chain-start : (m : List ℕ) (start fp n : ℕ) → chained m start fp n ≡ true → start ≤ fp
 chain-start m start fp zero h = omega (arith, chain-end m start fp h)

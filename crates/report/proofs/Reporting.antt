@@ -1,6 +1,6 @@
 -- What check, load and run answer and leave is what the page shows, with the rest of memory and stack beside it: each definition is
 -- opened once, and the rest is projections.
-use mathlib.Core.Bool.{true, false, _&&_}
+use mathlib.Core.Bool.{true, false, _&&_, and-eq-true-iff}
 use mathlib.Core.List.{List, _++_}
 use mathlib.Core.Path.{_≡_, refl, _∙_, ap}
 use Prim.Native.Nat.{ℕ, _+_, _≤_, _<_}
@@ -9,7 +9,6 @@ use borrow.Author.Tests.{le-leb, lt-leb, leb-true}
 use lib.Dec.{eqb, leb}
 use lib.ListN.{length, take, drop}
 use Rattle.words.specs.Bytes.{Bytes, wordAt, halfwordAt, wordsFrom}
-use Rattle.words.proofs.Tests.{both-true}
 use Rattle.machine.specs.declared.run.Answer.{Answer}
 use Rattle.safety.specs.Joined.{joined, joinedOf}
 use Rattle.verifier.specs.Check.{checkOf}
@@ -50,10 +49,10 @@ unfolding wellFormed
 memory-fits f h =
     let past = leb (recordAt f) (length f) in
     let fits = leb (memoryWords f) 4096 in
-    let a = both-true (leb (length f) 8192) (named f && (eqb (halfwordAt f 3) 1 && (past && fits))) h in
-    let b = both-true (named f) (eqb (halfwordAt f 3) 1 && (past && fits)) (a .1) in
-    let c = both-true (eqb (halfwordAt f 3) 1) (past && fits) (b .1) in
-    leb-true (memoryWords f) 4096 (both-true past fits (c .1) .1)
+    let a = and-eq-true-iff (leb (length f) 8192) (named f && (eqb (halfwordAt f 3) 1 && (past && fits))) .0 h in
+    let b = and-eq-true-iff (named f) (eqb (halfwordAt f 3) 1 && (past && fits)) .0 (a .1) in
+    let c = and-eq-true-iff (eqb (halfwordAt f 3) 1) (past && fits) .0 (b .1) in
+    leb-true (memoryWords f) 4096 (and-eq-true-iff past fits .0 (c .1) .1)
 
 -- The three pages of a run file.
 pub malformed : (f w m s out : List ℕ) {n : ℕ} {out′ : List ℕ} → wellFormed f ≡ false → output n out′ ≡ printed (checkLine 16) out

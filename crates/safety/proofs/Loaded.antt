@@ -1,6 +1,6 @@
 -- The invariant holds of a record that is freshly loaded: no call is active, the stack is empty, and procedure 0's entry is where its
 -- stack picture begins.
-use mathlib.Core.Bool.{Bool, true, not, _&&_}
+use mathlib.Core.Bool.{Bool, true, not, _&&_, and-eq-true-iff}
 use mathlib.Core.List.{List, [], _∷_}
 use mathlib.Core.Path.{_≡_, _∙_, refl}
 use Prim.Native.Nat.{ℕ, _≤_, _<_}
@@ -10,7 +10,7 @@ use lib.ListN.{length}
 use borrow.Author.Tests.{eqb-true, leb-true, not-false, eq-eqb}
 use Rattle.words.specs.Refusal.{_when_}
 use Rattle.words.proofs.Refusal.{cleared}
-use Rattle.words.proofs.Tests.{both-true, by-test}
+use Rattle.words.proofs.Tests.{by-test}
 use Rattle.header.specs.Header.{headerOf, codeOf}
 use Rattle.entries.specs.Entries.{entryCount}
 use Rattle.record.specs.Number.{recordNumber}
@@ -42,7 +42,7 @@ module _ (r parameters m s : List ℕ) (q : Registers) (sound : recordNumber r �
   no-number e =
       let few : Bool = leb (length parameters) (areasOf r .globals) in
       let sizes : Bool = sizesTaken (areasOf r) m s in
-      both-true few sizes (not-false (few && sizes) (cleared (8 when not (few && sizes) ∷ []) refl (rw (eq-eqb (recordNumber r) 0 sound) at e) .0))
+      and-eq-true-iff few sizes .0 (not-false (few && sizes) (cleared (8 when not (few && sizes) ∷ []) refl (rw (eq-eqb (recordNumber r) 0 sound) at e) .0))
 
   load-taken : loadOf r parameters m s .answer ≡ Ready q → Taken r parameters m s q
   unfolding loadOf

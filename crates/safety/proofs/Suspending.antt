@@ -1,6 +1,6 @@
 -- The shares of suspended callers: they lie below the running call's, so that words above leave them as they are; CALL suspends the
 -- caller callers the words that it gives, and RTN goes back to it with the words that it gets.
-use mathlib.Core.Bool.{cond}
+use mathlib.Core.Bool.{cond, and-eq-true-iff}
 use mathlib.Core.List.{List, [], _∷_}
 use mathlib.Core.Option.{none, some}
 use mathlib.Core.Path.{_≡_, _∙_, refl, sym}
@@ -9,7 +9,6 @@ use native.Mathlib.Omega.{arith}
 use lib.Dec.{eqb}
 use lib.ListN.{length, getD}
 use borrow.Author.Tests.{eqb-true}
-use Rattle.words.proofs.Tests.{both-true}
 use Rattle.entries.specs.Entries.{entryAt, entryCount}
 use Rattle.registers.specs.declared.Registers.{Registers}
 use Rattle.registers.specs.Memory.{read}
@@ -36,7 +35,7 @@ suspended-kept M s s' (c ∷ calls) k (a-caller l reached share holds p rest) =
 results-found : (n : ℕ) (l : List Slot) (out : List Way) → cond (isWords n l) (some []) none ≡ some out → length l ≡ n
 results-found n l out w =
     let words = sym (words-test n l) ∙ only-if (isWords n l) (some []) out w .0 in
-    eqb-true (length l) n (both-true (eqb (length l) n) (eqb (topOrigin l) 0) words .0)
+    eqb-true (length l) n (and-eq-true-iff (eqb (length l) n) (eqb (topOrigin l) 0) .0 words .0)
 
 module _ (M : Module) (C : Checked M) where
   running-procedure : (s : List ℕ) (calls : List Call) → Suspended M s calls → running calls < entryCount (M .code)

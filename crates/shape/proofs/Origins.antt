@@ -1,6 +1,6 @@
 -- Where decoded shapes come from. A loop, a switch and a procedure's beginning are made by rows of their own in the tables of codes,
 -- none of which DOUBLE (F5) may stand before: the shape tells the first byte, and the first byte the row.
-use mathlib.Core.Bool.{Bool, true, false, cond, false≢true, _&&_, _||_}
+use mathlib.Core.Bool.{Bool, true, false, cond, false≢true, _&&_, _||_, and-eq-true-iff}
 use mathlib.Core.Path.{_≡_, refl, ap}
 use mathlib.Core.List.{List, [], _∷_}
 use Prim.Native.Nat.{ℕ, _+_, _≤_}
@@ -8,7 +8,6 @@ use native.Mathlib.Omega.{arith}
 use borrow.Author.Tests.{ne-eqb, eqb-true}
 use lib.Dec.{eqb}
 use Rattle.words.specs.Bytes.{byteAt}
-use Rattle.words.proofs.Tests.{both-true}
 use Rattle.operand.specs.Operand.{operand, operand2}
 use Rattle.opcode.specs.Table.{Row, row, unserved, allows, Entry, entry, rowOf, iterCode, switchCode, switchXCode, enterOperands}
 use Rattle.opcode.specs.Table.{shortTable, dataTable, operationTable, controlTable}
@@ -51,7 +50,7 @@ Passes f k r = f k r ≡ true
 all-pass : (f : ℕ → Row → Bool) (t : List Entry) → every f t ≡ true → Every (Passes f) t
 all-pass f [] e = tt
 all-pass f (entry k r ∷ rest) e =
-    let p = both-true (f k r) (every f rest) e in
+    let p = and-eq-true-iff (f k r) (every f rest) .0 e in
     (p .0, all-pass f rest (p .1))
 
 row-passes :

@@ -1,9 +1,8 @@
 -- Two lists of slots pass the test exactly when they are equal: by induction on both.
-use mathlib.Core.Bool.{true}
+use mathlib.Core.Bool.{true, and-eq-true-iff}
 use mathlib.Core.List.{List, [], _∷_}
 use mathlib.Core.Path.{_≡_, refl, ap}
 use borrow.Author.Tests.{eqb-true, eq-eqb}
-use Rattle.words.proofs.Tests.{both-true}
 use Rattle.stackmap.specs.Slots.{Slot, word, label, sameSlot, sameSlots}
 
 slot-equal : (x y : Slot) → sameSlot x y ≡ true → x ≡ y
@@ -17,7 +16,7 @@ slots-equal [] [] e = refl
 slots-equal [] (y ∷ m) e = cc
 slots-equal (x ∷ l) [] e = cc
 slots-equal (x ∷ l) (y ∷ m) e =
-    let b = both-true (sameSlot x y) (sameSlots l m) e in
+    let b = and-eq-true-iff (sameSlot x y) (sameSlots l m) .0 e in
     rw (slot-equal x y (b .0), slots-equal l m (b .1))
 
 slot-same : (x : Slot) → sameSlot x x ≡ true

@@ -1,6 +1,6 @@
 -- Handing out the ways of a reached instruction: each is then given in its region, or the region has no map. What is given stays
 -- given and is reached.
-use mathlib.Core.Bool.{Bool, true, false, cond, _&&_, true≢false}
+use mathlib.Core.Bool.{Bool, true, false, cond, _&&_, true≢false, and-eq-true-iff}
 use mathlib.Core.List.{List, [], _∷_}
 use mathlib.Core.Option.{Option, none, some}
 use mathlib.Core.Path.{_≡_, refl, ap, _∙_}
@@ -14,7 +14,6 @@ use Rattle.stackmap.specs.Ways.{Module, Way, _gets_}
 use Rattle.stackmap.specs.StackMap.{Map, Gives, given-all, given-one, IsMap, Among, here, there, Reached}
 use Rattle.stackmap.specs.Walk.{State, blank, waiting, done, States, mapOf, taken, thenHand, handedAll}
 use Rattle.stackmap.specs.Theorems.{mapIn}
-use Rattle.words.proofs.Tests.{both-true}
 use Rattle.layout.proofs.Updates.{updated-here}
 use Rattle.stackmap.proofs.Comparing.{slots-equal, slots-same}
 use Rattle.stackmap.proofs.Counts.{Stays}
@@ -80,7 +79,7 @@ module _ (M : Module) (p : ℕ) (σ : States) (P : AllPlaced M σ) (t : ℕ) (l 
   one : (b : Bool) → startsIn (M .marks) p t && leb (length l) 255 ≡ b
       → Ends (NoMap M p) (Handed M p (t gets l ∷ []) σ) (cond b (taken σ t l (σ t)) none)
   one true e =
-      let b = both-true (startsIn (M .marks) p t) (leb (length l) 255) e in
+      let b = and-eq-true-iff (startsIn (M .marks) p t) (leb (length l) 255) .0 e in
       offered (b .0) (leb-true (length l) 255 (b .1)) (σ t) refl
   one false e = broken λ π m.
       let o = m .obeys t l (reached-in M p π m t l r) in

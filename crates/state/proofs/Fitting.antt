@@ -1,12 +1,11 @@
 -- What a state that fits keeps, fact by fact.
 use Prim.Native.Nat.{ℕ, _≤_}
 use mathlib.Core.Path.{_≡_}
-use mathlib.Core.Bool.{Bool, true, _&&_}
+use mathlib.Core.Bool.{Bool, true, _&&_, and-eq-true-iff}
 use mathlib.Core.List.{List}
 use lib.Dec.{eqb, leb}
 use lib.ListN.{length}
 use borrow.Author.Tests.{eqb-true, leb-true, eq-eqb, le-leb}
-use Rattle.words.proofs.Tests.{both-true}
 use Rattle.registers.specs.declared.Areas.{Areas}
 use Rattle.registers.specs.declared.Registers.{Registers}
 use Rattle.registers.specs.Program.{constantsStart, framesStart}
@@ -29,8 +28,8 @@ pub record Fitting (A : Areas) (q : Registers) (m s : List ℕ) : Type 0 where
 
 three : (a b c : Bool) → (a && (b && c)) ≡ true → (a ≡ true) × (b ≡ true) × (c ≡ true)
 three a b c e =
-    let p = both-true a (b && c) e in
-    let q = both-true b c (p .1) in
+    let p = and-eq-true-iff a (b && c) .0 e in
+    let q = and-eq-true-iff b c .0 (p .1) in
     (p .0, q .0, q .1)
 
 five : (a b c d f : Bool) → (a && (b && (c && (d && f)))) ≡ true → (a ≡ true) × (b ≡ true) × (c ≡ true) × (d ≡ true) × (f ≡ true)
@@ -51,7 +50,7 @@ module _ (A : Areas) (q : Registers) (m s : List ℕ) where
   unfolding fits headerKept registersFit
   fitting h =
       let w = three (sizesTaken A m s) (headerKept A m) (registersFit q m s && chained m (framesStart A) (q .fp) (q .calls)) h in
-      let l = both-true (registersFit q m s) (chained m (framesStart A) (q .fp) (q .calls)) (w .2) in
+      let l = and-eq-true-iff (registersFit q m s) (chained m (framesStart A) (q .fp) (q .calls)) .0 (w .2) in
       let (areas, room, deep) = sizes-taken A m s (w .0) in
       let k = three (eqb (read m 0) 0) (eqb (read m 1) 0) (eqb (read m 2) (constantsStart A)) (w .1) in
       let r =

@@ -1,6 +1,6 @@
 -- Handing a coherent list on does the same on both sides: its height and topmost label are those of the list that an offset has
 -- exactly when it is that list.
-use mathlib.Core.Bool.{Bool, true, false, cond, _&&_, true≢false}
+use mathlib.Core.Bool.{Bool, true, false, cond, _&&_, true≢false, and-eq-true-iff}
 use mathlib.Core.List.{List, [], _∷_}
 use mathlib.Core.Option.{Option, none, some}
 use mathlib.Core.Path.{_≡_, refl, sym, ap, _∙_}
@@ -16,7 +16,7 @@ use Rattle.stackmap.specs.Ways.{Module, Way, _gets_, toAll}
 use Rattle.stackmap.specs.StackMap.{Map}
 use Rattle.stackmap.specs.Walk.{State, blank, waiting, done, States, slotsIn, mapOf, taken, handed, thenHand, handedAll, passed}
 use Rattle.stackmap.specs.Theorems.{Sound}
-use Rattle.words.proofs.Tests.{both-true, by-test}
+use Rattle.words.proofs.Tests.{by-test}
 use Rattle.layout.proofs.Updates.{Change, changed, spared, change}
 use Rattle.stackmap.proofs.Comparing.{slots-equal, slots-same}
 use Rattle.stackmap.proofs.Placing.{Grows, grows-change}
@@ -123,7 +123,7 @@ module _ (M : Module) (S : Sound M) (p : ℕ) where
             → Parallel M w σ (cond b (takenTop w (way t (length k) (topOrigin k)) from) (handing Stuck w))
             (cond b (taken σ t k (σ t)) none)
         by true e =
-            let h = S .within p t (both-true (startsIn (M .marks) p t) (leb (length k) 255) e .0) in
+            let h = S .within p t (and-eq-true-iff (startsIn (M .marks) p t) (leb (length k) 255) .0 e .0) in
             offered h (σ t) refl (X .held .shown t h)
         by false e = both-stop refl
 
