@@ -1,6 +1,6 @@
 -- How the code holds a list of slots: its height, and 1 plus the offset of the topmost label's origin (0 if none). What lies under a
--- label is its origin's own list, which the workspace w shows: halfword 4a is the height at offset a plus 1, 4a + 1 its origin. That
--- this determines the list is a theorem of crate verifier, not a definition.
+-- label is its origin's own list, which the workspace w shows: halfword 4a is the height at offset a plus 1, 4a + 1 is 1 plus the offset
+-- of its topmost label's origin (0 if none). That this determines the list is a theorem of crate verifier, not a definition.
 use mathlib.Core.Bool.{Bool, cond}
 use mathlib.Core.List.{List}
 use Prim.Native.Nat.{ℕ, zero, suc, _+_, _-_, _*_}
@@ -26,7 +26,7 @@ originUnder w (suc m) = getD w (4 * m + 1) 0
 unfoldable pub poppable : List ℕ → List ℕ → Top → ℕ → Bool
 poppable code w t n = leb (n + labelHeight code w (t .origin)) (t .height)
 
--- The topmost label is the top slot.
+-- The topmost label is the top slot; without a label, the list is empty.
 unfoldable pub labelled : List ℕ → List ℕ → Top → Bool
 labelled code w t = eqb (labelHeight code w (t .origin)) (t .height)
 

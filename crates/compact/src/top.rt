@@ -63,7 +63,7 @@ impl Top {
         (n as u64) + (label_height(code, w, self.origin) as u64) <= self.height as u64
     }
 
-    // Whether the topmost label is the top slot.
+    // Whether the topmost label is the top slot; without a label, whether the list is empty.
     pub fn is_labelled(self, code: &[u8], w: &[u16]) -> bool
         ensures { λ b. ⌜ b ≡ labelled (now (code .entry)) (now (w .entry)) self ⌝ }
     {

@@ -7,7 +7,7 @@ use Rattle.operand.specs.Distance.{placeAt}
 use Rattle.shape.specs.declared.Shape.{Shape}
 use Rattle.shape.specs.declared.Shape.the-variants.{Straight, Drop, Goto, Branch, Keep, Loop, Again, Select, Exit, Invoke, Begin, Return}
 use Rattle.shape.specs.declared.Table.{Table}
-use Rattle.successors.specs.Successors.{exitLabel}
+use Rattle.switch_table.specs.Switch.{exitLabel}
 use Rattle.stackmap.specs.Ways.{isLoop, isSelect, loopStart, parametersIn, resultsIn}
 use Rattle.compact.specs.declared.top.Top.{Top}
 use Rattle.compact_ways.specs.declared.Way.{Way}

@@ -11,7 +11,7 @@ use mir.Syntax.{w32}
 use mir.Val.{toZ}
 use Rattle.entries.specs.Entries.{entryAt, noCallee}
 use Rattle.operand.specs.Distance.{placeAt}
-use Rattle.switch_table.specs.Switch.{exitDistance, elseDistance, branchDistance, searchDistance, orElse}
+use Rattle.switch_table.specs.Switch.{exitLabel, elseDistance, branchDistance, searchDistance, orElse}
 use Rattle.opcode.specs.declared.instruction.Mode.the-variants.{Normal}
 use Rattle.opcode.specs.declared.instruction.Arithmetic.the-variants.{Add}
 use Rattle.operate.specs.Arithmetic.{signedValue}
@@ -35,10 +35,10 @@ jumps q d = Go 0 NoPush NoWrite (moved q (placeAt (q .pc) d))
 unfoldable pub jumpsIfFalse : Registers → ℕ → ℕ → ℕ → Effect
 jumpsIfFalse q next d b = boolean b (Go 1 NoPush NoWrite (moved q (cond (eqb b 0) (placeAt (q .pc) d) next)))
 
--- JUMP_T (when is 1) and JUMP_F (when is 0): POP (B); if B is `when` then PUSH (B); PC := PC + dist.
+-- JUMP_T (truth is 1) and JUMP_F (truth is 0): POP (B); if B is `truth` then PUSH (B); PC := PC + dist.
 unfoldable pub jumpsKeeping : (q : Registers) (next truth distance word : ℕ) → Effect
-jumpsKeeping q next when d b =
-    boolean b (cond (eqb b when) (Go 0 NoPush NoWrite (moved q (placeAt (q .pc) d))) (Go 1 NoPush NoWrite (moved q next)))
+jumpsKeeping q next truth d b =
+    boolean b (cond (eqb b truth) (Go 0 NoPush NoWrite (moved q (placeAt (q .pc) d))) (Go 1 NoPush NoWrite (moved q next)))
 
 -- (S > 0 and X > L) or (S < 0 and X < L).
 abbrev pub beyond : ℤ → ℤ → ℤ → Bool
@@ -68,9 +68,9 @@ summed A q m next a l s label (Trap n) = trap n
 unfoldable pub repeats : (A : Areas) (q : Registers) (m : List ℕ) (next address last step label : ℕ) → Effect
 repeats A q m next a l s label = cond (live q a 1) (summed A q m next a l s label (nextSum m a s)) (trap 32)
 
--- The exit label PC + Z is pushed, and the place is PC + distance.
+-- The exit label is pushed, and the place is PC + distance.
 abbrev pub branched : List ℕ → Registers → ℕ → Effect
-branched code q d = Go 1 (PushOne (q .pc + exitDistance code (q .pc))) NoWrite (moved q (q .pc + d))
+branched code q d = Go 1 (PushOne (exitLabel code (q .pc))) NoWrite (moved q (q .pc + d))
 
 -- SWITCH: if X < 0 or X > n then PC := PC + E. As a word, a negative X is above every n.
 unfoldable pub switches : List ℕ → Registers → ℕ → ℕ → Effect

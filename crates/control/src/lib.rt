@@ -44,14 +44,14 @@ pub fn jumps_if_false(q: Registers, next: u32, distance: u32, b: u32) -> Effect
     jump_to(q, 1, next)
 }
 
-// JUMP_T and JUMP_F: the boolean stays where it is `when`.
-pub fn jumps_keeping(q: Registers, next: u32, when: u32, distance: u32, b: u32) -> Effect
-    ensures { λ e. ⌜ e ≡ jumpsKeeping q next when distance b ⌝ }
+// JUMP_T and JUMP_F: the boolean stays where it is `truth`.
+pub fn jumps_keeping(q: Registers, next: u32, truth: u32, distance: u32, b: u32) -> Effect
+    ensures { λ e. ⌜ e ≡ jumpsKeeping q next truth distance b ⌝ }
 {
     if 1 < b {
         return Effect::Trap(34);
     }
-    if b == when {
+    if b == truth {
         return jump_to(q, 0, operand::place_at(q.pc, distance));
     }
     jump_to(q, 1, next)

@@ -1,5 +1,5 @@
--- Loads, stores, stack and operations (5.2.4.2 to 5.2.4.10): q are the registers, m is the memory, and `next` is the place after
--- the instruction.
+-- Loads, load addresses, stores, a value pushed, NEG, ALLOC and FREE (5.2.4.1 to 5.2.4.4, 5.2.4.7 to 5.2.4.10): q are the registers,
+-- m is the memory, and `next` is the place after the instruction.
 use mathlib.Core.Bool.{Bool, cond, _||_}
 use mathlib.Core.List.{List}
 use Prim.Native.Nat.{ℕ, _+_, _-_}
@@ -44,7 +44,8 @@ loaded m a Double = PushTwo (read m a) (read m (a + 1))
 unfoldable pub loadFrom : (q : Registers) (m : List ℕ) (next gone : ℕ) (mode : Mode) (a : ℕ) → Effect
 loadFrom q m next gone mode a = cond (live q a (wordsIn mode)) (Go gone (loaded m a mode) NoWrite (moved q next)) (trap 32)
 
--- LOAD_A_L, _G, _T, _F. 01: "An address sum past 32 bits is not live; LOAD_A_F traps 31 for it."
+-- LOAD_A_L, _G, _T, _F. 01: "An address sum past 32 bits is not live; LOAD_A_F traps 31 for it." The others' sums
+-- stay within 32 bits in every state that fits.
 unfoldable pub addressOf : Registers → ℕ → ℕ → ℕ → Effect
 addressOf q next gone a = cond (ltb a 0x1_0000_0000) (Go gone (PushOne a) NoWrite (moved q next)) (trap 31)
 

@@ -66,12 +66,13 @@ anyFrom f at (suc n) = f at || anyFrom f (at + 1) n
 unfoldable pub anywhere : List ℕ → Marks → FaultTest → Bool
 anywhere code marks test = anyFrom (λ at. testAt code (marks at) test at) 0 (length code)
 
+-- The three tests, by what makes a test.
+abbrev pub faultsBy : List ℕ → Marks → (FaultTest → Bool) → List Test
+faultsBy code marks made =
+    12 when made (strays code marks) ∷ 13 when made (misplaced code) ∷ 14 when made (uncallable code) ∷ []
+
 abbrev pub faultTests : List ℕ → Marks → List Test
-faultTests code marks =
-    12 when anywhere code marks (strays code marks)
-    ∷ 13 when anywhere code marks (misplaced code)
-    ∷ 14 when anywhere code marks (uncallable code)
-    ∷ []
+faultTests code marks = faultsBy code marks (anywhere code marks)
 
 unfoldable pub codeNumber : List ℕ → Marks → ℕ
 codeNumber code marks = refusal (faultTests code marks)

@@ -6,8 +6,10 @@ ghost use lib.Dec.{eqb};
 ghost use Prim.Native.Nat.{_≤_, _<_, _-_};
 ghost use lib.ListN.{length};
 ghost use Rattle.entries.specs.Entries.{entryAt, entryCount};
-ghost use Rattle.successors.specs.Successors.{tableSize, tableFrom, exitLabel, selectTargets};
-ghost use Rattle.faults.specs.Faults.{allStart, bare, strays, misplaced, uncallable, codeNumber};
+ghost use Rattle.successors.specs.Successors.{tableSize, tableFrom, selectTargets};
+ghost use Rattle.switch_table.specs.Switch.{exitLabel};
+ghost use Rattle.faults.specs.Faults.{allStart, bare, strays, misplacedBy, misplaced, uncallable, codeNumber};
+ghost use Rattle.shape.specs.Linkage.{entering};
 ghost use Rattle.layout.specs.Workspace.{marksIn};
 ghost use Rattle.faults.specs.OnePass.{faultOf, faultAt, lower};
 use layout::marks;
@@ -113,7 +115,7 @@ fn is_stray(code: &[u8], w: &[u16], p: u32, at: usize, next: usize, shape: Shape
 
 // 13: an ENTER that is not its procedure's first, or procedure 0's with parameters.
 fn enter_misplaced(code: &[u8], p: u32, at: usize, parameters: u32) -> bool
-    ensures { λ b. ⌜ b ≡ (not (eqb at (entryAt (now (code .entry)) p)) || (eqb p 0 && not (eqb parameters 0))) ⌝ }
+    ensures { λ b. ⌜ b ≡ misplacedBy (now (code .entry)) p at (entering parameters) ⌝ }
 {
     if at != entries::entry_at(code, p) as usize {
         return true;

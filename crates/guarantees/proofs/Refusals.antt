@@ -14,9 +14,9 @@ use Rattle.machine.specs.declared.run.End.the-variants.{Finished as finish, Spe
 use Rattle.step.specs.declared.Machine.{Machine}
 use Rattle.step.specs.declared.Outcome.{Outcome}
 use Rattle.step.specs.declared.Outcome.the-variants.{Went, Finished, Trapped}
-use Rattle.step.specs.Step.{After, stepOf}
+use Rattle.step.specs.Step.{After, stepOf, machine}
 use Rattle.load.proofs.Loading.{refused-memory}
-use Rattle.machine.specs.Run.{Result, ran, endedAt, machine, proceed, runFrom, runNumber, runOf}
+use Rattle.machine.specs.Run.{Result, ran, endedAt, proceed, runFrom, runNumber, runOf}
 use Rattle.guarantees.specs.Guarantees.{RefusedLoad, RefusedRun, CountWithinBudget}
 
 -- The answer of a run is an end, with at most so many steps.

@@ -7,6 +7,7 @@ use lib.ListN.{length}
 use Rattle.record.specs.declared.Line.{Line}
 use Rattle.record.specs.declared.Line.the-variants.{Refused}
 use Rattle.record.specs.declared.Line.the-variants as line
+use Rattle.opcode.specs.Decode.{unservedNumber, pastNumber}
 use Rattle.opcode.specs.declared.Decoded.{Decoded}
 use Rattle.opcode.specs.declared.Decoded.the-variants.{Unserved, Past, At}
 use Rattle.report.specs.Report.{Output, output}
@@ -20,8 +21,8 @@ lineCode (line.At n) = n
 -- 10 for an unserved instruction, 11 for one that runs past the limit; or 0, and the number of its mnemonic, its mode, its operands,
 -- and its length in bytes, a prefix counted in.
 abbrev pub decodeAnswer : Decoded → ℕ → List ℕ → Output
-decodeAnswer Unserved at out = output 10 out
-decodeAnswer Past at out = output 11 out
+decodeAnswer Unserved at out = output unservedNumber out
+decodeAnswer Past at out = output pastNumber out
 decodeAnswer (At i next) at out =
     let p = partsOf i in
     output 0 (p .number ∷ p .mode ∷ p .operand ∷ p .second ∷ (next - at) ∷ [])

@@ -6,7 +6,7 @@ use Prim.Native.Nat.{ℕ, zero, suc, _+_, _-_}
 use lib.Dec.{eqb, ltb}
 use lib.ListN.{length}
 use Rattle.entries.specs.Entries.{entryAt, entryCount, regionEnd}
-use Rattle.opcode.specs.Decode.{decodeAt}
+use Rattle.opcode.specs.Decode.{unservedNumber, pastNumber, decodeAt}
 use Rattle.opcode.specs.declared.Decoded.{Decoded}
 use Rattle.opcode.specs.declared.Decoded.the-variants.{Unserved, Past, At}
 
@@ -18,15 +18,14 @@ Marks = ℕ → ℕ
 abbrev pub updated {ℓ} : {A : Type ℓ} → (ℕ → A) → ℕ → A → ℕ → A
 updated f at x a = cond (eqb a at) x (f a)
 
--- The marks of the starts, or the number of the first bad instruction: 10 is "unserved instruction, or prefix before one without
--- that mode", 11 "instruction runs past its region".
+-- The marks of the starts, or the number of the first bad instruction.
 pub data Cut : Type 0 where
   bad : ℕ → Cut
   cut : Marks → Cut
 
 abbrev pub cutAt : (ℕ → Marks → Cut) → ℕ → ℕ → Marks → Decoded → Cut
-cutAt go p at marks Unserved = bad 10
-cutAt go p at marks Past = bad 11
+cutAt go p at marks Unserved = bad unservedNumber
+cutAt go p at marks Past = bad pastNumber
 cutAt go p at marks (At i next) = go next (updated marks at (p + 1))
 
 -- The region of procedure p from an offset on, in at most so many instructions: each has a byte, so the size of the code is enough.

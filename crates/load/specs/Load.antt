@@ -34,7 +34,7 @@ unfoldable pub startOf : Program → Registers
 startOf P =
     record { pc = entryAt (P .code) 0; fp = framesStart (P .areas); mp = framesStart (P .areas); gp = globalsStart; height = 0; calls = 0 }
 
--- Numbers 1 to 8.
+-- 8, after the record's 1 to 7.
 abbrev pub loadTests : List ℕ → List ℕ → List ℕ → List ℕ → List Test
 loadTests r parameters m s = 8 when not (leb (length parameters) (areasOf r .globals) && sizesTaken (areasOf r) m s) ∷ []
 

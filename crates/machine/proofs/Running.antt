@@ -20,9 +20,9 @@ use Rattle.step.specs.declared.Machine.{Machine}
 use Rattle.step.specs.declared.Stepped.{Stepped}
 use Rattle.step.specs.declared.Outcome.the-variants.{Went, Finished, Trapped}
 use Rattle.machine.specs.declared.run.End.the-variants.{Finished as finish, Spent, Trapped as stop}
-use Rattle.step.specs.Step.{after, stepOf}
+use Rattle.step.specs.Step.{after, stepOf, machine}
 use Rattle.state.specs.Fits.{fits}
-use Rattle.machine.specs.Run.{ran, result, machine, proceed, runFrom, runNumber, runOf}
+use Rattle.machine.specs.Run.{ran, result, proceed, runFrom, runNumber, runOf}
 use Rattle.machine.proofs.Preserved.{Holds, step-holds}
 use Rattle.load.proofs.Loading.{sound-header, refused-number}
 

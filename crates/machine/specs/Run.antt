@@ -4,7 +4,7 @@ use mathlib.Core.Bool.{cond, not}
 use mathlib.Core.List.{List, [], _∷_}
 use Prim.Native.Nat.{ℕ, zero, suc, _+_}
 use lib.Dec.{eqb}
-use Rattle.words.specs.Refusal.{_when_}
+use Rattle.words.specs.Refusal.{Test, _when_}
 use Rattle.record.specs.Number.{afterRecord}
 use Rattle.registers.specs.declared.Registers.{Registers}
 use Rattle.step.specs.declared.Machine.{Machine}
@@ -16,9 +16,8 @@ use Rattle.machine.specs.declared.run.Ended.{Ended as Ending}
 use Rattle.machine.specs.declared.run.Answer.{Answer}
 use Rattle.machine.specs.declared.run.Answer.the-variants.{Refused, Ended}
 use Rattle.header.specs.Header.{codeOf}
-use Rattle.registers.specs.declared.Areas.{Areas}
 use Rattle.registers.specs.Program.{areasOf}
-use Rattle.step.specs.Step.{stepOf}
+use Rattle.step.specs.Step.{machine, stepOf}
 use Rattle.state.specs.Fits.{fits}
 
 -- 01: "End is 0 finished, 1 spent, or the trap."
@@ -47,9 +46,6 @@ endedAt ending steps M = record { ending = ending; steps = steps; registers = M 
 abbrev pub result : (ending : End) (steps : ℕ) (M : Machine) (m s : List ℕ) → Result
 result ending steps M m s = ended (endedAt ending steps M) m s
 
-abbrev pub machine : Areas → Registers → Machine
-machine A q = record { areas = A; registers = q }
-
 -- After a step: the run goes on, or ends there.
 abbrev pub proceed : (Machine → List ℕ → List ℕ → Result) → ℕ → Outcome → Machine → List ℕ → List ℕ → Result
 proceed go count Went M m s = go M m s
@@ -64,9 +60,11 @@ runFrom code (suc left) count M m s =
     proceed (runFrom code left (count + 1)) count (a .stepped .outcome) (a .stepped .machine) (a .memory) (a .stack)
 
 -- "run [makes tests] 1 to 7 and then 24": "a state that does not fit".
+abbrev pub runTests : List ℕ → Registers → List ℕ → List ℕ → List Test
+runTests r q m s = 24 when not (fits (areasOf r) q m s) ∷ []
+
 unfoldable pub runNumber : List ℕ → Registers → List ℕ → List ℕ → ℕ
-runNumber r q m s =
-    afterRecord r (24 when not (fits (areasOf r) q m s) ∷ [])
+runNumber r q m s = afterRecord r (runTests r q m s)
 
 unfoldable pub runOf : (r : List ℕ) (budget : ℕ) (q : Registers) (m s : List ℕ) → Result
 runOf r budget q m s =

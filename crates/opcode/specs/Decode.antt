@@ -15,13 +15,22 @@ use Rattle.opcode.specs.declared.instruction.Mode.the-variants.{Normal, 
 use Rattle.opcode.specs.declared.instruction.Instruction.{Instruction}
 use Rattle.opcode.specs.declared.instruction.Instruction.the-variants.{Nop}
 
--- The instruction that a row makes of the operands behind the code byte at `at`.
+-- The instruction that a row makes of the operands behind the code byte at `at`; NOP for an unserved one, which decoding never hands
+-- on.
 abbrev pub made : Row → Mode → List ℕ → ℕ → Instruction
 made unserved m code at = Nop
 made (row operands modes make) m code at = make m (operand operands code at) (operand2 operands code at)
 
 unfoldable pub instructionAt : Mode → List ℕ → ℕ → Instruction
 instructionAt m code at = made (rowOf (byteAt code at)) m code at
+
+-- The check's numbers for what is no instruction: 10 is "unserved instruction, or prefix before one without that mode", 11
+-- "instruction runs past its region".
+abbrev pub unservedNumber : ℕ
+unservedNumber = 10
+
+abbrev pub pastNumber : ℕ
+pastNumber = 11
 
 -- The code byte at `at` is below the limit: code and mode, then the other bytes.
 unfoldable pub decodeIn : Mode → List ℕ → ℕ → ℕ → Decoded

@@ -1,4 +1,4 @@
--- What the operations on words give (5.2.4.7 to 5.2.4.9).
+-- What the operations on words give (5.2.4.7 and 5.2.4.8).
 pub mod Value
 pub mod Arithmetic
 pub mod Compare

@@ -2,7 +2,7 @@
 -- each of its tests.
 use mathlib.Core.Bool.{Bool, true, false, _&&_, and-eq-true-iff}
 use mathlib.Core.List.{List}
-use mathlib.Core.Path.{_≡_, refl}
+use mathlib.Core.Path.{_≡_, refl, sym}
 use Prim.Native.Nat.{ℕ, _≤_}
 use native.Mathlib.Omega.{arith}
 use lib.Dec.{eqb, leb}
@@ -10,11 +10,12 @@ use lib.ListN.{length, drop, length-take}
 use borrow.Author.Tests.{leb-true, eqb-true, eqb-false, not-false}
 use Rattle.words.specs.Refusal.{Test, refusal}
 use Rattle.words.proofs.Refusal.{Clear, positive, within, cleared, most}
-use Rattle.words.proofs.Tests.{either}
+use Rattle.words.proofs.Tests.{either, by-test}
 use Rattle.header.specs.Header.{headerOf, sizesFit, codeAt, codeOf}
 use Rattle.header.specs.declared.Header.{Header}
 use Rattle.entries.specs.Entries.{entriesSound}
-use Rattle.record.specs.Number.{recordTests, recordNumber, afterRecord}
+use Rattle.record.specs.Number.{recordTests, recordNumber, afterRecord, readingOf, readingNumber}
+use Rattle.record.specs.declared.Reading.{Reading}
 
 pub record Numberless (r : List ℕ) : Type 0 where
   pub sizes : sizesFit (headerOf r) ≡ true
@@ -28,6 +29,12 @@ numberless r e =
       sizes = not-false (sizesFit (headerOf r)) (c .1 .0);
       entries = not-false (entriesSound (codeOf r)) (c .1 .1 .1 .1 .1 .1 .0);
     }
+
+-- A reading has the record's number.
+pub reading-number : (r : List ℕ) → readingNumber (readingOf r) ≡ recordNumber r
+unfolding readingOf
+reading-number r =
+    by-test (λ (a : Reading). readingNumber a ≡ recordNumber r) (eqb (recordNumber r) 0) _ _ (λ e. sym (eqb-true (recordNumber r) 0 e)) (λ e. refl)
 
 pub record-range : (r : List ℕ) → recordNumber r ≤ 7
 unfolding recordNumber

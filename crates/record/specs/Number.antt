@@ -31,12 +31,17 @@ recordTests r =
 unfoldable pub recordNumber : List ℕ → ℕ
 recordNumber r = refusal (recordTests r)
 
--- The tests that a call makes after those of the record.
+-- The number of a call that makes these tests after those of the record.
 abbrev pub afterRecord : List ℕ → List Test → ℕ
 afterRecord r tests = cond (eqb (recordNumber r) 0) (refusal tests) (recordNumber r)
 
 unfoldable pub readingOf : List ℕ → Reading
 readingOf r = cond (eqb (recordNumber r) 0) (Sound (headerOf r)) (Refused (recordNumber r))
+
+-- The number of a reading, 0 where the record is sound.
+abbrev pub readingNumber : Reading → ℕ
+readingNumber (Refused n) = n
+readingNumber (Sound h) = 0
 
 -- 01: "the line lookup [makes tests] 1 to 7"; then the line.
 unfoldable pub lineOf : List ℕ → ℕ → Line

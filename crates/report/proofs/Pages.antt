@@ -9,29 +9,29 @@ use Rattle.source.specs.Source.{lineAt}
 use Rattle.header.specs.declared.Header.{Header}
 use Rattle.machine.specs.declared.run.Ended.{Ended as Ending}
 use Rattle.machine.specs.Run.{endNumber}
-use Rattle.text.specs.Text.{decimal, checkText, endText, atText, lineText, stepsText, newline, wordsText, listLine, labelled, checkLine, endLine, Wrote}
+use Rattle.text.specs.Text.{decimal, checkText, endText, atText, lineText, stepsText, newline, wordsText, listLine, numbered, checkLine, endLine, Wrote}
 use Rattle.text.proofs.Writing.{wrote-then, decimal-short, words-short}
 use Rattle.report.specs.Report.{endedText}
 
-labelled-short : (text : List ℕ) (n : ℕ) (rest : List ℕ) → length (labelled text n ++ rest) ≤ length text + 10 + length rest
-unfolding labelled
-labelled-short text n rest = omega (arith, decimal-short n, length-append text (decimal n), length-append (labelled text n) rest)
+numbered-short : (text : List ℕ) (n : ℕ) (rest : List ℕ) → length (numbered text n ++ rest) ≤ length text + 10 + length rest
+unfolding numbered
+numbered-short text n rest = omega (arith, decimal-short n, length-append text (decimal n), length-append (numbered text n) rest)
 
 check-short : (n : ℕ) → length (checkLine n) ≤ 17
 unfolding checkLine
-check-short n = labelled-short checkText n newline
+check-short n = numbered-short checkText n newline
 
 end-short : (end place line steps : ℕ) → length (endLine end place line steps) ≤ 62
 unfolding endLine
 end-short end place line steps =
-    let last = labelled stepsText steps ++ newline in
-    let second = labelled lineText line ++ last in
+    let last = numbered stepsText steps ++ newline in
+    let second = numbered lineText line ++ last in
     omega (
       arith,
-      labelled-short endText end (labelled atText place ++ second),
-      labelled-short atText place second,
-      labelled-short lineText line last,
-      labelled-short stepsText steps newline,
+      numbered-short endText end (numbered atText place ++ second),
+      numbered-short atText place second,
+      numbered-short lineText line last,
+      numbered-short stepsText steps newline,
     )
 
 list-short : (letter : ℕ) (xs : List ℕ) → length (listLine letter xs) ≤ 2 + 11 * length xs

@@ -32,7 +32,8 @@ use Rattle.registers.specs.Changes.{moved}
 use Rattle.control.specs.Control.{beyond, iterates, nextSum, summed, repeats, branched}
 use Rattle.execute.specs.Depth.{topWords}
 use Rattle.execute.proofs.Top.{found}
-use Rattle.successors.specs.Successors.{exitLabel, selectTargets}
+use Rattle.successors.specs.Successors.{selectTargets}
+use Rattle.switch_table.specs.Switch.{exitLabel}
 use Rattle.stackmap.specs.Slots.{Slot, word, label, popWords, dropSlots}
 use Rattle.stackmap.specs.Ways.{Module, Way, _gets_, isLoop, isSelect, labelWord, after, both, toAll, again, exit}
 use Rattle.stackmap.specs.StackMap.{here}

@@ -4,6 +4,7 @@ use mathlib.Core.List.{List, [], _∷_}
 use mathlib.Core.Path.{_≡_}
 use Prim.Native.Nat.{ℕ, _≤_, _<_, _+_}
 use lib.ListN.{length, getD}
+use Rattle.step.specs.Step.{machine}
 use Rattle.entries.specs.Entries.{entryCount}
 use Rattle.registers.specs.Memory.{read}
 use Rattle.registers.specs.Program.{areasOf, globalsStart, constantsStart, framesStart}
@@ -18,7 +19,7 @@ use Rattle.load.specs.declared.Loaded.the-variants.{Ready}
 use Rattle.machine.specs.declared.run.End.{End}
 use Rattle.machine.specs.declared.run.End.the-variants.{Finished, Spent, Trapped}
 use Rattle.load.specs.Load.{loadOf}
-use Rattle.machine.specs.Run.{Result, machine, result, runOf}
+use Rattle.machine.specs.Run.{Result, result, runOf}
 use Rattle.safety.specs.Active.{Call, running, shareOf, Configuration, stepOn, Visits}
 
 -- "the run finishes, spends its budget, or ends in one of the nine data traps, never in one of the four code traps".
@@ -100,8 +101,9 @@ pub record Ends (M : Module) (first : Configuration) (run : Result) : Type 0 whe
   pub ends : run ≡ endedIn ending steps last
 
 -- 01: "Check, load and run get the same record; the run gets the load's memory and stack and all else it answered or wrote, as left".
--- "Take any record that the check accepts and load it fresh, with any parameters, memory and stack that the loader takes; run it from
--- there, with demand 2's steps and step count and any step budget. .. After every number of its steps, from none to the last, .."
+-- The letter: "Take any record that the check accepts and load it fresh, with any parameters, memory and stack that the loader takes;
+-- run it from there, with demand 2's steps and step count and any step budget. .. After every number of its steps, from none to the
+-- last, .."
 pub record Demand3 (r w m0 s : List ℕ) (q : Registers) (M : Module) : Type 0 where
   pub runs : (budget : ℕ) → Ends M (loadedConfiguration r q m0 s) (runOf r budget q m0 s)
   pub safe : (n : ℕ) (c : Configuration) → Visits M (loadedConfiguration r q m0 s) n c → Safe r M w m0 c

@@ -21,7 +21,7 @@ sourceOffsets r h = offsetsFrom r (sourcesAt h) (h .sources / 2)
 unfoldable pub sourceSound : List ℕ → Header → Bool
 sourceSound r h = eqb (h .sources % 2) 0 && rising (h .code) (sourceOffsets r h)
 
--- How many of the pairs begin at or before an offset: the last of these is the one that covers it, and 0 is none.
+-- How many pairs, from the first on, begin at or before an offset: the last of these is the one that covers it, and 0 is none.
 abbrev pub covering : ℕ → List ℕ → ℕ
 covering offset [] = 0
 covering offset (x ∷ xs) = cond (leb x offset) (suc (covering offset xs)) 0

@@ -27,7 +27,7 @@ pub fn source_sound(r: &[u8], h: Header) -> bool
     true
 }
 
-// How many pairs begin at or before the offset.
+// How many pairs, from the first on, begin at or before the offset.
 pub fn pairs_covering(r: &[u8], h: Header, offset: u32) -> u32
     ensures { λ n. ⌜ n ≡ covering offset (sourceOffsets (now (r .entry)) h) ⌝ }
 {

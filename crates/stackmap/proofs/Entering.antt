@@ -14,7 +14,7 @@ use Rattle.stackmap.specs.Slots.{Slot}
 use Rattle.stackmap.specs.Ways.{Module, parametersIn}
 use Rattle.stackmap.specs.StackMap.{firstSlots, entered}
 use Rattle.stackmap.specs.Walk.{blank, waiting, done, States, mapOf, entriesWait, firstStates}
-use Rattle.stackmap.specs.Theorems.{Sound}
+use Rattle.stackmap.specs.Theorems.{WellCut}
 use Rattle.words.proofs.Tests.{either}
 use Rattle.stackmap.proofs.Pushing.{words-height}
 use Rattle.layout.proofs.Updates.{Change, changed, spared, change, updated-here, at-or-after}
@@ -30,7 +30,7 @@ parameters-few code bytes p =
 abbrev pub entering : Module → ℕ → States → States
 entering M p σ = updated σ (entryAt (M .code) p) (waiting (firstSlots M p))
 
-module _ (M : Module) (S : Sound M) where
+module _ (M : Module) (S : WellCut M) where
   first-short : (p : ℕ) → length (firstSlots M p) ≤ 255
   first-short p = rw (words-height (parametersIn (M .code) p)) (parameters-few (M .code) (S .bytes) p)
 

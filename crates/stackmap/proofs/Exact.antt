@@ -11,7 +11,7 @@ use Rattle.stackmap.specs.Slots.{Slot}
 use Rattle.stackmap.specs.Ways.{Module}
 use Rattle.stackmap.specs.StackMap.{firstSlots, Obeys}
 use Rattle.stackmap.specs.Walk.{State, blank, waiting, done, States, slotsIn, mapOf, firstStates, walkOf}
-use Rattle.stackmap.specs.Theorems.{Sound, mapIn, FindsMaps, RefutesMaps, FindsReached, HasReached}
+use Rattle.stackmap.specs.Theorems.{WellCut, mapIn, FindsMaps, RefutesMaps, FindsReached, HasReached}
 use Rattle.stackmap.proofs.Counts.{undone-most}
 use Rattle.stackmap.proofs.Reaching.{reached-in}
 use Rattle.stackmap.proofs.Placing.{owner, owned, in-given, in-told}
@@ -24,7 +24,7 @@ pub record Final (M : Module) (σ : States) : Type 0 where
   pub idle : (at : ℕ) (l : List Slot) → σ at ≡ waiting l → ⊥
   pub entries : (p : ℕ) → p < entryCount (M .code) → mapOf σ (entryAt (M .code) p) ≡ some (firstSlots M p)
 
-whole : (M : Module) → Sound M → Ends (Refuted M) (Final M) (walkOf M)
+whole : (M : Module) → WellCut M → Ends (Refuted M) (Final M) (walkOf M)
 unfolding walkOf
 whole M S =
     let E = first-entered M S in
@@ -41,7 +41,7 @@ whole M S =
 ends-none : {Bad : Type 0} {P : States → Type 0} → Ends Bad P none → Bad
 ends-none (broken b) = b
 
-pub final : (M : Module) → Sound M → (σ : States) → walkOf M ≡ some σ → Final M σ
+pub final : (M : Module) → WellCut M → (σ : States) → walkOf M ≡ some σ → Final M σ
 final M S σ e = ends-some (subst (Ends (Refuted M) (Final M)) e (whole M S))
 
 -- What is given and does not wait is done.

@@ -11,7 +11,7 @@ use borrow.Author.Tests.{leb-true, le-leb}
 use Rattle.layout.specs.Cut.{updated, startsIn}
 use Rattle.stackmap.specs.Slots.{Slot, sameSlots}
 use Rattle.stackmap.specs.Ways.{Module, Way, _gets_}
-use Rattle.stackmap.specs.StackMap.{Map, Gives, given-all, given-one, IsMap, Among, here, there, Reached}
+use Rattle.stackmap.specs.StackMap.{Map, GivesEach, given-all, given-one, IsMap, Among, here, there, Reached}
 use Rattle.stackmap.specs.Walk.{State, blank, waiting, done, States, mapOf, taken, thenHand, handedAll}
 use Rattle.stackmap.specs.Theorems.{mapIn}
 use Rattle.layout.proofs.Updates.{updated-here}
@@ -46,7 +46,7 @@ pub record Handed (M : Module) (p : ℕ) (ws : List Way) (σ τ : States) : Type
   pub sane : AllPlaced M τ
   pub later : Later σ τ
   pub early : Stays τ σ
-  pub gives : Gives (mapIn M p τ) ws
+  pub gives : GivesEach (mapIn M p τ) ws
 
 module _ (M : Module) (p : ℕ) (σ : States) (P : AllPlaced M σ) (t : ℕ) (l : List Slot) (r : Reached M p t l) where
   module _ (h : startsIn (M .marks) p t ≡ true) where
@@ -85,7 +85,7 @@ module _ (M : Module) (p : ℕ) (σ : States) (P : AllPlaced M σ) (t : ℕ) (l 
       let o = m .obeys t l (reached-in M p π m t l r) in
       true≢false (rw (o .start, le-leb (length l) 255 (o .short)) at e)
 
-gives-first : {π : Map} {w : Way} {ws : List Way} → Gives π (w ∷ []) → Gives π ws → Gives π (w ∷ ws)
+gives-first : {π : Map} {w : Way} {ws : List Way} → GivesEach π (w ∷ []) → GivesEach π ws → GivesEach π (w ∷ ws)
 gives-first (given-one e g) h = given-one e h
 
 -- One way, and the others after it.

@@ -11,7 +11,7 @@ use borrow.Author.Tests.{eqb-true}
 use Rattle.layout.specs.Cut.{updated, startsIn}
 use Rattle.stackmap.specs.Slots.{Slot}
 use Rattle.stackmap.specs.Ways.{Module, Way}
-use Rattle.stackmap.specs.StackMap.{Map, Gives, given-all, given-one, Reached}
+use Rattle.stackmap.specs.StackMap.{Map, GivesEach, given-all, given-one, Reached}
 use Rattle.stackmap.specs.Walk.{State, blank, waiting, done, States, slotsIn, mapOf}
 use Rattle.stackmap.specs.Theorems.{mapIn}
 use Rattle.layout.proofs.Updates.{Change, changed, spared, change}
@@ -118,7 +118,7 @@ only : {x y : Option (List Slot)} {l : List Slot} (b : Bool) → (x ≡ some l �
 only true f e = f e
 only false f e = e
 
-pub gives-later : (M : Module) (p : ℕ) (σ τ : States) {ws : List Way} → Later σ τ → Gives (mapIn M p σ) ws → Gives (mapIn M p τ) ws
+pub gives-later : (M : Module) (p : ℕ) (σ τ : States) {ws : List Way} → Later σ τ → GivesEach (mapIn M p σ) ws → GivesEach (mapIn M p τ) ws
 gives-later M p σ τ L given-all = given-all
 gives-later M p σ τ L (given-one {t} {l} e g) =
     given-one (only (startsIn (M .marks) p t) (L .kept t l) e) (gives-later M p σ τ L g)

@@ -5,9 +5,9 @@ use mathlib.Core.Path.{_≡_, subst}
 use Prim.Native.Nat.{ℕ}
 use Rattle.stackmap.specs.Slots.{Slot}
 use Rattle.stackmap.specs.Ways.{Module, Way}
-use Rattle.stackmap.specs.StackMap.{Map, Gives, given-one, IsMap, Among, here, there, Reached, entered, stepped}
+use Rattle.stackmap.specs.StackMap.{Map, GivesEach, given-one, IsMap, Among, here, there, Reached, entered, stepped}
 
-gives-among : {π : Map} {t : ℕ} {l : List Slot} {ws : List Way} → Gives π ws → Among t l ws → π t ≡ some l
+gives-among : {π : Map} {t : ℕ} {l : List Slot} {ws : List Way} → GivesEach π ws → Among t l ws → π t ≡ some l
 gives-among (given-one e g) here = e
 gives-among (given-one e g) (there a) = gives-among g a
 
@@ -16,4 +16,4 @@ reached-in M p π h at l entered = h .first
 reached-in M p π h at l (stepped {at = s} {l = k} {out = out} r w a) =
     let o = h .obeys s k (reached-in M p π h s k r) in
     let found : o .out ≡ out = cc (o .found, w) in
-    gives-among (subst (Gives π) found (o .gives)) a
+    gives-among (subst (GivesEach π) found (o .gives)) a

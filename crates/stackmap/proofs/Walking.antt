@@ -10,9 +10,9 @@ use Rattle.entries.specs.Entries.{entryCount}
 use Rattle.layout.specs.Cut.{updated}
 use Rattle.stackmap.specs.Slots.{Slot}
 use Rattle.stackmap.specs.Ways.{Module, Way}
-use Rattle.stackmap.specs.StackMap.{Gives, stepped, waysAt}
+use Rattle.stackmap.specs.StackMap.{GivesEach, stepped, waysAt}
 use Rattle.stackmap.specs.Walk.{waiting, done, States, passed, visited, Found, found, visitNext, walk}
-use Rattle.stackmap.specs.Theorems.{Sound, mapIn}
+use Rattle.stackmap.specs.Theorems.{WellCut, mapIn}
 use Rattle.layout.proofs.Updates.{Change, changed, spared, change, updated-here}
 use Rattle.stackmap.proofs.Counts.{undoneIn, undone, undone-drops, undone-waits, done-stays, Seen, clear, sees, seen}
 use Rattle.stackmap.proofs.Reaching.{reached-in}
@@ -23,7 +23,7 @@ use Rattle.stackmap.proofs.Handing.{Ends, broken, went, ends-then, ends
 pub record Passed (M : Module) (σ : States) (at : ℕ) (l : List Slot) : Type 0 where
   pub out : List Way
   pub found : waysAt M (owner M at) at l ≡ some out
-  pub gives : Gives (mapIn M (owner M at) σ) out
+  pub gives : GivesEach (mapIn M (owner M at) σ) out
 
 pub record Good (M : Module) (σ : States) : Type 0 where
   pub sane : AllPlaced M σ
@@ -37,7 +37,7 @@ record Visited (M : Module) (σ : States) (at : ℕ) (l : List Slot) (τ : State
   later : Later σ τ
   finished : τ at ≡ done l
 
-module _ (M : Module) (S : Sound M) (σ : States) (G : Good M σ) (at : ℕ) (l : List Slot) (w : σ at ≡ waiting l) where
+module _ (M : Module) (S : WellCut M) (σ : States) (G : Good M σ) (at : ℕ) (l : List Slot) (w : σ at ≡ waiting l) where
   this : Placed M at l
   this = G .sane at l (rw w)
 
@@ -89,7 +89,7 @@ pub record Walked (M : Module) (σ τ : States) : Type 0 where
   pub later : Later σ τ
   pub idle : (at : ℕ) (l : List Slot) → τ at ≡ waiting l → ⊥
 
-module _ (M : Module) (S : Sound M) where
+module _ (M : Module) (S : WellCut M) where
   -- A waiting offset lies in the code.
   inside : (σ : States) → Good M σ → (at : ℕ) (l : List Slot) → σ at ≡ waiting l → at < length (M .code)
   inside σ G at l w = S .within (owner M at) at (G .sane at l (rw w) .start)

@@ -28,9 +28,9 @@ abbrev pub Map : Type 0
 Map = ℕ → Option (List Slot)
 
 -- "gives every successor exactly that list".
-pub data Gives (π : Map) : List Way → Type 0 where
-  given-all : Gives π []
-  given-one : {t : ℕ} {l : List Slot} {ws : List Way} → π t ≡ some l → Gives π ws → Gives π (t gets l ∷ ws)
+pub data GivesEach (π : Map) : List Way → Type 0 where
+  given-all : GivesEach π []
+  given-one : {t : ℕ} {l : List Slot} {ws : List Way} → π t ≡ some l → GivesEach π ws → GivesEach π (t gets l ∷ ws)
 
 -- What a map has at an offset is as it must be: a start of the region, at most 255 slots, and its ways out given.
 pub record Obeys (M : Module) (p : ℕ) (π : Map) (at : ℕ) (l : List Slot) : Type 0 where
@@ -38,7 +38,7 @@ pub record Obeys (M : Module) (p : ℕ) (π : Map) (at : ℕ) (l : List Slot) : 
   pub short : length l ≤ 255
   pub out : List Way
   pub found : waysAt M p at l ≡ some out
-  pub gives : Gives π out
+  pub gives : GivesEach π out
 
 -- "The first instruction is given the parameter words of its ENTER (procedure 0: none)."
 abbrev pub firstSlots : Module → ℕ → List Slot

@@ -14,7 +14,7 @@ use Rattle.stackmap.specs.StackMap.{Map, IsMap, Reached}
 use Rattle.stackmap.specs.Walk.{States, mapOf, walkOf}
 
 -- What cutting a sound record gives: every procedure's entry is a start of its region, starts lie in the code, and bytes are bytes.
-pub record Sound (M : Module) : Type 0 where
+pub record WellCut (M : Module) : Type 0 where
   pub counted : 1 ≤ entryCount (M .code)
   pub entries : (p : ℕ) → p < entryCount (M .code) → startsIn (M .marks) p (entryAt (M .code) p) ≡ true
   pub procedures : (p at : ℕ) → startsIn (M .marks) p at ≡ true → p < entryCount (M .code)
@@ -28,17 +28,17 @@ mapIn M p σ at = cond (startsIn (M .marks) p at) (mapOf σ at) none
 -- The walk finds a map of every region.
 abbrev pub FindsMaps : Type 0
 FindsMaps =
-    (M : Module) → Sound M → (σ : States) → walkOf M ≡ some σ → (p : ℕ) → p < entryCount (M .code) → IsMap M p (mapIn M p σ)
+    (M : Module) → WellCut M → (σ : States) → walkOf M ≡ some σ → (p : ℕ) → p < entryCount (M .code) → IsMap M p (mapIn M p σ)
 
 -- Where it breaks, some region has none.
 abbrev pub RefutesMaps : Type 0
 RefutesMaps =
-    (M : Module) → Sound M → walkOf M ≡ none → (p : ℕ) × (p < entryCount (M .code)) × ((π : Map) → IsMap M p π → ⊥)
+    (M : Module) → WellCut M → walkOf M ≡ none → (p : ℕ) × (p < entryCount (M .code)) × ((π : Map) → IsMap M p π → ⊥)
 
 -- Whatever it found, at any offset, is reached from some procedure's entry.
 abbrev pub FindsReached : Type 0
 FindsReached =
-    (M : Module) → Sound M → (σ : States) → walkOf M ≡ some σ → (at : ℕ) (l : List Slot) → mapOf σ at ≡ some l
+    (M : Module) → WellCut M → (σ : States) → walkOf M ≡ some σ → (at : ℕ) (l : List Slot) → mapOf σ at ≡ some l
     → (p : ℕ) × (p < entryCount (M .code)) × Reached M p at l
 
 -- Every map has what is reached, so that there is one map of the instructions reached.

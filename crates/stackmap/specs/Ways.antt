@@ -15,7 +15,8 @@ use Rattle.opcode.specs.Table.{iterCode, switchCode, switchXCode, iterOperands,
 use Rattle.shape.specs.declared.Shape.{Shape}
 use Rattle.shape.specs.declared.Shape.the-variants.{Straight, Drop, Goto, Branch, Keep, Loop, Again, Select, Exit, Invoke, Begin, Return}
 use Rattle.layout.specs.Cut.{Marks}
-use Rattle.successors.specs.Successors.{exitLabel, selectTargets}
+use Rattle.successors.specs.Successors.{selectTargets}
+use Rattle.switch_table.specs.Switch.{exitLabel}
 use Rattle.stackmap.specs.Slots.{Slot, word, label, pushWords, popWords, dropSlots, isWords}
 
 -- The code under check, its results list, and its starts.

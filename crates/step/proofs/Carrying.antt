@@ -17,23 +17,23 @@ use Rattle.registers.specs.Program.{Program}
 use Rattle.control.specs.Control.{jumps, jumpsIfFalse, jumpsKeeping}
 use Rattle.execute.specs.Group.{groupOf}
 use Rattle.execute.specs.Execute.{execute}
-use Rattle.step.specs.Carry.{Pushes, Goes, Writes, Carried}
+use Rattle.step.specs.Carry.{PushesAlone, GoesAlone, WritesAlone, Carried}
 
-valued-pushes : (q : Registers) (next gone : ℕ) (v : Value) → Pushes q next (valued q next gone v)
+valued-pushes : (q : Registers) (next gone : ℕ) (v : Value) → PushesAlone q next (valued q next gone v)
 valued-pushes q next gone (Word x) = (refl, refl)
 valued-pushes q next gone (Trap n) = tt
 
-kept-goes : (q : Registers) (next when d b : ℕ) → Goes q (jumpsKeeping q next when d b)
+kept-goes : (q : Registers) (next when d b : ℕ) → GoesAlone q (jumpsKeeping q next when d b)
 unfolding jumpsKeeping
-kept-goes q next when d b = either (Goes q) (ltb b 2) _ _ (either (Goes q) (eqb b when) _ _ (refl, refl, refl) (refl, refl, refl)) tt
+kept-goes q next when d b = either (GoesAlone q) (ltb b 2) _ _ (either (GoesAlone q) (eqb b when) _ _ (refl, refl, refl) (refl, refl, refl)) tt
 
 module _ (P : Program) (q : Registers) (m : List ℕ) (next : ℕ) (ws : List ℕ) where
   pub carried : (i : Instruction) → Carried (groupOf i) q next (execute P q m next ws i)
   unfolding execute loadFrom addressOf inverted jumps jumpsIfFalse storeTo
   carried (LoadConstant n) = (refl, refl)
-  carried (Load base mode n) = either (Pushes q next) (live q (baseOf q m (read ws 0) base + n) (wordsIn mode)) _ _ (refl, refl) tt
-  carried (LoadAddress base n) = either (Pushes q next) (ltb (baseOf q m (read ws 0) base + n) 0x1_0000_0000) _ _ (refl, refl) tt
-  carried (Store base mode n) = either (Writes q next) (live q (baseOf q m (read ws 0) base + n) (wordsIn mode)) _ _ (either (Writes q next) (protectsAny (P .areas) q m (baseOf q m (read ws 0) base + n) mode) _ _ tt (refl, refl)) tt
+  carried (Load base mode n) = either (PushesAlone q next) (live q (baseOf q m (read ws 0) base + n) (wordsIn mode)) _ _ (refl, refl) tt
+  carried (LoadAddress base n) = either (PushesAlone q next) (ltb (baseOf q m (read ws 0) base + n) 0x1_0000_0000) _ _ (refl, refl) tt
+  carried (Store base mode n) = either (WritesAlone q next) (live q (baseOf q m (read ws 0) base + n) (wordsIn mode)) _ _ (either (WritesAlone q next) (protectsAny (P .areas) q m (baseOf q m (read ws 0) base + n) mode) _ _ tt (refl, refl)) tt
   carried (Pop n) = (refl, refl, refl)
   carried Swap = (refl, refl)
   carried Nop = (refl, refl, refl)
@@ -45,11 +45,11 @@ module _ (P : Program) (q : Registers) (m : List ℕ) (next : ℕ) (ws : List �
   carried (CompareSigned order) = (refl, refl)
   carried (CompareUnsigned order) = (refl, refl)
   carried (Set op) = (refl, refl)
-  carried Not = either (Pushes q next) (ltb (read ws 0) 2) _ _ (refl, refl) tt
+  carried Not = either (PushesAlone q next) (ltb (read ws 0) 2) _ _ (refl, refl) tt
   carried Alloc = tt
   carried Free = tt
   carried (Jump d) = (refl, refl, refl)
-  carried (JumpC d) = either (Goes q) (ltb (read ws 0) 2) _ _ (refl, refl, refl) tt
+  carried (JumpC d) = either (GoesAlone q) (ltb (read ws 0) 2) _ _ (refl, refl, refl) tt
   carried (JumpT d) = kept-goes q next 1 d (read ws 0)
   carried (JumpF d) = kept-goes q next 0 d (read ws 0)
   carried (Iter d) = tt

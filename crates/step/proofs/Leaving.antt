@@ -27,8 +27,7 @@ use Rattle.execute.specs.Execute.{execute}
 use Rattle.step.specs.declared.Machine.{Machine}
 use Rattle.step.specs.declared.Outcome.{Outcome}
 use Rattle.step.specs.declared.Outcome.the-variants.{Went, Finished, Trapped}
-use Rattle.step.specs.Step.{After, after, trapping, pushed, written, settled, performed, stepOf}
-use Rattle.step.specs.Carry.{going}
+use Rattle.step.specs.Step.{After, after, trapping, pushed, written, settled, performed, stepOf, going}
 
 module _ (M : Machine) (m s : List ℕ) where
   -- The instruction's effect, and an effect that is carried out.

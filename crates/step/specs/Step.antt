@@ -17,6 +17,7 @@ use Rattle.effect.specs.declared.effect.Write.{Write}
 use Rattle.effect.specs.declared.effect.Write.the-variants.{NoWrite, WriteOne, WriteTwo, WriteGone}
 use Rattle.effect.specs.declared.effect.Effect.{Effect}
 use Rattle.effect.specs.declared.effect.Effect.the-variants.{Trap, Finish, Go}
+use Rattle.registers.specs.declared.Areas.{Areas}
 use Rattle.registers.specs.declared.Registers.{Registers}
 use Rattle.registers.specs.Program.{program}
 use Rattle.effect.specs.Data.{pushes}
@@ -36,8 +37,17 @@ pub record After : Type 0 where
 abbrev pub after : Stepped → List ℕ → List ℕ → After
 after r m s = record { stepped = r; memory = m; stack = s }
 
+abbrev pub machine : Areas → Registers → Machine
+machine A q = record { areas = A; registers = q }
+
 abbrev pub trapping : Machine → ℕ → Stepped
 trapping M n = record { outcome = Trapped n; machine = M }
+
+abbrev pub finishing : Machine → Stepped
+finishing M = record { outcome = Finished; machine = M }
+
+abbrev pub going : Machine → Registers → Stepped
+going M q = record { outcome = Went; machine = machine (M .areas) q }
 
 abbrev pub pushed : Push → List ℕ
 pushed NoPush = []
@@ -50,19 +60,16 @@ written m gone (WriteOne a x) = sets m a (x ∷ [])
 written m gone (WriteTwo a x y) = sets m a (x ∷ y ∷ [])
 written m gone (WriteGone a) = sets m a gone
 
-abbrev pub advanced : Machine → Registers → Machine
-advanced M q = record { areas = M .areas; registers = q }
-
 -- The effect is carried out: words go, room for the pushed ones (36 is "stack full"), then the next place (21), the code being so
 -- many bytes.
 unfoldable pub settled : ℕ → Machine → List ℕ → List ℕ → Effect → After
 settled size M m s (Trap n) = after (trapping M n) m s
-settled size M m s Finish = after (record { outcome = Finished; machine = M }) m s
+settled size M m s Finish = after (finishing M) m s
 settled size M m s (Go gone push write next) =
     let height = M .registers .height in
     cond (ltb (length s) (height - gone + pushes push)) (after (trapping M 36) m s)
     (cond (ltb (next .pc) size)
-    (after (record { outcome = Went; machine = advanced M (raised next (height - gone + pushes push)) })
+    (after (going M (raised next (height - gone + pushes push)))
     (written m (topWords gone height s) write) (sets s (height - gone) (pushed push)))
     (after (trapping M 21) m s))
 

@@ -13,8 +13,8 @@ ghost use Rattle.execute.specs.Depth.{topWords};
 ghost use Rattle.execute.specs.Execute.{execute};
 ghost use Rattle.effect.specs.Data.{pushes};
 ghost use Rattle.registers.specs.Changes.{moved, raised};
-ghost use Rattle.step.specs.Carry.{finishing, going, Pushes, Goes, Writes};
-ghost use Rattle.step.specs.Step.{after, trapping, pushed, written, settled, stepOf};
+ghost use Rattle.step.specs.Carry.{PushesAlone, GoesAlone, WritesAlone};
+ghost use Rattle.step.specs.Step.{after, trapping, pushed, written, settled, stepOf, finishing, going};
 use effect::effect::Effect;
 use effect::effect::Push;
 use effect::effect::Write;
@@ -200,7 +200,7 @@ impl Machine {
     // An effect that pushes words and goes on to `next`.
     fn gave(mut self, size: usize, stack: &mut [u32], next: u32, e: Effect) -> Stepped
         requires { ⌜ length (now stack) ≤ 1024 ⌝ }
-        requires { ⌜ Pushes (self .registers) next e ⌝ }
+        requires { ⌜ PushesAlone (self .registers) next e ⌝ }
         ensures { λ r. ⌜ ((m : List ℕ) → after r m (now (stack .exit)) ≡ settled size self m (now (stack .entry)) e) ⌝ }
     {
         match e {
@@ -223,7 +223,7 @@ impl Machine {
 
     // An effect that goes to a place.
     fn went(mut self, size: usize, e: Effect) -> Stepped
-        requires { ⌜ Goes (self .registers) e ⌝ }
+        requires { ⌜ GoesAlone (self .registers) e ⌝ }
         ensures { λ r. ⌜ ((m s : List ℕ) → self .registers .height ≤ length s → after r m s ≡ settled size self m s e) ⌝ }
     {
         match e {
@@ -250,7 +250,7 @@ impl Machine {
     ) -> Stepped
         requires { ⌜ length (now stack) ≤ 1024 ⌝ }
         requires { ⌜ self .registers .height ≤ length (now stack) ⌝ }
-        requires { ⌜ Writes (self .registers) next e ⌝ }
+        requires { ⌜ WritesAlone (self .registers) next e ⌝ }
         ensures { λ r. ⌜ after r (now (memory .exit)) (now (stack .entry)) ≡ settled size self (now (memory .entry)) (now (stack .entry)) e ⌝ }
     {
         match e {

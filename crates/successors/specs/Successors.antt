@@ -3,7 +3,7 @@ use mathlib.Core.List.{List, [], _∷_}
 use Prim.Native.Nat.{ℕ, _+_}
 use Rattle.words.specs.Series.{series}
 use Rattle.operand.specs.Distance.{placeAt}
-use Rattle.switch_table.specs.Switch.{exitDistance, elseDistance, branchDistance, rangeDistance, orElse}
+use Rattle.switch_table.specs.Switch.{exitLabel, elseDistance, branchDistance, rangeDistance, orElse}
 use Rattle.shape.specs.declared.Shape.{Shape}
 use Rattle.shape.specs.declared.Shape.the-variants.{Straight, Drop, Goto, Branch, Keep, Loop, Again, Select, Exit, Invoke, Begin, Return}
 use Rattle.shape.specs.declared.Table.{Table}
@@ -22,10 +22,6 @@ tableTarget code at Ranges k = at + orElse (rangeDistance code at k) (elseDistan
 -- Where n branches from k on go.
 abbrev pub tableFrom : List ℕ → ℕ → Table → ℕ → ℕ → List ℕ
 tableFrom code at t k n = series (tableTarget code at t) 1 k n
-
--- The label of a switch, where its LEAVE goes.
-abbrev pub exitLabel : List ℕ → ℕ → ℕ
-exitLabel code at = at + exitDistance code at
 
 -- The ELSE part, then every branch of the table.
 unfoldable pub selectTargets : List ℕ → ℕ → Table → ℕ → List ℕ

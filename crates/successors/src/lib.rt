@@ -2,8 +2,8 @@
 ghost use mathlib.Core.Path.{_≡_};
 ghost use Prim.Native.Nat.{_<_, _+_};
 ghost use Rattle.operand.specs.Distance.{placeAt};
-ghost use Rattle.switch_table.specs.Switch.{elseDistance};
-ghost use Rattle.successors.specs.Successors.{tableSize, tableTarget, exitLabel};
+ghost use Rattle.switch_table.specs.Switch.{elseDistance, exitLabel};
+ghost use Rattle.successors.specs.Successors.{tableSize, tableTarget};
 use shape::Table;
 
 // The place at a distance from an offset of the code.

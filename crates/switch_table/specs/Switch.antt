@@ -16,6 +16,10 @@ exitDistance code at = halfwordAt code (at + 3)
 unfoldable pub elseDistance : List ℕ → ℕ → ℕ
 elseDistance code at = halfwordAt code (at + 5)
 
+-- The exit label of a switch, which it pushes and where its LEAVE goes.
+abbrev pub exitLabel : List ℕ → ℕ → ℕ
+exitLabel code at = at + exitDistance code at
+
 -- SWITCH: the distance to branch k of 0 .. n.
 unfoldable pub branchDistance : List ℕ → ℕ → ℕ → ℕ
 branchDistance code at k = halfwordAt code (at + 7 + 2 * k)

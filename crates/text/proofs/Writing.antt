@@ -12,7 +12,7 @@ use lib.Seq.{length-sets, drop-cons}
 use Rattle.words.proofs.Tests.{either}
 use Rattle.words.proofs.Sets.{sets-then}
 use Rattle.words.proofs.Arms.{Other, past}
-use Rattle.text.specs.Text.{power, digits, width, decimal, wordsText, labelled, Wrote}
+use Rattle.text.specs.Text.{power, digits, width, decimal, wordsText, numbered, Wrote}
 
 -- A piece behind a piece.
 pub wrote-then : {a b c x y : List ℕ} {at r q : ℕ} → Wrote a at x r b → Wrote b r y q c → Wrote a at (x ++ y) q c
@@ -103,9 +103,9 @@ unfolding decimal
 decimal-short n = rw (length-digits (width n) n) (width-bounds n .1)
 
 -- A number is at most ten bytes behind its text.
-pub label-ends : (text : List ℕ) (n : ℕ) {a b : List ℕ} {at q : ℕ} → Wrote a at (labelled text n) q b → q ≤ at + length text + 10
-unfolding labelled
-label-ends text n w = omega (arith, w .ends, length-append text (decimal n), decimal-short n)
+pub number-ends : (text : List ℕ) (n : ℕ) {a b : List ℕ} {at q : ℕ} → Wrote a at (numbered text n) q b → q ≤ at + length text + 10
+unfolding numbered
+number-ends text n w = omega (arith, w .ends, length-append text (decimal n), decimal-short n)
 
 pub words-short : (xs : List ℕ) → length (wordsText xs) ≤ 11 * length xs
 words-short [] = omega arith

@@ -61,16 +61,16 @@ unfoldable pub listLine : ℕ → List ℕ → List ℕ
 listLine letter xs = letter ∷ (wordsText xs ++ newline)
 
 -- A number behind its text.
-unfoldable pub labelled : List ℕ → ℕ → List ℕ
-labelled text n = text ++ decimal n
+unfoldable pub numbered : List ℕ → ℕ → List ℕ
+numbered text n = text ++ decimal n
 
 unfoldable pub checkLine : ℕ → List ℕ
-checkLine n = labelled checkText n ++ newline
+checkLine n = numbered checkText n ++ newline
 
 -- An end, its place and line, and the completed steps.
 unfoldable pub endLine : ℕ → ℕ → ℕ → ℕ → List ℕ
 endLine end place line steps =
-    labelled endText end ++ (labelled atText place ++ (labelled lineText line ++ (labelled stepsText steps ++ newline)))
+    numbered endText end ++ (numbered atText place ++ (numbered lineText line ++ (numbered stepsText steps ++ newline)))
 
 -- A text written from a place on, as far as there is room, and the place behind it.
 pub record Wrote (before : List ℕ) (at : ℕ) (text : List ℕ) (next : ℕ) (after : List ℕ) : Type 0 where

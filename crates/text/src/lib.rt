@@ -2,7 +2,7 @@
 ghost use mathlib.Core.Path.{_≡_};
 ghost use Prim.Native.Nat.{_≤_, _<_};
 ghost use lib.ListN.{length, set};
-ghost use Rattle.text.specs.Text.{power, width, decimal, wordsText, listLine, labelled, checkLine, endLine, Wrote};
+ghost use Rattle.text.specs.Text.{power, width, decimal, wordsText, listLine, numbered, checkLine, endLine, Wrote};
 
 fn put_byte(out: &mut [u8], at: usize, b: u8)
     ensures { λ _. ⌜ now (out .exit) ≡ set (now (out .entry)) at b ⌝ }
@@ -114,10 +114,10 @@ pub fn put_list(out: &mut [u8], at: usize, letter: u8, xs: &[u32]) -> usize
 }
 
 // A number behind its text.
-fn put_labelled(out: &mut [u8], at: usize, s: &[u8], n: u32) -> usize
+fn put_numbered(out: &mut [u8], at: usize, s: &[u8], n: u32) -> usize
     requires { ⌜ at ≤ 3000000 ⌝ }
     requires { ⌜ length (now s) ≤ 100 ⌝ }
-    ensures { λ r. ⌜ Wrote (now (out .entry)) at (labelled (now (s .entry)) n) r (now (out .exit)) ⌝ }
+    ensures { λ r. ⌜ Wrote (now (out .entry)) at (numbered (now (s .entry)) n) r (now (out .exit)) ⌝ }
 {
     let number = put_bytes(out, at, s);
     put_number(out, number, n)
@@ -127,7 +127,7 @@ pub fn put_check(out: &mut [u8], at: usize, n: u32) -> usize
     requires { ⌜ at ≤ 1000000 ⌝ }
     ensures { λ r. ⌜ Wrote (now (out .entry)) at (checkLine n) r (now (out .exit)) ⌝ }
 {
-    let place = put_labelled(out, at, b"check ", n);
+    let place = put_numbered(out, at, b"check ", n);
     put_bytes(out, place, b"\n")
 }
 
@@ -135,9 +135,9 @@ pub fn put_end(out: &mut [u8], at: usize, end: u32, place: u32, line: u32, steps
     requires { ⌜ at ≤ 1000000 ⌝ }
     ensures { λ r. ⌜ Wrote (now (out .entry)) at (endLine end place line steps) r (now (out .exit)) ⌝ }
 {
-    let after_end = put_labelled(out, at, b"end ", end);
-    let after_place = put_labelled(out, after_end, b" at ", place);
-    let after_line = put_labelled(out, after_place, b" line ", line);
-    let after_steps = put_labelled(out, after_line, b" steps ", steps);
+    let after_end = put_numbered(out, at, b"end ", end);
+    let after_place = put_numbered(out, after_end, b" at ", place);
+    let after_line = put_numbered(out, after_place, b" line ", line);
+    let after_steps = put_numbered(out, after_line, b" steps ", steps);
     put_bytes(out, after_steps, b"\n")
 }

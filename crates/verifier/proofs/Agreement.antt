@@ -14,7 +14,8 @@ use Rattle.operand.specs.Distance.{placeAt}
 use Rattle.shape.specs.declared.Shape.{Shape}
 use Rattle.shape.specs.declared.Shape.the-variants.{Straight, Drop, Goto, Branch, Keep, Loop, Again, Select, Exit, Invoke, Begin, Return}
 use Rattle.shape.specs.declared.Table.{Table}
-use Rattle.successors.specs.Successors.{exitLabel, selectTargets}
+use Rattle.successors.specs.Successors.{selectTargets}
+use Rattle.switch_table.specs.Switch.{exitLabel}
 use Rattle.stackmap.specs.Slots.{Slot, word, label, pushWords, popWords, dropSlots, isWords, topOrigin}
 use Rattle.stackmap.specs.Ways.{Module, Way, _gets_, isLoop, isSelect, after, both, toAll, straight, again, exit, ways, parametersIn, resultsIn}
 use Rattle.stackmap.specs.StackMap.{Map}

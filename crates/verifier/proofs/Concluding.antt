@@ -17,7 +17,7 @@ use Rattle.faults.specs.Faults.{codeNumber}
 use Rattle.layout.specs.Workspace.{marksIn, markAll}
 use Rattle.layout.proofs.Cutting.{Cutted, cutting-starts}
 use Rattle.layout.proofs.Marking.{marking-cuts, marking-refuses, marking-keeps-length, marking-keeps-others}
-use Rattle.stackmap.specs.Theorems.{Sound}
+use Rattle.stackmap.specs.Theorems.{WellCut}
 use Rattle.stackmap.specs.Walk.{States, blank, walkOf}
 use Rattle.verifier.specs.Check.{moduleOf, refuted, walked, verdictOf, concluded, shownFrom}
 use Rattle.workspace.specs.Checking.{checking}
@@ -29,7 +29,7 @@ use Rattle.verifier.proofs.Showing.{unmarked-shows}
 
 -- What a cut of sound entries gives to the walk.
 pub sound : (code results : List ℕ) (marks : Marks) → entriesSound code ≡ true → Bytes code → cutOf code ≡ cut marks
-    → Sound (moduleOf code results marks)
+    → WellCut (moduleOf code results marks)
 sound code results marks e b c =
     let C : Cutted code marks = cutting-starts code marks e c in
     record { counted = C .some; entries = C .entered; procedures = C .counted; within = C .inside; bytes = b }

@@ -11,7 +11,7 @@ use lib.ListN.{length, getD, drop, List·getD-append}
 use borrow.Author.Tests.{le-ltb}
 use Rattle.header.specs.Header.{codeOf}
 use Rattle.stackmap.specs.Slots.{Slot}
-use Rattle.stackmap.specs.Theorems.{Sound, mapIn}
+use Rattle.stackmap.specs.Theorems.{WellCut, mapIn}
 use Rattle.stackmap.specs.Walk.{State, States, slotsIn, blank, waiting, done, walkOf}
 use Rattle.stackmap.proofs.Placing.{in-told}
 use Rattle.stackmap.proofs.Exact.{finds-maps, refutes-maps, finds-reached, has-reached}
@@ -36,7 +36,7 @@ module _ (r results w : List ℕ) where
   abbrev code : List ℕ
   code = codeOf r
 
-  ruled-sound : Bytes r → (R : Ruled r results) → Sound (subject r results R)
+  ruled-sound : Bytes r → (R : Ruled r results) → WellCut (subject r results R)
   ruled-sound b R = sound code results (R .marks) (numberless r (R .record-sound) .entries) (code-bytes r b) (R .is-cut)
 
   no-number : Room r w → Ruled r results → listNumber r results (length w) ≡ 0

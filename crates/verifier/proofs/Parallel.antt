@@ -15,7 +15,7 @@ use Rattle.stackmap.specs.Slots.{Slot, sameSlots, topOrigin}
 use Rattle.stackmap.specs.Ways.{Module, Way, _gets_, toAll}
 use Rattle.stackmap.specs.StackMap.{Map}
 use Rattle.stackmap.specs.Walk.{State, blank, waiting, done, States, slotsIn, mapOf, taken, handed, thenHand, handedAll, passed}
-use Rattle.stackmap.specs.Theorems.{Sound}
+use Rattle.stackmap.specs.Theorems.{WellCut}
 use Rattle.words.proofs.Tests.{by-test}
 use Rattle.layout.proofs.Updates.{Change, changed, spared, change}
 use Rattle.stackmap.proofs.Comparing.{slots-equal, slots-same}
@@ -78,7 +78,7 @@ pair-same code π l k c d = by (sameSlots l k) refl
         rw (same, eq-eqb (length k + 1) (length k + 1) refl, eq-eqb (topOrigin k) (topOrigin k) refl)
     by false e = told (eqb (length l + 1) (length k + 1)) (eqb (topOrigin l) (topOrigin k)) refl refl e
 
-module _ (M : Module) (S : Sound M) (p : ℕ) where
+module _ (M : Module) (S : WellCut M) (p : ℕ) where
   module _ (w : List ℕ) (σ : States) (from : ℕ) (X : Sim M w σ from) (t : ℕ) (k : List Slot) (c : Coherent (M .code) (mapOf σ) k) where
     module _ (h : t < length (M .code)) where
       -- A blank offset takes the list.

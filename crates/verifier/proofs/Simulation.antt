@@ -12,7 +12,7 @@ use Rattle.layout.specs.Workspace.{marksIn}
 use Rattle.stackmap.specs.Slots.{Slot}
 use Rattle.stackmap.specs.Ways.{Module}
 use Rattle.stackmap.specs.Walk.{State, blank, waiting, done, States, Found, thenHand, visitNext, walk, firstStates, walkOf}
-use Rattle.stackmap.specs.Theorems.{Sound}
+use Rattle.stackmap.specs.Theorems.{WellCut}
 use Rattle.stackmap.proofs.Exact.{final}
 use Rattle.verifier.specs.Check.{moduleOf}
 use Rattle.verifier.specs.Handing.{Handing, Walking, walking, thenWalk, visitFirst, walkTop, walkedTop}
@@ -57,7 +57,7 @@ third-cleared blank free = refl
 third-cleared (waiting l) free = absurd (free l refl)
 third-cleared (done l) free = refl
 
-ending-alike : (M : Module) (w : List ℕ) → Sound M → {W : Walking} (o : Option States) → walkOf M ≡ o → Ending M w W o → Alike M w W
+ending-alike : (M : Module) (w : List ℕ) → WellCut M → {W : Walking} (o : Option States) → walkOf M ≡ o → Ending M w W o → Alike M w W
 ending-alike M w S none e (both-refuse k) =
     record { sized = k; refused = λ g. refl; accepted = λ σ g. absurd (Option·none-ne-some σ (sym e ∙ g)) }
 ending-alike M w S (some τ) e (both-accept {v} k H) =
@@ -73,7 +73,7 @@ ending-alike M w S (some τ) e (both-accept {v} k H) =
           });
     }
 
-walk-alike : (M : Module) → Sound M → (n : ℕ) (w : List ℕ) (σ : States) (from : ℕ) → Sim M w σ from
+walk-alike : (M : Module) → WellCut M → (n : ℕ) (w : List ℕ) (σ : States) (from : ℕ) → Sim M w σ from
     → Ending M w (walkTop (M .code) (M .results) n from w) (walk M n σ)
 walk-alike M S zero w σ from X = both-accept refl (X .held)
 walk-alike M S (suc n) w σ from X =
@@ -88,7 +88,7 @@ walk-alike M S (suc n) w σ from X =
         (ending-then (walkTop (M .code) (M .results) n) (walk M n)
         (visit-alike M S w σ from X at l h e c) go)
 
-pub walks-alike : (code results : List ℕ) (marks : Marks) (w : List ℕ) → Sound (moduleOf code results marks)
+pub walks-alike : (code results : List ℕ) (marks : Marks) (w : List ℕ) → WellCut (moduleOf code results marks)
     → 4 * length code ≤ length w → ((at : ℕ) → at < length code → Shown w at blank) → ((at : ℕ) → marksIn w (length code) at ≡ marks at)
     → Alike (moduleOf code results marks) w (walkedTop code results w)
 unfolding walkedTop walkOf

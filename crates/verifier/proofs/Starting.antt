@@ -12,7 +12,7 @@ use Rattle.stackmap.specs.Slots.{Slot, pushWords}
 use Rattle.stackmap.specs.Ways.{Module, parametersIn}
 use Rattle.stackmap.specs.StackMap.{Map}
 use Rattle.stackmap.specs.Walk.{blank, waiting, States, mapOf, entriesWait, firstStates}
-use Rattle.stackmap.specs.Theorems.{Sound}
+use Rattle.stackmap.specs.Theorems.{WellCut}
 use Rattle.stackmap.proofs.Entering.{entering}
 use Rattle.stackmap.proofs.Pushing.{words-height, pushed-origin}
 use Rattle.stackmap.proofs.Placing.{told-change}
@@ -46,7 +46,7 @@ module _ (M : Module) (start w : List ℕ) (σ : States) (F : Fresh M start w σ
             (λ (at : ℕ) (l : List Slot). (π : Map) → Coherent (M .code) π l) (λ π. pushed n [] on-nothing) (F .free);
       }
 
-module _ (M : Module) (S : Sound M) (start : List ℕ) where
+module _ (M : Module) (S : WellCut M) (start : List ℕ) where
   enter-one : (p : ℕ) (w : List ℕ) (σ : States) → p < entryCount (M .code) → Fresh M start w σ
       → Fresh M start (entryGiven (M .code) p w) (entering M p σ)
   unfolding entryGiven
@@ -62,7 +62,7 @@ module _ (M : Module) (S : Sound M) (start : List ℕ) where
 abbrev pub firstSpace : List ℕ → List ℕ → List ℕ
 firstSpace code w = entriesGiven code 1 (entryCount code - 1) w
 
-pub start-alike : (M : Module) (w : List ℕ) → Sound M → 4 * length (M .code) ≤ length w
+pub start-alike : (M : Module) (w : List ℕ) → WellCut M → 4 * length (M .code) ≤ length w
     → ((at : ℕ) → at < length (M .code) → Shown w at blank) → ((at : ℕ) → marksIn w (length (M .code)) at ≡ M .marks at)
     → (length (firstSpace (M .code) w) ≡ length w) × Sim M (firstSpace (M .code) w) (firstStates M) 0
 start-alike M w S room blanks marks =

@@ -18,7 +18,7 @@ use Rattle.stackmap.specs.Slots.{Slot, topOrigin}
 use Rattle.stackmap.specs.Ways.{Module}
 use Rattle.stackmap.specs.StackMap.{waysOf, waysAt}
 use Rattle.stackmap.specs.Walk.{waiting, done, States, slotsIn, mapOf, passed, visited}
-use Rattle.stackmap.specs.Theorems.{Sound}
+use Rattle.stackmap.specs.Theorems.{WellCut}
 use Rattle.layout.proofs.Updates.{Change, changed, spared, change}
 use Rattle.stackmap.proofs.Counts.{done-waits}
 use Rattle.stackmap.proofs.Placing.{owner, Grows, grows-change}
@@ -31,7 +31,7 @@ use Rattle.verifier.proofs.Fields.{Within, within-set}
 use Rattle.verifier.proofs.Keeping.{Clear, Sim, shows-map, sim-change, all-grow}
 use Rattle.verifier.proofs.Parallel.{Parallel, both-stop, parallel-after, ways-alike}
 
-module _ (M : Module) (S : Sound M) (w : List ℕ) (σ : States) (from : ℕ) (X : Sim M w σ from) (at : ℕ) (l : List Slot)
+module _ (M : Module) (S : WellCut M) (w : List ℕ) (σ : States) (from : ℕ) (X : Sim M w σ from) (at : ℕ) (l : List Slot)
     (h : at < length (M .code)) (waits : σ at ≡ waiting l) (c : Clear σ at) where
   has : mapOf σ at ≡ some l
   has = ap slotsIn waits

@@ -27,7 +27,7 @@ unfoldable pub resultsSound : List ℕ → List ℕ → Bool
 resultsSound code results =
     eqb (length results) (entryCount code) && (eqb (getD results 0 0) 0 && allAtMost 2 results)
 
--- Numbers 1 to 9 for a workspace of so many halfwords; 8: "workspace under four halfwords per code byte".
+-- 8 and 9, after the record's 1 to 7, for a workspace of so many halfwords; 8: "workspace under four halfwords per code byte".
 abbrev pub listTests : List ℕ → List ℕ → ℕ → List Test
 listTests r results room = 8 when ltb room (4 * length (codeOf r)) ∷ 9 when not (resultsSound (codeOf r) results) ∷ []
 

@@ -39,26 +39,26 @@ abbrev pub Unmapped : (r results : List ℕ) → Ruled r results → Type 0
 Unmapped r results R = (p : ℕ) × (p < entryCount (codeOf r)) × ((π : Map) → IsMap (subject r results R) p π → ⊥)
 
 -- The check answers a number: then there is room, the rules up to 14 are met and a property holds; and the other way round.
-abbrev pub GivesOnly : ℕ → ((r results : List ℕ) → Ruled r results → Type 0) → Type 0
-GivesOnly number Property =
+abbrev pub AnswersOnly : ℕ → ((r results : List ℕ) → Ruled r results → Type 0) → Type 0
+AnswersOnly number Property =
     (r results w : List ℕ) → Bytes r → checkOf r results w .number ≡ number → Room r w × (R : Ruled r results) × Property r results R
 
-abbrev pub GivesAll : ℕ → ((r results : List ℕ) → Ruled r results → Type 0) → Type 0
-GivesAll number Property =
+abbrev pub AnswersAll : ℕ → ((r results : List ℕ) → Ruled r results → Type 0) → Type 0
+AnswersAll number Property =
     (r results w : List ℕ) → Bytes r → Room r w → (R : Ruled r results) → Property r results R → checkOf r results w .number ≡ number
 
 -- Accepted exactly when every region has a map; 15 exactly when some region has none.
 abbrev pub AcceptsOnly : Type 0
-AcceptsOnly = GivesOnly 0 Mapped
+AcceptsOnly = AnswersOnly 0 Mapped
 
 abbrev pub AcceptsAll : Type 0
-AcceptsAll = GivesAll 0 Mapped
+AcceptsAll = AnswersAll 0 Mapped
 
 abbrev pub RefusesOnly : Type 0
-RefusesOnly = GivesOnly 15 Unmapped
+RefusesOnly = AnswersOnly 15 Unmapped
 
 abbrev pub RefusesAll : Type 0
-RefusesAll = GivesAll 15 Unmapped
+RefusesAll = AnswersAll 15 Unmapped
 
 -- After acceptance the workspace shows the map of just what is reached: height plus 1 and the topmost label where there is a list, and
 -- 0 and 0 at every other offset.

@@ -21,7 +21,7 @@ abbrev pub afterWalk : List ℕ → Walking → Checking
 afterWalk code a =
     cond (a .accepts) (checking 0 (unmarked 0 (length code) (a .workspace))) (checking 15 (zeroed (a .workspace)))
 
--- A number ends the check, and what is left is zeroes; without one it goes on.
+-- A number ends the check, and what is left is zeros; without one it goes on.
 abbrev pub unless : List ℕ → ℕ → Checking → Checking
 unless w number onward = cond (eqb number 0) onward (checking number (zeroed w))
 

@@ -19,7 +19,7 @@ use Rattle.compact_ways.specs.declared.Way.{Way}
 use Rattle.compact_ways.specs.declared.Ways.{Ways}
 use Rattle.compact_ways.specs.declared.Ways.the-variants.{Broken, Ended, One, Two, Many}
 use Rattle.compact.specs.Tops.{top}
-use Rattle.compact_ways.specs.Ways.{way, waysTop}
+use Rattle.compact_ways.specs.Ways.{toward, waysTop}
 use Rattle.verifier.specs.declared.hand.Handed.{Handed}
 use Rattle.verifier.specs.declared.hand.Handed.the-variants.{Stuck, From}
 
@@ -62,7 +62,7 @@ handedTwo size p a b from w =
 abbrev pub handedTargets : ℕ → ℕ → Top → List ℕ → ℕ → List ℕ → Handing
 handedTargets size p t [] from w = handing (From from) w
 handedTargets size p t (place ∷ places) from w =
-    let h = handedTop size p (way place (t .height) (t .origin)) from w in
+    let h = handedTop size p (toward place t) from w in
     thenHanding (handedTargets size p t places) (h .answer) (h .workspace)
 
 unfoldable pub handedWays : List ℕ → ℕ → ℕ → Ways → ℕ → List ℕ → Handing

@@ -18,14 +18,14 @@ jump-to-requires c κs = search needs
 
 returns-2 : tie.Need-returns-2
 unfolding jumpsKeeping
-returns-2 c = rw (lt-ltb (c .before .before .before .before .args .b) 2 (omega arith), eq-eqb (c .before .before .before .before .args .b) (c .before .before .before .before .args .when) (c .before .before .if2 .taken), c .jump-to .ensures, c .before .place-at .ensures)
+returns-2 c = rw (lt-ltb (c .before .before .before .before .args .b) 2 (omega arith), eq-eqb (c .before .before .before .before .args .b) (c .before .before .before .before .args .truth) (c .before .before .if2 .taken), c .jump-to .ensures, c .before .place-at .ensures)
 
 jump-to-requires-2 : tie.Need-jump-to-requires-2
 jump-to-requires-2 c κs = search needs
 
 returns-3 : tie.Need-returns-3
 unfolding jumpsKeeping
-returns-3 c = rw (lt-ltb (c .before .before .before .args .b) 2 (omega arith), ne-eqb (c .before .before .before .args .b) (c .before .before .before .args .when) (c .before .if2 .left), c .jump-to2 .ensures)
+returns-3 c = rw (lt-ltb (c .before .before .before .args .b) 2 (omega arith), ne-eqb (c .before .before .before .args .b) (c .before .before .before .args .truth) (c .before .if2 .left), c .jump-to2 .ensures)
 
 pub jumps-keeping-spec : {M : Type 1} → statement M
 jumps-keeping-spec =

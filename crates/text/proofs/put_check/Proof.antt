@@ -1,36 +1,36 @@
 -- `text::put_check` meets its contract: its pieces stand one behind the other.
 use native.Mathlib.Omega.{arith}
 use borrow.Author.Needs.{needs}
-use Rattle.text.proofs.Writing.{wrote-then, label-ends}
+use Rattle.text.proofs.Writing.{wrote-then, number-ends}
 use Rattle.text.specs.Text.{checkLine}
 use Rattle.text.proofs.put_check.Statement.{statement}
 use Rattle.text.proofs.put_check.Tie as tie
 
-slice-aggregate-put-labelled : tie.Need-slice-aggregate-put-labelled
-slice-aggregate-put-labelled c = search needs
+slice-aggregate-put-numbered : tie.Need-slice-aggregate-put-numbered
+slice-aggregate-put-numbered c = search needs
 
-put-labelled-requires : tie.Need-put-labelled-requires
-put-labelled-requires c κs = search needs
+put-numbered-requires : tie.Need-put-numbered-requires
+put-numbered-requires c κs = search needs
 
 slice-aggregate-put-bytes : tie.Need-slice-aggregate-put-bytes
 slice-aggregate-put-bytes c = search needs
 
 put-bytes-requires : tie.Need-put-bytes-requires
-put-bytes-requires c κs = omega (arith, label-ends _ _ (c .before .before .before .before .put-labelled .ensures))
+put-bytes-requires c κs = omega (arith, number-ends _ _ (c .before .before .before .before .put-numbered .ensures))
 
 same-length : tie.Need-same-length
 same-length c = search needs
 
 returns : tie.Need-returns
 unfolding checkLine
-returns c = wrote-then (c .before .before .before .before .before .before .before .put-labelled .ensures) (c .before .before .put-bytes .ensures)
+returns c = wrote-then (c .before .before .before .before .before .before .before .put-numbered .ensures) (c .before .before .put-bytes .ensures)
 
 pub put-check-spec : {M : Type 1} → statement M
 put-check-spec =
     tie.close
     (tie.spec
-    slice-aggregate-put-labelled
-    put-labelled-requires
+    slice-aggregate-put-numbered
+    put-numbered-requires
     slice-aggregate-put-bytes
     put-bytes-requires
     same-length

@@ -1,9 +1,9 @@
--- `text::put_labelled` meets its contract: the number stands behind the text.
+-- `text::put_numbered` meets its contract: the number stands behind the text.
 use borrow.Author.Needs.{needs}
-use Rattle.text.specs.Text.{labelled}
+use Rattle.text.specs.Text.{numbered}
 use Rattle.text.proofs.Writing.{wrote-then}
-use Rattle.text.proofs.put_labelled.Statement.{statement}
-use Rattle.text.proofs.put_labelled.Tie as tie
+use Rattle.text.proofs.put_numbered.Statement.{statement}
+use Rattle.text.proofs.put_numbered.Tie as tie
 
 put-bytes-requires : tie.Need-put-bytes-requires
 put-bytes-requires c κs = search needs
@@ -15,8 +15,8 @@ same-length : tie.Need-same-length
 same-length c = search needs
 
 returns : tie.Need-returns
-unfolding labelled
+unfolding numbered
 returns c = wrote-then (c .before .before .before .before .before .before .put-bytes .ensures) (c .before .before .put-number .ensures)
 
-pub put-labelled-spec : {M : Type 1} → statement M
-put-labelled-spec = tie.close (tie.spec put-bytes-requires put-number-requires same-length returns)
+pub put-numbered-spec : {M : Type 1} → statement M
+put-numbered-spec = tie.close (tie.spec put-bytes-requires put-number-requires same-length returns)
