@@ -6,7 +6,8 @@ use Prim.Native.Nat.{ℕ, _+_}
 use lib.Dec.{eqb, ltb, leb}
 use Rattle.words.specs.Bytes.{byteAt}
 use Rattle.operand.specs.Operand.{operand, operand2}
-use Rattle.opcode.specs.Table.{Row, row, unserved, doubleCode, rowOf}
+use Rattle.opcode.specs.Table.{Row, row, unserved, rowOf}
+use Rattle.opcode.specs.Codes.{doubleCode}
 use Rattle.opcode.specs.Length.{lengthIn}
 use Rattle.opcode.specs.declared.Decoded.{Decoded}
 use Rattle.opcode.specs.declared.Decoded.the-variants.{Unserved, Past, At}

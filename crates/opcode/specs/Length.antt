@@ -5,7 +5,8 @@ use Prim.Native.Nat.{ℕ, _+_, _*_}
 use lib.Dec.{eqb}
 use Rattle.words.specs.Bytes.{byteAt}
 use Rattle.operand.specs.Operand.{extent, fixedOf, eachOf}
-use Rattle.opcode.specs.Table.{Row, row, unserved, doubleCode, rowOf, Modes, normal, both, allows}
+use Rattle.opcode.specs.Table.{Row, row, unserved, rowOf, Modes, normal, both, allows}
+use Rattle.opcode.specs.Codes.{doubleCode}
 use Rattle.opcode.specs.declared.instruction.Mode.{Mode}
 use Rattle.opcode.specs.declared.instruction.Mode.the-variants.{Normal, Double}
 

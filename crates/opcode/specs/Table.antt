@@ -4,7 +4,8 @@ use mathlib.Core.Bool.{Bool, true, false, cond}
 use mathlib.Core.List.{List, [], _∷_}
 use Prim.Native.Nat.{ℕ, _/_}
 use lib.Dec.{eqb, ltb}
-use Rattle.operand.specs.Operand.{Operands, none, digit, unsigned, signed, bytes, table, b, h, w}
+use Rattle.operand.specs.Operand.{Operands, none, digit, unsigned, signed, table, b, h, w}
+use Rattle.opcode.specs.Codes.{iterCode, switchCode, switchXCode, iterOperands, enterOperands}
 use Rattle.opcode.specs.declared.instruction.Mode.{Mode}
 use Rattle.opcode.specs.declared.instruction.Mode.the-variants.{Normal, Double}
 use Rattle.opcode.specs.declared.instruction.Base.the-variants.{Local, Global, Constant, Popped}
@@ -30,25 +31,6 @@ pub data Row : Type 0 where
 
 pub data Entry : Type 0 where
   entry : ℕ → Row → Entry
-
--- Codes and operands that other definitions name too: the prefix DOUBLE, what pushes labels, and ENTER.
-abbrev pub doubleCode : ℕ
-doubleCode = 0xF5
-
-abbrev pub iterCode : ℕ
-iterCode = 0xE0
-
-abbrev pub switchCode : ℕ
-switchCode = 0xE2
-
-abbrev pub switchXCode : ℕ
-switchXCode = 0xE3
-
-abbrev pub iterOperands : Operands
-iterOperands = unsigned h
-
-abbrev pub enterOperands : Operands
-enterOperands = bytes
 
 -- 5.2.4.1, by the first digit of the code.
 abbrev pub shortTable : List Entry

@@ -9,7 +9,8 @@ use borrow.Author.Tests.{ne-eqb, eqb-true}
 use lib.Dec.{eqb}
 use Rattle.words.specs.Bytes.{byteAt}
 use Rattle.operand.specs.Operand.{operand, operand2}
-use Rattle.opcode.specs.Table.{Row, row, unserved, allows, Entry, entry, rowOf, iterCode, switchCode, switchXCode, enterOperands}
+use Rattle.opcode.specs.Table.{Row, row, unserved, allows, Entry, entry, rowOf}
+use Rattle.opcode.specs.Codes.{iterCode, switchCode, switchXCode, enterOperands}
 use Rattle.opcode.specs.Table.{shortTable, dataTable, operationTable, controlTable}
 use Rattle.opcode.specs.Length.{lengthOf, lengthIn}
 use Rattle.opcode.specs.Decode.{made, instructionAt, decodeAt}

@@ -11,7 +11,7 @@ use Rattle.words.specs.Bytes.{byteAt}
 use Rattle.entries.specs.Entries.{entryAt}
 use Rattle.operand.specs.Operand.{fixedOf, operand}
 use Rattle.operand.specs.Distance.{placeAt}
-use Rattle.opcode.specs.Table.{iterCode, switchCode, switchXCode, iterOperands, enterOperands}
+use Rattle.opcode.specs.Codes.{iterCode, switchCode, switchXCode, iterOperands, enterOperands}
 use Rattle.shape.specs.declared.Shape.{Shape}
 use Rattle.shape.specs.declared.Shape.the-variants.{Straight, Drop, Goto, Branch, Keep, Loop, Again, Select, Exit, Invoke, Begin, Return}
 use Rattle.layout.specs.Cut.{Marks}

@@ -11,174 +11,6 @@ use borrow.Author.Needs.{needs}
 use Rattle.execute.proofs.given_effect.Statement.{statement}
 use Rattle.execute.proofs.given_effect.Tie as tie
 
-enum-known-i : tie.Need-enum-known-i
-enum-known-i c = search needs
-
-given-requires : tie.Need-given-requires
-given-requires c κs = search needs
-
-enum-known-i-2 : tie.Need-enum-known-i-2
-enum-known-i-2 c = search needs
-
-top-word-requires : tie.Need-top-word-requires
-top-word-requires c κs = search needs
-
-load-effect-requires : tie.Need-load-effect-requires
-load-effect-requires c κs = search needs
-
-enum-known-i-3 : tie.Need-enum-known-i-3
-enum-known-i-3 c = search needs
-
-top-word-requires-2 : tie.Need-top-word-requires-2
-top-word-requires-2 c κs = search needs
-
-address-effect-requires : tie.Need-address-effect-requires
-address-effect-requires c κs = search needs
-
-enum-told : tie.Need-enum-told
-enum-told c = search needs
-
-top-word-requires-3 : tie.Need-top-word-requires-3
-top-word-requires-3 c κs = search needs
-
-second-word-requires : tie.Need-second-word-requires
-second-word-requires c κs = search needs
-
-moved-requires : tie.Need-moved-requires
-moved-requires c κs = search needs
-
-enum-known-i-4 : tie.Need-enum-known-i-4
-enum-known-i-4 c = search needs
-
-second-word-requires-2 : tie.Need-second-word-requires-2
-second-word-requires-2 c κs = search needs
-
-top-word-requires-4 : tie.Need-top-word-requires-4
-top-word-requires-4 c κs = search needs
-
-signed-value-requires : tie.Need-signed-value-requires
-signed-value-requires c κs = search needs
-
-valued-requires : tie.Need-valued-requires
-valued-requires c κs = search needs
-
-enum-known-i-5 : tie.Need-enum-known-i-5
-enum-known-i-5 c = search needs
-
-second-word-requires-3 : tie.Need-second-word-requires-3
-second-word-requires-3 c κs = search needs
-
-top-word-requires-5 : tie.Need-top-word-requires-5
-top-word-requires-5 c κs = search needs
-
-unsigned-value-requires : tie.Need-unsigned-value-requires
-unsigned-value-requires c κs = search needs
-
-valued-requires-2 : tie.Need-valued-requires-2
-valued-requires-2 c κs = search needs
-
-enum-told-2 : tie.Need-enum-told-2
-enum-told-2 c = search needs
-
-top-word-requires-6 : tie.Need-top-word-requires-6
-top-word-requires-6 c κs = search needs
-
-negated-value-requires : tie.Need-negated-value-requires
-negated-value-requires c κs = search needs
-
-valued-requires-3 : tie.Need-valued-requires-3
-valued-requires-3 c κs = search needs
-
-enum-told-3 : tie.Need-enum-told-3
-enum-told-3 c = search needs
-
-second-word-requires-4 : tie.Need-second-word-requires-4
-second-word-requires-4 c κs = search needs
-
-top-word-requires-7 : tie.Need-top-word-requires-7
-top-word-requires-7 c κs = search needs
-
-truth-requires : tie.Need-truth-requires
-truth-requires c κs = search needs
-
-given-requires-2 : tie.Need-given-requires-2
-given-requires-2 c κs = search needs
-
-enum-told-4 : tie.Need-enum-told-4
-enum-told-4 c = search needs
-
-second-word-requires-5 : tie.Need-second-word-requires-5
-second-word-requires-5 c κs = search needs
-
-top-word-requires-8 : tie.Need-top-word-requires-8
-top-word-requires-8 c κs = search needs
-
-truth-requires-2 : tie.Need-truth-requires-2
-truth-requires-2 c κs = search needs
-
-given-requires-3 : tie.Need-given-requires-3
-given-requires-3 c κs = search needs
-
-enum-known-i-6 : tie.Need-enum-known-i-6
-enum-known-i-6 c = search needs
-
-second-word-requires-6 : tie.Need-second-word-requires-6
-second-word-requires-6 c κs = search needs
-
-top-word-requires-9 : tie.Need-top-word-requires-9
-top-word-requires-9 c κs = search needs
-
-signed-test-requires : tie.Need-signed-test-requires
-signed-test-requires c κs = search needs
-
-truth-requires-3 : tie.Need-truth-requires-3
-truth-requires-3 c κs = search needs
-
-given-requires-4 : tie.Need-given-requires-4
-given-requires-4 c κs = search needs
-
-enum-known-i-7 : tie.Need-enum-known-i-7
-enum-known-i-7 c = search needs
-
-second-word-requires-7 : tie.Need-second-word-requires-7
-second-word-requires-7 c κs = search needs
-
-top-word-requires-10 : tie.Need-top-word-requires-10
-top-word-requires-10 c κs = search needs
-
-unsigned-test-requires : tie.Need-unsigned-test-requires
-unsigned-test-requires c κs = search needs
-
-truth-requires-4 : tie.Need-truth-requires-4
-truth-requires-4 c κs = search needs
-
-given-requires-5 : tie.Need-given-requires-5
-given-requires-5 c κs = search needs
-
-enum-known-i-8 : tie.Need-enum-known-i-8
-enum-known-i-8 c = search needs
-
-second-word-requires-8 : tie.Need-second-word-requires-8
-second-word-requires-8 c κs = search needs
-
-top-word-requires-11 : tie.Need-top-word-requires-11
-top-word-requires-11 c κs = search needs
-
-set-word-requires : tie.Need-set-word-requires
-set-word-requires c κs = search needs
-
-given-requires-6 : tie.Need-given-requires-6
-given-requires-6 c κs = search needs
-
-enum-told-5 : tie.Need-enum-told-5
-enum-told-5 c = search needs
-
-top-word-requires-12 : tie.Need-top-word-requires-12
-top-word-requires-12 c κs = search needs
-
-inverted-requires : tie.Need-inverted-requires
-inverted-requires c κs = search needs
-
 returns : tie.Need-returns
 unfolding execute
 returns c = λ P. rw (c .before .before .i .given .1, c .given .ensures)
@@ -248,62 +80,62 @@ pub given-effect-spec : {M : Type 1} → statement M
 given-effect-spec =
     tie.close
     (tie.spec
-    enum-known-i
-    given-requires
-    enum-known-i-2
-    top-word-requires
-    load-effect-requires
-    enum-known-i-3
-    top-word-requires-2
-    address-effect-requires
-    enum-told
-    top-word-requires-3
-    second-word-requires
-    moved-requires
-    enum-known-i-4
-    second-word-requires-2
-    top-word-requires-4
-    signed-value-requires
-    valued-requires
-    enum-known-i-5
-    second-word-requires-3
-    top-word-requires-5
-    unsigned-value-requires
-    valued-requires-2
-    enum-told-2
-    top-word-requires-6
-    negated-value-requires
-    valued-requires-3
-    enum-told-3
-    second-word-requires-4
-    top-word-requires-7
-    truth-requires
-    given-requires-2
-    enum-told-4
-    second-word-requires-5
-    top-word-requires-8
-    truth-requires-2
-    given-requires-3
-    enum-known-i-6
-    second-word-requires-6
-    top-word-requires-9
-    signed-test-requires
-    truth-requires-3
-    given-requires-4
-    enum-known-i-7
-    second-word-requires-7
-    top-word-requires-10
-    unsigned-test-requires
-    truth-requires-4
-    given-requires-5
-    enum-known-i-8
-    second-word-requires-8
-    top-word-requires-11
-    set-word-requires
-    given-requires-6
-    enum-told-5
-    top-word-requires-12
-    inverted-requires
+    (λ c. search needs)
+    (λ c κs. search needs)
+    (λ c. search needs)
+    (λ c κs. search needs)
+    (λ c κs. search needs)
+    (λ c. search needs)
+    (λ c κs. search needs)
+    (λ c κs. search needs)
+    (λ c. search needs)
+    (λ c κs. search needs)
+    (λ c κs. search needs)
+    (λ c κs. search needs)
+    (λ c. search needs)
+    (λ c κs. search needs)
+    (λ c κs. search needs)
+    (λ c κs. search needs)
+    (λ c κs. search needs)
+    (λ c. search needs)
+    (λ c κs. search needs)
+    (λ c κs. search needs)
+    (λ c κs. search needs)
+    (λ c κs. search needs)
+    (λ c. search needs)
+    (λ c κs. search needs)
+    (λ c κs. search needs)
+    (λ c κs. search needs)
+    (λ c. search needs)
+    (λ c κs. search needs)
+    (λ c κs. search needs)
+    (λ c κs. search needs)
+    (λ c κs. search needs)
+    (λ c. search needs)
+    (λ c κs. search needs)
+    (λ c κs. search needs)
+    (λ c κs. search needs)
+    (λ c κs. search needs)
+    (λ c. search needs)
+    (λ c κs. search needs)
+    (λ c κs. search needs)
+    (λ c κs. search needs)
+    (λ c κs. search needs)
+    (λ c κs. search needs)
+    (λ c. search needs)
+    (λ c κs. search needs)
+    (λ c κs. search needs)
+    (λ c κs. search needs)
+    (λ c κs. search needs)
+    (λ c κs. search needs)
+    (λ c. search needs)
+    (λ c κs. search needs)
+    (λ c κs. search needs)
+    (λ c κs. search needs)
+    (λ c κs. search needs)
+    (λ c. search needs)
+    (λ c κs. search needs)
+    (λ c κs. search needs)
     returns
     returns-2
     returns-3

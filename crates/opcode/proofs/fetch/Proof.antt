@@ -1,6 +1,5 @@
 -- `fetch` meets its contract: a code below 70 is a short form of one byte.
 use mathlib.Core.Path.{sym}
-use native.Mathlib.Omega.{arith}
 use lib.ListN.{length}
 use borrow.Author.Needs.{needs}
 use borrow.Author.Tests.{le-ltb}
