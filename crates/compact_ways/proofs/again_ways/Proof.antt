@@ -21,40 +21,13 @@ at-label : (c : tie.Else1) →
     againFrom (a .code .now) (a .w .now) (a .next) (a .t) (a .t .origin) ≡ againFrom (a .code .now) (a .w .now) (a .next) (a .t) (suc (a .t .origin - 1))
 at-label c = at-origin (againFrom (c .before .before .before .before .args .code .now) (c .before .before .before .before .args .w .now) (c .before .before .before .before .args .next) (c .before .before .before .before .args .t)) (c .before .before .before .before .args .t .origin) (c .if1 .left)
 
-sub-origin : tie.Need-sub-origin
-sub-origin c = search needs
-
-cast-origin : tie.Need-cast-origin
-cast-origin c = search needs
-
-is-loop-requires : tie.Need-is-loop-requires
-is-loop-requires c κs = search needs
-
 returns-2 : tie.Need-returns-2
 unfolding againWays
 returns-2 c = rw (at-label (c .before .before .before), ← c .before .is-loop .ensures, not-true (c .before .is-loop .result) (c .if2 .taken))
 
-is-labelled-requires : tie.Need-is-labelled-requires
-is-labelled-requires c κs = search needs
-
 returns-3 : tie.Need-returns-3
 unfolding againWays
 returns-3 c = rw (at-label (c .before .before .before .before .before), ← c .before .before .before .is-loop .ensures, not-false (c .before .before .before .is-loop .result) (c .before .before .if2 .left), ← c .before .is-labelled .ensures, not-true (c .before .is-labelled .result) (c .if3 .taken))
-
-cast-height : tie.Need-cast-height
-cast-height c = search needs
-
-origin-under-requires : tie.Need-origin-under-requires
-origin-under-requires c κs = search needs
-
-add-way-toward : tie.Need-add-way-toward
-add-way-toward c = search needs
-
-way-toward-requires : tie.Need-way-toward-requires
-way-toward-requires c κs = search needs
-
-in-order-requires : tie.Need-in-order-requires
-in-order-requires c κs = search needs
 
 -- The height past the loop.
 past : (c : tie.Joined4) → c .if4 .height ≡ c .before .before .before .before .before .before .before .before .before .before .before .args .t .height - 5
@@ -69,15 +42,15 @@ again-ways-spec =
     tie.close
     (tie.spec
     returns
-    sub-origin
-    cast-origin
-    is-loop-requires
+    (λ c. search needs)
+    (λ c. search needs)
+    (λ c κs. search needs)
     returns-2
-    is-labelled-requires
+    (λ c κs. search needs)
     returns-3
-    cast-height
-    origin-under-requires
-    add-way-toward
-    way-toward-requires
-    in-order-requires
+    (λ c. search needs)
+    (λ c κs. search needs)
+    (λ c. search needs)
+    (λ c κs. search needs)
+    (λ c κs. search needs)
     returns-4)

@@ -6,24 +6,12 @@ use Rattle.compact_ways.specs.Ways.{branchWays}
 use Rattle.compact.proofs.Lowering.{popped-height}
 use Rattle.compact_ways.proofs.branch_ways.Tie as tie
 
-is-poppable-requires : tie.Need-is-poppable-requires
-is-poppable-requires c κs = search needs
-
 returns : tie.Need-returns
 unfolding branchWays
 returns c = rw (← c .before .is-poppable .ensures, not-true (c .before .is-poppable .result) (c .if1 .taken))
 
 sub-rest : tie.Need-sub-rest
 sub-rest c = popped-height (c .before .before .before .before .before .args .code .now) (c .before .before .before .before .before .args .w .now) (c .before .before .before .before .before .args .t) 1 (c .before .before .is-poppable .result) (c .before .before .is-poppable .ensures) (c .before .if1 .left)
-
-cast-rest : tie.Need-cast-rest
-cast-rest c = search needs
-
-place-at-requires : tie.Need-place-at-requires
-place-at-requires c κs = search needs
-
-in-order-requires : tie.Need-in-order-requires
-in-order-requires c κs = search needs
 
 returns-2 : tie.Need-returns-2
 unfolding branchWays
@@ -33,10 +21,10 @@ pub branch-ways-spec : {M : Type 1} → statement M
 branch-ways-spec =
     tie.close
     (tie.spec
-    is-poppable-requires
+    (λ c κs. search needs)
     returns
     sub-rest
-    cast-rest
-    place-at-requires
-    in-order-requires
+    (λ c. search needs)
+    (λ c κs. search needs)
+    (λ c κs. search needs)
     returns-2)

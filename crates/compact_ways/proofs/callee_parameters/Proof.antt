@@ -7,21 +7,6 @@ use Rattle.compact_ways.proofs.callee_parameters.Tie as tie
 returns : tie.Need-returns
 returns c = rw (eq-eqb (c .before .before .args .p) 0 (c .if1 .taken))
 
-entry-at-requires : tie.Need-entry-at-requires
-entry-at-requires c κs = search needs
-
-cast-byte-at : tie.Need-cast-byte-at
-cast-byte-at c = search needs
-
-add-byte-at : tie.Need-add-byte-at
-add-byte-at c = search needs
-
-byte-at-requires : tie.Need-byte-at-requires
-byte-at-requires c κs = search needs
-
-cast-result : tie.Need-cast-result
-cast-result c = search needs
-
 returns-2 : tie.Need-returns-2
 returns-2 c = rw (ne-eqb (c .before .before .before .before .args .p) 0 (c .before .before .if1 .left), c .byte-at .ensures, c .before .entry-at .ensures)
 
@@ -30,9 +15,9 @@ callee-parameters-spec =
     tie.close
     (tie.spec
     returns
-    entry-at-requires
-    cast-byte-at
-    add-byte-at
-    byte-at-requires
-    cast-result
+    (λ c κs. search needs)
+    (λ c. search needs)
+    (λ c. search needs)
+    (λ c κs. search needs)
+    (λ c. search needs)
     returns-2)

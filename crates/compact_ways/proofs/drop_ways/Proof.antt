@@ -9,15 +9,9 @@ returns : tie.Need-returns
 unfolding dropWays
 returns c = rw (lt-leb (c .before .before .before .before .args .n) (c .before .before .before .before .args .t .height) (c .if1 .taken))
 
-lowered-by-requires : tie.Need-lowered-by-requires
-lowered-by-requires c κs = search needs
-
-way-toward-requires : tie.Need-way-toward-requires
-way-toward-requires c κs = search needs
-
 returns-2 : tie.Need-returns-2
 unfolding dropWays
 returns-2 c = rw (le-leb (c .before .before .before .before .before .before .args .n) (c .before .before .before .before .before .before .args .t .height) (c .before .before .if1 .left), c .way-toward .ensures, c .before .lowered-by .ensures)
 
 pub drop-ways-spec : {M : Type 1} → statement M
-drop-ways-spec = tie.close (tie.spec returns lowered-by-requires way-toward-requires returns-2)
+drop-ways-spec = tie.close (tie.spec returns (λ c κs. search needs) (λ c κs. search needs) returns-2)

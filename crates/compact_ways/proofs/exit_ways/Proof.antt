@@ -21,34 +21,13 @@ at-label : (c : tie.Else1) →
     exitFrom (a .code .now) (a .w .now) (a .t) (a .t .origin) ≡ exitFrom (a .code .now) (a .w .now) (a .t) (suc (a .t .origin - 1))
 at-label c = at-origin (exitFrom (c .before .before .before .before .args .code .now) (c .before .before .before .before .args .w .now) (c .before .before .before .before .args .t)) (c .before .before .before .before .args .t .origin) (c .if1 .left)
 
-sub-origin : tie.Need-sub-origin
-sub-origin c = search needs
-
-cast-origin : tie.Need-cast-origin
-cast-origin c = search needs
-
-is-select-requires : tie.Need-is-select-requires
-is-select-requires c κs = search needs
-
 returns-2 : tie.Need-returns-2
 unfolding exitWays
 returns-2 c = rw (at-label (c .before .before .before), ← c .before .is-select .ensures, not-true (c .before .is-select .result) (c .if2 .taken))
 
-is-labelled-requires : tie.Need-is-labelled-requires
-is-labelled-requires c κs = search needs
-
 returns-3 : tie.Need-returns-3
 unfolding exitWays
 returns-3 c = rw (at-label (c .before .before .before .before .before), ← c .before .before .before .is-select .ensures, not-false (c .before .before .before .is-select .result) (c .before .before .if2 .left), ← c .before .is-labelled .ensures, not-true (c .before .is-labelled .result) (c .if3 .taken))
-
-cast-height : tie.Need-cast-height
-cast-height c = search needs
-
-exit-label-requires : tie.Need-exit-label-requires
-exit-label-requires c κs = search needs
-
-origin-under-requires : tie.Need-origin-under-requires
-origin-under-requires c κs = search needs
 
 -- The height without the label.
 past : (c : tie.Joined4) → c .if4 .height ≡ c .before .before .before .before .before .before .before .before .before .before .before .args .t .height - 1
@@ -63,13 +42,13 @@ exit-ways-spec =
     tie.close
     (tie.spec
     returns
-    sub-origin
-    cast-origin
-    is-select-requires
+    (λ c. search needs)
+    (λ c. search needs)
+    (λ c κs. search needs)
     returns-2
-    is-labelled-requires
+    (λ c κs. search needs)
     returns-3
-    cast-height
-    exit-label-requires
-    origin-under-requires
+    (λ c. search needs)
+    (λ c κs. search needs)
+    (λ c κs. search needs)
     returns-4)

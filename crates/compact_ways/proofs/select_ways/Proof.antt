@@ -5,22 +5,13 @@ use Rattle.compact_ways.proofs.select_ways.Statement.{statement}
 use Rattle.compact_ways.specs.Ways.{selectWays}
 use Rattle.compact_ways.proofs.select_ways.Tie as tie
 
-is-poppable-requires : tie.Need-is-poppable-requires
-is-poppable-requires c κs = search needs
-
 returns : tie.Need-returns
 unfolding selectWays
 returns c = rw (← c .before .is-poppable .ensures, not-true (c .before .is-poppable .result) (c .if1 .taken))
-
-cast-t9 : tie.Need-cast-t9
-cast-t9 c = search needs
-
-add-t10 : tie.Need-add-t10
-add-t10 c = search needs
 
 returns-2 : tie.Need-returns-2
 unfolding selectWays
 returns-2 c = rw (← c .before .is-poppable .ensures, not-false (c .before .is-poppable .result) (c .if1 .left))
 
 pub select-ways-spec : {M : Type 1} → statement M
-select-ways-spec = tie.close (tie.spec is-poppable-requires returns cast-t9 add-t10 returns-2)
+select-ways-spec = tie.close (tie.spec (λ c κs. search needs) returns (λ c. search needs) (λ c. search needs) returns-2)

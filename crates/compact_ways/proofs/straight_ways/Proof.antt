@@ -6,9 +6,6 @@ use Rattle.compact_ways.specs.Ways.{straightWays}
 use Rattle.compact.proofs.Lowering.{popped-height}
 use Rattle.compact_ways.proofs.straight_ways.Tie as tie
 
-is-poppable-requires : tie.Need-is-poppable-requires
-is-poppable-requires c κs = search needs
-
 returns : tie.Need-returns
 unfolding straightWays
 returns c = rw (← c .before .is-poppable .ensures, not-true (c .before .is-poppable .result) (c .if1 .taken))
@@ -16,16 +13,10 @@ returns c = rw (← c .before .is-poppable .ensures, not-true (c .before .is-pop
 sub-height : tie.Need-sub-height
 sub-height c = popped-height (c .before .before .before .before .before .args .code .now) (c .before .before .before .before .before .args .w .now) (c .before .before .before .before .before .args .t) (c .before .before .before .before .before .args .pops) (c .before .before .is-poppable .result) (c .before .before .is-poppable .ensures) (c .before .if1 .left)
 
-cast-height : tie.Need-cast-height
-cast-height c = search needs
-
-add-height : tie.Need-add-height
-add-height c = search needs
-
 returns-2 : tie.Need-returns-2
 unfolding straightWays
 returns-2 c = rw (← c .before .before .is-poppable .ensures, not-false (c .before .before .is-poppable .result) (c .before .if1 .left))
 
 pub straight-ways-spec : {M : Type 1} → statement M
 straight-ways-spec =
-    tie.close (tie.spec is-poppable-requires returns sub-height cast-height add-height returns-2)
+    tie.close (tie.spec (λ c κs. search needs) returns sub-height (λ c. search needs) (λ c. search needs) returns-2)

@@ -7,24 +7,9 @@ use Rattle.control.proofs.enters.Statement.{statement}
 use Rattle.control.specs.Control.{enters}
 use Rattle.control.proofs.enters.Tie as tie
 
-cast-mp : tie.Need-cast-mp
-cast-mp c = search needs
-
-add-mp : tie.Need-add-mp
-add-mp c = search needs
-
-add-mp-2 : tie.Need-add-mp-2
-add-mp-2 c = search needs
-
 returns : tie.Need-returns
 unfolding enters
 returns c = rw (lt-leb (c .before .before .before .args .q .mp + c .before .before .before .args .parameters + c .before .before .before .args .locals) (length (c .before .before .before .args .m .now)) (c .if1 .taken))
-
-cast-sized : tie.Need-cast-sized
-cast-sized c = search needs
-
-sized-requires : tie.Need-sized-requires
-sized-requires c κs = search needs
 
 returns-2 : tie.Need-returns-2
 unfolding enters
@@ -32,4 +17,4 @@ returns-2 c = rw (le-leb (c .before .before .before .before .args .q .mp + c .be
 
 pub enters-spec : {M : Type 1} → statement M
 enters-spec =
-    tie.close (tie.spec cast-mp add-mp add-mp-2 returns cast-sized sized-requires returns-2)
+    tie.close (tie.spec (λ c. search needs) (λ c. search needs) (λ c. search needs) returns (λ c. search needs) (λ c κs. search needs) returns-2)

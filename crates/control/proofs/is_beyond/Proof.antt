@@ -8,20 +8,8 @@ use Rattle.control.proofs.is_beyond.Statement.{statement}
 use Rattle.control.proofs.Laws.{rising}
 use Rattle.control.proofs.is_beyond.Tie as tie
 
-below-requires : tie.Need-below-requires
-below-requires c κs = search needs
-
-below-requires-2 : tie.Need-below-requires-2
-below-requires-2 c κs = search needs
-
 returns : tie.Need-returns
 returns c = c .below2 .ensures ∙ rising (toZ w32 (c .before .before .before .args .step)) (ltZ (toZ w32 (c .before .before .before .args .last)) (toZ w32 (c .before .before .before .args .x))) (ltZ (toZ w32 (c .before .before .before .args .x)) (toZ w32 (c .before .before .before .args .last))) (sym (c .before .before .below .ensures) ∙ c .before .if1 .taken)
-
-below-requires-3 : tie.Need-below-requires-3
-below-requires-3 c κs = search needs
-
-below-requires-4 : tie.Need-below-requires-4
-below-requires-4 c κs = search needs
 
 returns-2 : tie.Need-returns-2
 returns-2 c = rw (← c .before .before .before .before .below .ensures, c .before .before .before .if1 .left, ← c .before .before .below3 .ensures, c .before .if2 .taken, c .below4 .ensures)
@@ -33,10 +21,10 @@ pub is-beyond-spec : {M : Type 1} → statement M
 is-beyond-spec =
     tie.close
     (tie.spec
-    below-requires
-    below-requires-2
+    (λ c κs. search needs)
+    (λ c κs. search needs)
     returns
-    below-requires-3
-    below-requires-4
+    (λ c κs. search needs)
+    (λ c κs. search needs)
     returns-2
     returns-3)

@@ -5,35 +5,17 @@ use Rattle.control.proofs.iterates.Statement.{statement}
 use Rattle.control.specs.Control.{iterates}
 use Rattle.control.proofs.iterates.Tie as tie
 
-is-beyond-requires : tie.Need-is-beyond-requires
-is-beyond-requires c κs = search needs
-
-place-at-requires : tie.Need-place-at-requires
-place-at-requires c κs = search needs
-
-jump-to-requires : tie.Need-jump-to-requires
-jump-to-requires c κs = search needs
-
 returns : tie.Need-returns
 unfolding iterates
 returns c = rw (← c .before .before .before .is-beyond .ensures, c .before .before .if1 .taken, c .jump-to .ensures, c .before .place-at .ensures)
-
-is-live-requires : tie.Need-is-live-requires
-is-live-requires c κs = search needs
 
 returns-2 : tie.Need-returns-2
 unfolding iterates
 returns-2 c = rw (← c .before .before .before .is-beyond .ensures, c .before .before .if1 .left, ← c .before .is-live .ensures, not-true (c .before .is-live .result) (c .if2 .taken))
 
-is-protected-requires : tie.Need-is-protected-requires
-is-protected-requires c κs = search needs
-
 returns-3 : tie.Need-returns-3
 unfolding iterates
 returns-3 c = rw (← c .before .before .before .before .before .is-beyond .ensures, c .before .before .before .before .if1 .left, ← c .before .before .before .is-live .ensures, not-false (c .before .before .before .is-live .result) (c .before .before .if2 .left), ← c .before .is-protected .ensures, c .if3 .taken)
-
-moved-requires : tie.Need-moved-requires
-moved-requires c κs = search needs
 
 returns-4 : tie.Need-returns-4
 unfolding iterates
@@ -43,13 +25,13 @@ pub iterates-spec : {M : Type 1} → statement M
 iterates-spec =
     tie.close
     (tie.spec
-    is-beyond-requires
-    place-at-requires
-    jump-to-requires
+    (λ c κs. search needs)
+    (λ c κs. search needs)
+    (λ c κs. search needs)
     returns
-    is-live-requires
+    (λ c κs. search needs)
     returns-2
-    is-protected-requires
+    (λ c κs. search needs)
     returns-3
-    moved-requires
+    (λ c κs. search needs)
     returns-4)

@@ -10,18 +10,9 @@ returns : tie.Need-returns
 unfolding jumpsKeeping
 returns c = rw (le-ltb (c .before .args .b) 2 (omega arith))
 
-place-at-requires : tie.Need-place-at-requires
-place-at-requires c κs = search needs
-
-jump-to-requires : tie.Need-jump-to-requires
-jump-to-requires c κs = search needs
-
 returns-2 : tie.Need-returns-2
 unfolding jumpsKeeping
 returns-2 c = rw (lt-ltb (c .before .before .before .before .args .b) 2 (omega arith), eq-eqb (c .before .before .before .before .args .b) (c .before .before .before .before .args .truth) (c .before .before .if2 .taken), c .jump-to .ensures, c .before .place-at .ensures)
-
-jump-to-requires-2 : tie.Need-jump-to-requires-2
-jump-to-requires-2 c κs = search needs
 
 returns-3 : tie.Need-returns-3
 unfolding jumpsKeeping
@@ -30,4 +21,4 @@ returns-3 c = rw (lt-ltb (c .before .before .before .args .b) 2 (omega arith), n
 pub jumps-keeping-spec : {M : Type 1} → statement M
 jumps-keeping-spec =
     tie.close
-    (tie.spec returns place-at-requires jump-to-requires returns-2 jump-to-requires-2 returns-3)
+    (tie.spec returns (λ c κs. search needs) (λ c κs. search needs) returns-2 (λ c κs. search needs) returns-3)

@@ -4,15 +4,9 @@ use Rattle.control.proofs.next_sum.Statement.{statement}
 use Rattle.control.specs.Control.{nextSum}
 use Rattle.control.proofs.next_sum.Tie as tie
 
-word-at-requires : tie.Need-word-at-requires
-word-at-requires c κs = search needs
-
-signed-value-requires : tie.Need-signed-value-requires
-signed-value-requires c κs = search needs
-
 returns : tie.Need-returns
 unfolding nextSum
 returns c = rw (c .signed-value .ensures, c .before .word-at .ensures)
 
 pub next-sum-spec : {M : Type 1} → statement M
-next-sum-spec = tie.close (tie.spec word-at-requires signed-value-requires returns)
+next-sum-spec = tie.close (tie.spec (λ c κs. search needs) (λ c κs. search needs) returns)

@@ -5,27 +5,9 @@ use Rattle.control.proofs.searches.Statement.{statement}
 use Rattle.control.specs.Control.{searches}
 use Rattle.control.proofs.searches.Tie as tie
 
-cast-search-distance : tie.Need-cast-search-distance
-cast-search-distance c = search needs
-
-search-distance-requires : tie.Need-search-distance-requires
-search-distance-requires c κs = search needs
-
-cast-else-distance : tie.Need-cast-else-distance
-cast-else-distance c = search needs
-
-else-distance-requires : tie.Need-else-distance-requires
-else-distance-requires c κs = search needs
-
-branched-requires : tie.Need-branched-requires
-branched-requires c κs = search needs
-
 returns : tie.Need-returns
 unfolding searches
 returns c = rw (← c .before .before .before .before .search-distance .ensures, eq-eqb (c .before .before .before .before .search-distance .result) 0 (c .before .before .before .if1 .taken), c .branched .ensures, c .before .else-distance .ensures)
-
-branched-requires-2 : tie.Need-branched-requires-2
-branched-requires-2 c κs = search needs
 
 returns-2 : tie.Need-returns-2
 unfolding searches
@@ -35,11 +17,11 @@ pub searches-spec : {M : Type 1} → statement M
 searches-spec =
     tie.close
     (tie.spec
-    cast-search-distance
-    search-distance-requires
-    cast-else-distance
-    else-distance-requires
-    branched-requires
+    (λ c. search needs)
+    (λ c κs. search needs)
+    (λ c. search needs)
+    (λ c κs. search needs)
+    (λ c κs. search needs)
     returns
-    branched-requires-2
+    (λ c κs. search needs)
     returns-2)

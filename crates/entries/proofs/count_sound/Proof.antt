@@ -9,15 +9,9 @@ use Rattle.entries.proofs.count_sound.Statement.{statement}
 use Rattle.entries.specs.Entries.{countSound}
 use Rattle.entries.proofs.count_sound.Tie as tie
 
-entry-at-requires : tie.Need-entry-at-requires
-entry-at-requires c κs = search needs
-
 returns : tie.Need-returns
 unfolding countSound
 returns c = rw (← c .before .entry-at .ensures, eq-eqb _ 2 (c .if1 .taken))
-
-entry-at-requires-2 : tie.Need-entry-at-requires-2
-entry-at-requires-2 c κs = search needs
 
 -- Where entry 0 is not 2, entry 1 decides.
 several : (c : tie.After-entry-at2) →
@@ -39,4 +33,4 @@ returns-4 c = rw (several (c .before .before), eq-eqb _ 0 (c .before .if2 .left)
 pub count-sound-spec : {M : Type 1} → statement M
 count-sound-spec =
     tie.close
-    (tie.spec entry-at-requires returns entry-at-requires-2 returns-2 returns-3 returns-4)
+    (tie.spec (λ c κs. search needs) returns (λ c κs. search needs) returns-2 returns-3 returns-4)

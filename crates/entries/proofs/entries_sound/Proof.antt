@@ -21,15 +21,9 @@ Inv-loop code count least₀ p₀ least p = risingFrom (length code) 0 (entriesF
 abbrev μ-loop : tie.MeasureT-loop
 μ-loop code count least₀ p₀ least p = count - p
 
-count-sound-requires : tie.Need-count-sound-requires Inv-loop μ-loop
-count-sound-requires c κs = search needs
-
 returns : tie.Need-returns Inv-loop μ-loop
 unfolding entriesSound
 returns c = rw (← c .before .count-sound .ensures, not-true (c .before .count-sound .result) (c .if1 .taken))
-
-entry-count-requires : tie.Need-entry-count-requires Inv-loop μ-loop
-entry-count-requires c κs = search needs
 
 loop-holds : tie.Need-loop-holds Inv-loop μ-loop
 loop-holds c = refl
@@ -49,12 +43,6 @@ left-decides c =
     )
     (c .loop .inv)
 
-entry-at-requires : tie.Need-entry-at-requires Inv-loop μ-loop
-entry-at-requires c κs = search needs
-
-cast-entry : tie.Need-cast-entry Inv-loop μ-loop
-cast-entry c = search needs
-
 returns-2 : tie.Need-returns-2 Inv-loop μ-loop
 returns-2 c = rw (
   left-decides (c .before .before .before),
@@ -72,15 +60,6 @@ returns-3 c = rw (
   le-ltb _ _ (c .if3 .taken),
 )
 
-add-least : tie.Need-add-least Inv-loop μ-loop
-add-least c = search needs
-
-add-p : tie.Need-add-p Inv-loop μ-loop
-add-p c = search needs
-
-loop-less : tie.Need-loop-less Inv-loop μ-loop
-loop-less c = search needs
-
 loop-again : tie.Need-loop-again Inv-loop μ-loop
 loop-again c = c .before .before .before .before .loop .inv
     ∙ rw (
@@ -89,12 +68,6 @@ loop-again c = c .before .before .before .before .loop .inv
       le-leb _ _ (c .before .if2 .left),
       lt-ltb _ _ (c .if3 .left),
     )
-
-entry-at-requires-2 : tie.Need-entry-at-requires-2 Inv-loop μ-loop
-entry-at-requires-2 c κs = search needs
-
-cast-last : tie.Need-cast-last Inv-loop μ-loop
-cast-last c = search needs
 
 returns-4 : tie.Need-returns-4 Inv-loop μ-loop
 returns-4 c = rw (
@@ -119,19 +92,19 @@ entries-sound-spec =
     (tie.spec
     Inv-loop
     μ-loop
-    count-sound-requires
+    (λ c κs. search needs)
     returns
-    entry-count-requires
+    (λ c κs. search needs)
     loop-holds
-    entry-at-requires
-    cast-entry
+    (λ c κs. search needs)
+    (λ c. search needs)
     returns-2
     returns-3
-    add-least
-    add-p
-    loop-less
+    (λ c. search needs)
+    (λ c. search needs)
+    (λ c. search needs)
     loop-again
-    entry-at-requires-2
-    cast-last
+    (λ c κs. search needs)
+    (λ c. search needs)
     returns-4
     returns-5)

@@ -4,15 +4,9 @@ use Rattle.entries.proofs.entry_at.Statement.{statement}
 use Rattle.entries.specs.Entries.{entryAt}
 use Rattle.entries.proofs.entry_at.Tie as tie
 
-mul-halfword-at : tie.Need-mul-halfword-at
-mul-halfword-at c = search needs
-
-halfword-at-requires : tie.Need-halfword-at-requires
-halfword-at-requires c κs = search needs
-
 returns : tie.Need-returns
 unfolding entryAt
 returns c = c .halfword-at .ensures
 
 pub entry-at-spec : {M : Type 1} → statement M
-entry-at-spec = tie.close (tie.spec mul-halfword-at halfword-at-requires returns)
+entry-at-spec = tie.close (tie.spec (λ c. search needs) (λ c κs. search needs) returns)

@@ -5,18 +5,9 @@ use Rattle.entries.proofs.entry_count.Statement.{statement}
 use Rattle.entries.specs.Entries.{entryCount}
 use Rattle.entries.proofs.entry_count.Tie as tie
 
-entry-at-requires : tie.Need-entry-at-requires
-entry-at-requires c κs = search needs
-
 returns : tie.Need-returns
 unfolding entryCount
 returns c = rw (← c .before .entry-at .ensures, eq-eqb _ 2 (c .if1 .taken))
-
-entry-at-requires-2 : tie.Need-entry-at-requires-2
-entry-at-requires-2 c κs = search needs
-
-cast-result : tie.Need-cast-result
-cast-result c = search needs
 
 returns-2 : tie.Need-returns-2
 unfolding entryCount
@@ -24,4 +15,4 @@ returns-2 c = rw (← c .before .before .entry-at .ensures, ne-eqb _ 2 (c .befor
 
 pub entry-count-spec : {M : Type 1} → statement M
 entry-count-spec =
-    tie.close (tie.spec entry-at-requires returns entry-at-requires-2 cast-result returns-2)
+    tie.close (tie.spec (λ c κs. search needs) returns (λ c κs. search needs) (λ c. search needs) returns-2)

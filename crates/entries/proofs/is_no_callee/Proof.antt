@@ -7,11 +7,8 @@ use Rattle.entries.proofs.is_no_callee.Tie as tie
 returns : tie.Need-returns
 returns c = rw (eq-eqb (c .before .before .args .callee) 0 (c .if1 .taken))
 
-entry-count-requires : tie.Need-entry-count-requires
-entry-count-requires c κs = search needs
-
 returns-2 : tie.Need-returns-2
 returns-2 c = rw (ne-eqb (c .before .before .before .args .callee) 0 (c .before .if1 .left), c .entry-count .ensures)
 
 pub is-no-callee-spec : {M : Type 1} → statement M
-is-no-callee-spec = tie.close (tie.spec returns entry-count-requires returns-2)
+is-no-callee-spec = tie.close (tie.spec returns (λ c κs. search needs) returns-2)

@@ -11,60 +11,6 @@ use borrow.Author.Needs.{needs}
 use Rattle.execute.proofs.gone_effect.Statement.{statement}
 use Rattle.execute.proofs.gone_effect.Tie as tie
 
-enum-known-i : tie.Need-enum-known-i
-enum-known-i c = search needs
-
-jump-to-requires : tie.Need-jump-to-requires
-jump-to-requires c κs = search needs
-
-enum-told : tie.Need-enum-told
-enum-told c = search needs
-
-jump-to-requires-2 : tie.Need-jump-to-requires-2
-jump-to-requires-2 c κs = search needs
-
-enum-known-i-2 : tie.Need-enum-known-i-2
-enum-known-i-2 c = search needs
-
-jumps-requires : tie.Need-jumps-requires
-jumps-requires c κs = search needs
-
-enum-known-i-3 : tie.Need-enum-known-i-3
-enum-known-i-3 c = search needs
-
-top-word-requires : tie.Need-top-word-requires
-top-word-requires c κs = search needs
-
-jumps-if-false-requires : tie.Need-jumps-if-false-requires
-jumps-if-false-requires c κs = search needs
-
-enum-known-i-4 : tie.Need-enum-known-i-4
-enum-known-i-4 c = search needs
-
-top-word-requires-2 : tie.Need-top-word-requires-2
-top-word-requires-2 c κs = search needs
-
-jumps-keeping-requires : tie.Need-jumps-keeping-requires
-jumps-keeping-requires c κs = search needs
-
-enum-known-i-5 : tie.Need-enum-known-i-5
-enum-known-i-5 c = search needs
-
-top-word-requires-3 : tie.Need-top-word-requires-3
-top-word-requires-3 c κs = search needs
-
-jumps-keeping-requires-2 : tie.Need-jumps-keeping-requires-2
-jumps-keeping-requires-2 c κs = search needs
-
-enum-told-2 : tie.Need-enum-told-2
-enum-told-2 c = search needs
-
-top-word-requires-4 : tie.Need-top-word-requires-4
-top-word-requires-4 c κs = search needs
-
-jump-to-requires-3 : tie.Need-jump-to-requires-3
-jump-to-requires-3 c κs = search needs
-
 returns : tie.Need-returns
 unfolding execute
 returns c = λ P. λ m. rw (c .before .before .i .given .1, c .jump-to .ensures)
@@ -104,24 +50,24 @@ pub gone-effect-spec : {M : Type 1} → statement M
 gone-effect-spec =
     tie.close
     (tie.spec
-    enum-known-i
-    jump-to-requires
-    enum-told
-    jump-to-requires-2
-    enum-known-i-2
-    jumps-requires
-    enum-known-i-3
-    top-word-requires
-    jumps-if-false-requires
-    enum-known-i-4
-    top-word-requires-2
-    jumps-keeping-requires
-    enum-known-i-5
-    top-word-requires-3
-    jumps-keeping-requires-2
-    enum-told-2
-    top-word-requires-4
-    jump-to-requires-3
+    (λ c. search needs)
+    (λ c κs. search needs)
+    (λ c. search needs)
+    (λ c κs. search needs)
+    (λ c. search needs)
+    (λ c κs. search needs)
+    (λ c. search needs)
+    (λ c κs. search needs)
+    (λ c κs. search needs)
+    (λ c. search needs)
+    (λ c κs. search needs)
+    (λ c κs. search needs)
+    (λ c. search needs)
+    (λ c κs. search needs)
+    (λ c κs. search needs)
+    (λ c. search needs)
+    (λ c κs. search needs)
+    (λ c κs. search needs)
     returns
     returns-2
     returns-3

@@ -12,72 +12,6 @@ use borrow.Author.Needs.{needs}
 use Rattle.execute.proofs.other_effect.Statement.{statement}
 use Rattle.execute.proofs.other_effect.Tie as tie
 
-enum-told : tie.Need-enum-told
-enum-told c = search needs
-
-top-word-requires : tie.Need-top-word-requires
-top-word-requires c κs = search needs
-
-allocated-requires : tie.Need-allocated-requires
-allocated-requires c κs = search needs
-
-enum-told-2 : tie.Need-enum-told-2
-enum-told-2 c = search needs
-
-top-word-requires-2 : tie.Need-top-word-requires-2
-top-word-requires-2 c κs = search needs
-
-freed-requires : tie.Need-freed-requires
-freed-requires c κs = search needs
-
-enum-known-i : tie.Need-enum-known-i
-enum-known-i c = search needs
-
-iter-effect-requires : tie.Need-iter-effect-requires
-iter-effect-requires c κs = search needs
-
-enum-told-3 : tie.Need-enum-told-3
-enum-told-3 c = search needs
-
-next-effect-requires : tie.Need-next-effect-requires
-next-effect-requires c κs = search needs
-
-enum-known-i-2 : tie.Need-enum-known-i-2
-enum-known-i-2 c = search needs
-
-top-word-requires-3 : tie.Need-top-word-requires-3
-top-word-requires-3 c κs = search needs
-
-switches-requires : tie.Need-switches-requires
-switches-requires c κs = search needs
-
-enum-known-i-3 : tie.Need-enum-known-i-3
-enum-known-i-3 c = search needs
-
-top-word-requires-4 : tie.Need-top-word-requires-4
-top-word-requires-4 c κs = search needs
-
-searches-requires : tie.Need-searches-requires
-searches-requires c κs = search needs
-
-enum-known-i-4 : tie.Need-enum-known-i-4
-enum-known-i-4 c = search needs
-
-calls-requires : tie.Need-calls-requires
-calls-requires c κs = search needs
-
-enum-known-i-5 : tie.Need-enum-known-i-5
-enum-known-i-5 c = search needs
-
-enters-requires : tie.Need-enters-requires
-enters-requires c κs = search needs
-
-enum-told-4 : tie.Need-enum-told-4
-enum-told-4 c = search needs
-
-returns-requires : tie.Need-returns-requires
-returns-requires c κs = search needs
-
 returns : tie.Need-returns
 unfolding execute
 returns c = let l : 1 ≤ c .before .before .before .before .before .before .before .args .q .height = rw (c .before .before .enum-told .given .1) at (c .before .before .before .before .before .before .before .pre .1 .1 .1 .1) in
@@ -123,28 +57,28 @@ pub other-effect-spec : {M : Type 1} → statement M
 other-effect-spec =
     tie.close
     (tie.spec
-    enum-told
-    top-word-requires
-    allocated-requires
-    enum-told-2
-    top-word-requires-2
-    freed-requires
-    enum-known-i
-    iter-effect-requires
-    enum-told-3
-    next-effect-requires
-    enum-known-i-2
-    top-word-requires-3
-    switches-requires
-    enum-known-i-3
-    top-word-requires-4
-    searches-requires
-    enum-known-i-4
-    calls-requires
-    enum-known-i-5
-    enters-requires
-    enum-told-4
-    returns-requires
+    (λ c. search needs)
+    (λ c κs. search needs)
+    (λ c κs. search needs)
+    (λ c. search needs)
+    (λ c κs. search needs)
+    (λ c κs. search needs)
+    (λ c. search needs)
+    (λ c κs. search needs)
+    (λ c. search needs)
+    (λ c κs. search needs)
+    (λ c. search needs)
+    (λ c κs. search needs)
+    (λ c κs. search needs)
+    (λ c. search needs)
+    (λ c κs. search needs)
+    (λ c κs. search needs)
+    (λ c. search needs)
+    (λ c κs. search needs)
+    (λ c. search needs)
+    (λ c κs. search needs)
+    (λ c. search needs)
+    (λ c κs. search needs)
     returns
     returns-2
     returns-3

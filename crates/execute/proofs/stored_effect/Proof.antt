@@ -9,12 +9,6 @@ use borrow.Author.Needs.{needs}
 use Rattle.execute.proofs.stored_effect.Statement.{statement}
 use Rattle.execute.proofs.stored_effect.Tie as tie
 
-enum-known-i : tie.Need-enum-known-i
-enum-known-i c = search needs
-
-store-effect-requires : tie.Need-store-effect-requires
-store-effect-requires c κs = search needs
-
 returns : tie.Need-returns
 returns c = λ code. rw (c .before .before .i .given .1, c .store-effect .ensures) (sym (store-found (program code (c .before .before .before .before .before .before .args .areas)) (c .before .before .before .before .before .before .args .q) (c .before .before .before .before .before .before .args .m .now) (c .before .before .before .before .before .before .args .s .now) (c .before .before .before .before .before .before .args .next) (c .before .before .i .given .0 .0) (c .before .before .i .given .0 .1 .0) (c .before .before .i .given .0 .1 .1 .0) (rw (c .before .before .i .given .1) at (c .before .before .before .before .before .before .pre .1 .1))))
 
@@ -22,4 +16,4 @@ returns-2 : tie.Need-returns-2
 returns-2 c = absurd (told Stores (0 ∷ 1 ∷ 2 ∷ 4 ∷ 5 ∷ 6 ∷ 7 ∷ 8 ∷ 9 ∷ 10 ∷ 11 ∷ 12 ∷ 13 ∷ 14 ∷ 15 ∷ 16 ∷ 17 ∷ 18 ∷ 19 ∷ 20 ∷ 21 ∷ 22 ∷ 23 ∷ 24 ∷ 25 ∷ 26 ∷ 27 ∷ 28 ∷ 29 ∷ []) refl (c .before .before .before .args .i) (c .match .keys2) (c .before .before .before .pre .1 .0))
 
 pub stored-effect-spec : {M : Type 1} → statement M
-stored-effect-spec = tie.close (tie.spec enum-known-i store-effect-requires returns returns-2)
+stored-effect-spec = tie.close (tie.spec (λ c. search needs) (λ c κs. search needs) returns returns-2)

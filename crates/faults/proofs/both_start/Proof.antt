@@ -5,14 +5,8 @@ use borrow.Author.Tests.{not-true, not-false}
 use Rattle.faults.proofs.both_start.Statement.{statement}
 use Rattle.faults.proofs.both_start.Tie as tie
 
-starts-in-requires : tie.Need-starts-in-requires
-starts-in-requires c κs = search needs
-
 returns : tie.Need-returns
 returns c = rw (← c .before .starts-in .ensures, not-true (c .before .starts-in .result) (c .if1 .taken))
-
-starts-in-requires-2 : tie.Need-starts-in-requires-2
-starts-in-requires-2 c κs = search needs
 
 returns-2 : tie.Need-returns-2
 returns-2 c = rw (
@@ -23,4 +17,4 @@ returns-2 c = rw (
 )
 
 pub both-start-spec : {M : Type 1} → statement M
-both-start-spec = tie.close (tie.spec starts-in-requires returns starts-in-requires-2 returns-2)
+both-start-spec = tie.close (tie.spec (λ c κs. search needs) returns (λ c κs. search needs) returns-2)

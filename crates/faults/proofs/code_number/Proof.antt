@@ -21,27 +21,6 @@ loop-holds c =
     let a = c .before .before .args in
     (omega arith, number-start (a .code .now) (marksIn (a .w .now) (length (a .code .now))))
 
-mark-at-requires : tie.Need-mark-at-requires Inv-loop μ-loop
-mark-at-requires c κs = search needs
-
-cast-fault-at : tie.Need-cast-fault-at Inv-loop μ-loop
-cast-fault-at c = search needs
-
-sub-fault-at : tie.Need-sub-fault-at Inv-loop μ-loop
-sub-fault-at c = search needs
-
-fault-at-requires : tie.Need-fault-at-requires Inv-loop μ-loop
-fault-at-requires c κs = search needs
-
-lower-number-requires : tie.Need-lower-number-requires Inv-loop μ-loop
-lower-number-requires c κs = search needs
-
-add-at : tie.Need-add-at Inv-loop μ-loop
-add-at c = search needs
-
-loop-less : tie.Need-loop-less Inv-loop μ-loop
-loop-less c = search needs
-
 loop-again : tie.Need-loop-again Inv-loop μ-loop
 loop-again c =
     let a = c .before .before .before .before .before .before .args in
@@ -70,12 +49,12 @@ code-number-spec =
     Inv-loop
     μ-loop
     loop-holds
-    mark-at-requires
-    cast-fault-at
-    sub-fault-at
-    fault-at-requires
-    lower-number-requires
-    add-at
-    loop-less
+    (λ c κs. search needs)
+    (λ c. search needs)
+    (λ c. search needs)
+    (λ c κs. search needs)
+    (λ c κs. search needs)
+    (λ c. search needs)
+    (λ c. search needs)
     loop-again
     returns)

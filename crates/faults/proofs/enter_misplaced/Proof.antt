@@ -4,12 +4,6 @@ use borrow.Author.Tests.{eq-eqb, ne-eqb}
 use Rattle.faults.proofs.enter_misplaced.Statement.{statement}
 use Rattle.faults.proofs.enter_misplaced.Tie as tie
 
-entry-at-requires : tie.Need-entry-at-requires
-entry-at-requires c κs = search needs
-
-cast-if1 : tie.Need-cast-if1
-cast-if1 c = search needs
-
 returns : tie.Need-returns
 returns c = rw (
   ← c .before .entry-at .ensures,
@@ -31,4 +25,4 @@ returns-3 c = rw (
 )
 
 pub enter-misplaced-spec : {M : Type 1} → statement M
-enter-misplaced-spec = tie.close (tie.spec entry-at-requires cast-if1 returns returns-2 returns-3)
+enter-misplaced-spec = tie.close (tie.spec (λ c κs. search needs) (λ c. search needs) returns returns-2 returns-3)

@@ -4,15 +4,9 @@ use Rattle.faults.proofs.fault_of.Statement.{statement}
 use Rattle.faults.specs.OnePass.{faultOf}
 use Rattle.faults.proofs.fault_of.Tie as tie
 
-is-stray-requires : tie.Need-is-stray-requires
-is-stray-requires c κs = search needs
-
 returns : tie.Need-returns
 unfolding faultOf
 returns c = rw (← c .before .is-stray .ensures, c .if1 .taken)
-
-is-misplaced-requires : tie.Need-is-misplaced-requires
-is-misplaced-requires c κs = search needs
 
 returns-2 : tie.Need-returns-2
 unfolding faultOf
@@ -22,9 +16,6 @@ returns-2 c = rw (
   ← c .before .is-misplaced .ensures,
   c .if2 .taken,
 )
-
-is-uncallable-requires : tie.Need-is-uncallable-requires
-is-uncallable-requires c κs = search needs
 
 returns-3 : tie.Need-returns-3
 unfolding faultOf
@@ -52,10 +43,10 @@ pub fault-of-spec : {M : Type 1} → statement M
 fault-of-spec =
     tie.close
     (tie.spec
-    is-stray-requires
+    (λ c κs. search needs)
     returns
-    is-misplaced-requires
+    (λ c κs. search needs)
     returns-2
-    is-uncallable-requires
+    (λ c κs. search needs)
     returns-3
     returns-4)

@@ -4,12 +4,6 @@ use borrow.Author.Tests.{eq-eqb, ne-eqb}
 use Rattle.faults.proofs.is_bare.Statement.{statement}
 use Rattle.faults.proofs.is_bare.Tie as tie
 
-entry-at-requires : tie.Need-entry-at-requires
-entry-at-requires c κs = search needs
-
-cast-if1 : tie.Need-cast-if1
-cast-if1 c = search needs
-
 returns : tie.Need-returns
 returns c = rw (
   ← c .before .entry-at .ensures,
@@ -23,4 +17,4 @@ returns-2 c = rw (
 )
 
 pub is-bare-spec : {M : Type 1} → statement M
-is-bare-spec = tie.close (tie.spec entry-at-requires cast-if1 returns returns-2)
+is-bare-spec = tie.close (tie.spec (λ c κs. search needs) (λ c. search needs) returns returns-2)

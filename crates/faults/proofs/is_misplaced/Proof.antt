@@ -4,78 +4,6 @@ use Rattle.faults.proofs.is_misplaced.Statement.{statement}
 use Rattle.faults.specs.Faults.{misplaced}
 use Rattle.faults.proofs.is_misplaced.Tie as tie
 
-enum-told : tie.Need-enum-told
-enum-told c = search needs
-
-is-bare-requires : tie.Need-is-bare-requires
-is-bare-requires c κs = search needs
-
-enum-told-2 : tie.Need-enum-told-2
-enum-told-2 c = search needs
-
-is-bare-requires-2 : tie.Need-is-bare-requires-2
-is-bare-requires-2 c κs = search needs
-
-enum-told-3 : tie.Need-enum-told-3
-enum-told-3 c = search needs
-
-is-bare-requires-3 : tie.Need-is-bare-requires-3
-is-bare-requires-3 c κs = search needs
-
-enum-told-4 : tie.Need-enum-told-4
-enum-told-4 c = search needs
-
-is-bare-requires-4 : tie.Need-is-bare-requires-4
-is-bare-requires-4 c κs = search needs
-
-enum-told-5 : tie.Need-enum-told-5
-enum-told-5 c = search needs
-
-is-bare-requires-5 : tie.Need-is-bare-requires-5
-is-bare-requires-5 c κs = search needs
-
-enum-told-6 : tie.Need-enum-told-6
-enum-told-6 c = search needs
-
-is-bare-requires-6 : tie.Need-is-bare-requires-6
-is-bare-requires-6 c κs = search needs
-
-enum-told-7 : tie.Need-enum-told-7
-enum-told-7 c = search needs
-
-is-bare-requires-7 : tie.Need-is-bare-requires-7
-is-bare-requires-7 c κs = search needs
-
-enum-told-8 : tie.Need-enum-told-8
-enum-told-8 c = search needs
-
-is-bare-requires-8 : tie.Need-is-bare-requires-8
-is-bare-requires-8 c κs = search needs
-
-enum-told-9 : tie.Need-enum-told-9
-enum-told-9 c = search needs
-
-is-bare-requires-9 : tie.Need-is-bare-requires-9
-is-bare-requires-9 c κs = search needs
-
-enum-told-10 : tie.Need-enum-told-10
-enum-told-10 c = search needs
-
-is-bare-requires-10 : tie.Need-is-bare-requires-10
-is-bare-requires-10 c κs = search needs
-
-enum-known-shape : tie.Need-enum-known-shape
-enum-known-shape c = search needs
-
-enter-misplaced-requires : tie.Need-enter-misplaced-requires
-enter-misplaced-requires c κs = search needs
-
-enum-told-11 : tie.Need-enum-told-11
-enum-told-11 c = search needs
-
-is-bare-requires-11 : tie.Need-is-bare-requires-11
-is-bare-requires-11 c κs = search needs
-
 returns : tie.Need-returns
 unfolding misplaced
 returns c = rw (c .before .enum-told .given .1) (c .is-bare .ensures)
@@ -128,30 +56,30 @@ pub is-misplaced-spec : {M : Type 1} → statement M
 is-misplaced-spec =
     tie.close
     (tie.spec
-    enum-told
-    is-bare-requires
-    enum-told-2
-    is-bare-requires-2
-    enum-told-3
-    is-bare-requires-3
-    enum-told-4
-    is-bare-requires-4
-    enum-told-5
-    is-bare-requires-5
-    enum-told-6
-    is-bare-requires-6
-    enum-told-7
-    is-bare-requires-7
-    enum-told-8
-    is-bare-requires-8
-    enum-told-9
-    is-bare-requires-9
-    enum-told-10
-    is-bare-requires-10
-    enum-known-shape
-    enter-misplaced-requires
-    enum-told-11
-    is-bare-requires-11
+    (λ c. search needs)
+    (λ c κs. search needs)
+    (λ c. search needs)
+    (λ c κs. search needs)
+    (λ c. search needs)
+    (λ c κs. search needs)
+    (λ c. search needs)
+    (λ c κs. search needs)
+    (λ c. search needs)
+    (λ c κs. search needs)
+    (λ c. search needs)
+    (λ c κs. search needs)
+    (λ c. search needs)
+    (λ c κs. search needs)
+    (λ c. search needs)
+    (λ c κs. search needs)
+    (λ c. search needs)
+    (λ c κs. search needs)
+    (λ c. search needs)
+    (λ c κs. search needs)
+    (λ c. search needs)
+    (λ c κs. search needs)
+    (λ c. search needs)
+    (λ c κs. search needs)
     returns
     returns-2
     returns-3

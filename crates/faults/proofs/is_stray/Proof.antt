@@ -5,84 +5,6 @@ use Rattle.faults.proofs.is_stray.Statement.{statement}
 use Rattle.faults.specs.Faults.{strays}
 use Rattle.faults.proofs.is_stray.Tie as tie
 
-enum-told : tie.Need-enum-told
-enum-told c = search needs
-
-starts-in-requires : tie.Need-starts-in-requires
-starts-in-requires c κs = search needs
-
-enum-told-2 : tie.Need-enum-told-2
-enum-told-2 c = search needs
-
-starts-in-requires-2 : tie.Need-starts-in-requires-2
-starts-in-requires-2 c κs = search needs
-
-enum-known-shape : tie.Need-enum-known-shape
-enum-known-shape c = search needs
-
-place-at-requires : tie.Need-place-at-requires
-place-at-requires c κs = search needs
-
-starts-in-requires-3 : tie.Need-starts-in-requires-3
-starts-in-requires-3 c κs = search needs
-
-enum-known-shape-2 : tie.Need-enum-known-shape-2
-enum-known-shape-2 c = search needs
-
-place-at-requires-2 : tie.Need-place-at-requires-2
-place-at-requires-2 c κs = search needs
-
-both-start-requires : tie.Need-both-start-requires
-both-start-requires c κs = search needs
-
-enum-known-shape-3 : tie.Need-enum-known-shape-3
-enum-known-shape-3 c = search needs
-
-place-at-requires-3 : tie.Need-place-at-requires-3
-place-at-requires-3 c κs = search needs
-
-both-start-requires-2 : tie.Need-both-start-requires-2
-both-start-requires-2 c κs = search needs
-
-enum-known-shape-4 : tie.Need-enum-known-shape-4
-enum-known-shape-4 c = search needs
-
-place-at-requires-4 : tie.Need-place-at-requires-4
-place-at-requires-4 c κs = search needs
-
-both-start-requires-3 : tie.Need-both-start-requires-3
-both-start-requires-3 c κs = search needs
-
-enum-told-3 : tie.Need-enum-told-3
-enum-told-3 c = search needs
-
-starts-in-requires-4 : tie.Need-starts-in-requires-4
-starts-in-requires-4 c κs = search needs
-
-enum-known-shape-5 : tie.Need-enum-known-shape-5
-enum-known-shape-5 c = search needs
-
-select-starts-requires : tie.Need-select-starts-requires
-select-starts-requires c κs = search needs
-
-enum-told-4 : tie.Need-enum-told-4
-enum-told-4 c = search needs
-
-enum-told-5 : tie.Need-enum-told-5
-enum-told-5 c = search needs
-
-starts-in-requires-5 : tie.Need-starts-in-requires-5
-starts-in-requires-5 c κs = search needs
-
-enum-told-6 : tie.Need-enum-told-6
-enum-told-6 c = search needs
-
-starts-in-requires-6 : tie.Need-starts-in-requires-6
-starts-in-requires-6 c κs = search needs
-
-enum-told-7 : tie.Need-enum-told-7
-enum-told-7 c = search needs
-
 returns : tie.Need-returns
 unfolding strays
 returns c = rw (c .before .enum-told .given .1, ← c .starts-in .ensures, and-true (c .starts-in .result))
@@ -140,32 +62,32 @@ pub is-stray-spec : {M : Type 1} → statement M
 is-stray-spec =
     tie.close
     (tie.spec
-    enum-told
-    starts-in-requires
-    enum-told-2
-    starts-in-requires-2
-    enum-known-shape
-    place-at-requires
-    starts-in-requires-3
-    enum-known-shape-2
-    place-at-requires-2
-    both-start-requires
-    enum-known-shape-3
-    place-at-requires-3
-    both-start-requires-2
-    enum-known-shape-4
-    place-at-requires-4
-    both-start-requires-3
-    enum-told-3
-    starts-in-requires-4
-    enum-known-shape-5
-    select-starts-requires
-    enum-told-4
-    enum-told-5
-    starts-in-requires-5
-    enum-told-6
-    starts-in-requires-6
-    enum-told-7
+    (λ c. search needs)
+    (λ c κs. search needs)
+    (λ c. search needs)
+    (λ c κs. search needs)
+    (λ c. search needs)
+    (λ c κs. search needs)
+    (λ c κs. search needs)
+    (λ c. search needs)
+    (λ c κs. search needs)
+    (λ c κs. search needs)
+    (λ c. search needs)
+    (λ c κs. search needs)
+    (λ c κs. search needs)
+    (λ c. search needs)
+    (λ c κs. search needs)
+    (λ c κs. search needs)
+    (λ c. search needs)
+    (λ c κs. search needs)
+    (λ c. search needs)
+    (λ c κs. search needs)
+    (λ c. search needs)
+    (λ c. search needs)
+    (λ c κs. search needs)
+    (λ c. search needs)
+    (λ c κs. search needs)
+    (λ c. search needs)
     returns
     returns-2
     returns-3

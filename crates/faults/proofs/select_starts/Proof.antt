@@ -8,15 +8,6 @@ use Rattle.layout.specs.Workspace.{marksIn}
 use Rattle.faults.proofs.Heads.{heads-start}
 use Rattle.faults.proofs.select_starts.Tie as tie
 
-exit-label-requires : tie.Need-exit-label-requires
-exit-label-requires c κs = search needs
-
-else-target-requires : tie.Need-else-target-requires
-else-target-requires c κs = search needs
-
-both-start-requires : tie.Need-both-start-requires
-both-start-requires c κs = search needs
-
 returns : tie.Need-returns
 unfolding selectTargets
 returns c =
@@ -32,9 +23,6 @@ returns c =
       ← both .ensures,
       not-true (both .result) (c .if1 .taken),
     )
-
-table-starts-requires : tie.Need-table-starts-requires
-table-starts-requires c κs = search needs
 
 returns-2 : tie.Need-returns-2
 unfolding selectTargets
@@ -57,9 +45,9 @@ pub select-starts-spec : {M : Type 1} → statement M
 select-starts-spec =
     tie.close
     (tie.spec
-    exit-label-requires
-    else-target-requires
-    both-start-requires
+    (λ c κs. search needs)
+    (λ c κs. search needs)
+    (λ c κs. search needs)
     returns
-    table-starts-requires
+    (λ c κs. search needs)
     returns-2)

@@ -23,9 +23,6 @@ Inv-loop code w p at table n size k₀ k =
 abbrev μ-loop : tie.MeasureT-loop
 μ-loop code w p at table n size k₀ k = size - k
 
-table-size-requires : tie.Need-table-size-requires Inv-loop μ-loop
-table-size-requires c κs = search needs
-
 loop-holds : tie.Need-loop-holds Inv-loop μ-loop
 loop-holds c = let e : c .table-size .result - 0 ≡ c .table-size .result = omega arith in rw e
 
@@ -37,12 +34,6 @@ cast-table-target c = omega (
   c .before .before .before .before .before .fits .n,
   c .loop-test .taken,
 )
-
-table-target-requires : tie.Need-table-target-requires Inv-loop μ-loop
-table-target-requires c κs = search needs
-
-starts-in-requires : tie.Need-starts-in-requires Inv-loop μ-loop
-starts-in-requires c κs = search needs
 
 returns : tie.Need-returns Inv-loop μ-loop
 returns c =
@@ -56,12 +47,6 @@ returns c =
       ← starts .ensures,
       not-true (starts .result) (c .if1 .taken),
     )
-
-add-k : tie.Need-add-k Inv-loop μ-loop
-add-k c = search needs
-
-loop-less : tie.Need-loop-less Inv-loop μ-loop
-loop-less c = search needs
 
 loop-again : tie.Need-loop-again Inv-loop μ-loop
 loop-again c =
@@ -83,13 +68,13 @@ table-starts-spec =
     (tie.spec
     Inv-loop
     μ-loop
-    table-size-requires
+    (λ c κs. search needs)
     loop-holds
     cast-table-target
-    table-target-requires
-    starts-in-requires
+    (λ c κs. search needs)
+    (λ c κs. search needs)
     returns
-    add-k
-    loop-less
+    (λ c. search needs)
+    (λ c. search needs)
     loop-again
     returns-2)

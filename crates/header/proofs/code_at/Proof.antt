@@ -5,18 +5,9 @@ use Rattle.header.proofs.code_at.Statement.{statement}
 use Rattle.header.specs.Header.{codeAt}
 use Rattle.header.proofs.code_at.Tie as tie
 
-cast-result : tie.Need-cast-result
-cast-result c = search needs
-
-mul-result : tie.Need-mul-result
-mul-result c = search needs
-
-add-result : tie.Need-add-result
-add-result c = search needs
-
 returns : tie.Need-returns
 unfolding codeAt
 returns c = omega arith
 
 pub code-at-spec : {M : Type 1} → statement M
-code-at-spec = tie.close (tie.spec cast-result mul-result add-result returns)
+code-at-spec = tie.close (tie.spec (λ c. search needs) (λ c. search needs) (λ c. search needs) returns)

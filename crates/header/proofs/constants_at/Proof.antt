@@ -5,12 +5,6 @@ use Rattle.header.proofs.constants_at.Statement.{statement}
 use Rattle.header.specs.Header.{codeAt, constantsAt}
 use Rattle.header.proofs.constants_at.Tie as tie
 
-code-at-requires : tie.Need-code-at-requires
-code-at-requires c κs = search needs
-
-cast-result : tie.Need-cast-result
-cast-result c = search needs
-
 add-result : tie.Need-add-result
 unfolding codeAt
 add-result c = omega arith
@@ -20,4 +14,4 @@ unfolding constantsAt
 returns c = omega arith
 
 pub constants-at-spec : {M : Type 1} → statement M
-constants-at-spec = tie.close (tie.spec code-at-requires cast-result add-result returns)
+constants-at-spec = tie.close (tie.spec (λ c κs. search needs) (λ c. search needs) add-result returns)

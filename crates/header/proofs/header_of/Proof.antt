@@ -5,18 +5,6 @@ use Rattle.header.proofs.header_of.Statement.{statement}
 use Rattle.header.specs.Header.{headerOf}
 use Rattle.header.proofs.header_of.Tie as tie
 
-pair-at-requires : tie.Need-pair-at-requires
-pair-at-requires c κs = search needs
-
-pair-at-requires-2 : tie.Need-pair-at-requires-2
-pair-at-requires-2 c κs = search needs
-
-pair-at-requires-3 : tie.Need-pair-at-requires-3
-pair-at-requires-3 c κs = search needs
-
-pair-at-requires-4 : tie.Need-pair-at-requires-4
-pair-at-requires-4 c κs = search needs
-
 returns : tie.Need-returns
 unfolding headerOf pairAt
 returns c = rw (
@@ -30,8 +18,8 @@ pub header-of-spec : {M : Type 1} → statement M
 header-of-spec =
     tie.close
     (tie.spec
-    pair-at-requires
-    pair-at-requires-2
-    pair-at-requires-3
-    pair-at-requires-4
+    (λ c κs. search needs)
+    (λ c κs. search needs)
+    (λ c κs. search needs)
+    (λ c κs. search needs)
     returns)

@@ -5,15 +5,6 @@ use Rattle.header.proofs.record_length.Statement.{statement}
 use Rattle.header.specs.Header.{codeAt, constantsAt, relocationAt, versionsAt, sourcesAt, recordLength}
 use Rattle.header.proofs.record_length.Tie as tie
 
-sources-at-requires : tie.Need-sources-at-requires
-sources-at-requires c κs = search needs
-
-cast-result : tie.Need-cast-result
-cast-result c = search needs
-
-mul-result : tie.Need-mul-result
-mul-result c = search needs
-
 add-result : tie.Need-add-result
 unfolding codeAt constantsAt relocationAt versionsAt sourcesAt
 add-result c = omega arith
@@ -24,4 +15,4 @@ returns c = omega arith
 
 pub record-length-spec : {M : Type 1} → statement M
 record-length-spec =
-    tie.close (tie.spec sources-at-requires cast-result mul-result add-result returns)
+    tie.close (tie.spec (λ c κs. search needs) (λ c. search needs) (λ c. search needs) add-result returns)

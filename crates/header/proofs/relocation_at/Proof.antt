@@ -5,15 +5,6 @@ use Rattle.header.proofs.relocation_at.Statement.{statement}
 use Rattle.header.specs.Header.{codeAt, constantsAt, relocationAt}
 use Rattle.header.proofs.relocation_at.Tie as tie
 
-constants-at-requires : tie.Need-constants-at-requires
-constants-at-requires c κs = search needs
-
-cast-result : tie.Need-cast-result
-cast-result c = search needs
-
-mul-result : tie.Need-mul-result
-mul-result c = search needs
-
 add-result : tie.Need-add-result
 unfolding codeAt constantsAt
 add-result c = omega arith
@@ -24,4 +15,4 @@ returns c = omega arith
 
 pub relocation-at-spec : {M : Type 1} → statement M
 relocation-at-spec =
-    tie.close (tie.spec constants-at-requires cast-result mul-result add-result returns)
+    tie.close (tie.spec (λ c κs. search needs) (λ c. search needs) (λ c. search needs) add-result returns)

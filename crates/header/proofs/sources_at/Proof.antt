@@ -5,15 +5,6 @@ use Rattle.header.proofs.sources_at.Statement.{statement}
 use Rattle.header.specs.Header.{codeAt, constantsAt, relocationAt, versionsAt, sourcesAt}
 use Rattle.header.proofs.sources_at.Tie as tie
 
-versions-at-requires : tie.Need-versions-at-requires
-versions-at-requires c κs = search needs
-
-cast-result : tie.Need-cast-result
-cast-result c = search needs
-
-mul-result : tie.Need-mul-result
-mul-result c = search needs
-
 add-result : tie.Need-add-result
 unfolding codeAt constantsAt relocationAt versionsAt
 add-result c = omega arith
@@ -24,4 +15,4 @@ returns c = omega arith
 
 pub sources-at-spec : {M : Type 1} → statement M
 sources-at-spec =
-    tie.close (tie.spec versions-at-requires cast-result mul-result add-result returns)
+    tie.close (tie.spec (λ c κs. search needs) (λ c. search needs) (λ c. search needs) add-result returns)

@@ -30,27 +30,6 @@ returns : tie.Need-returns
 unfolding decodeReply
 returns c = rw (ne-eqb (length (c .before .before .before .args .out .now)) 5 (c .if1 .taken))
 
-decode-requires : tie.Need-decode-requires
-decode-requires c κs = search needs
-
-enum-told : tie.Need-enum-told
-enum-told c = search needs
-
-enum-told-2 : tie.Need-enum-told-2
-enum-told-2 c = search needs
-
-enum-known-decoded : tie.Need-enum-known-decoded
-enum-known-decoded c = search needs
-
-parts-of-requires : tie.Need-parts-of-requires
-parts-of-requires c κs = search needs
-
-slice-write-out : tie.Need-slice-write-out
-slice-write-out c = search needs
-
-slice-write-out-2 : tie.Need-slice-write-out-2
-slice-write-out-2 c = search needs
-
 slice-write-out-3 : tie.Need-slice-write-out-3
 slice-write-out-3 c = simp length-set (omega arith)
 
@@ -86,9 +65,6 @@ returns-3 c =
       c .enum-told2 .given .1,
     )
 
-same-length : tie.Need-same-length
-same-length c = search needs
-
 returns-4 : tie.Need-returns-4
 unfolding decodeReply
 returns-4 c =
@@ -107,13 +83,13 @@ icode-bench-decode-spec =
     tie.close
     (tie.spec
     returns
-    decode-requires
-    enum-told
-    enum-told-2
-    enum-known-decoded
-    parts-of-requires
-    slice-write-out
-    slice-write-out-2
+    (λ c κs. search needs)
+    (λ c. search needs)
+    (λ c. search needs)
+    (λ c. search needs)
+    (λ c κs. search needs)
+    (λ c. search needs)
+    (λ c. search needs)
     slice-write-out-3
     slice-write-out-4
     sub-out
@@ -121,5 +97,5 @@ icode-bench-decode-spec =
     slice-write-out-5
     returns-2
     returns-3
-    same-length
+    (λ c. search needs)
     returns-4)

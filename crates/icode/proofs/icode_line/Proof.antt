@@ -3,24 +3,6 @@ use borrow.Author.Needs.{needs}
 use Rattle.icode.proofs.icode_line.Statement.{statement}
 use Rattle.icode.proofs.icode_line.Tie as tie
 
-line-of-requires : tie.Need-line-of-requires
-line-of-requires c κs = search needs
-
-enum-known-answer : tie.Need-enum-known-answer
-enum-known-answer c = search needs
-
-cast-result : tie.Need-cast-result
-cast-result c = search needs
-
-mul-result : tie.Need-mul-result
-mul-result c = search needs
-
-enum-known-answer-2 : tie.Need-enum-known-answer-2
-enum-known-answer-2 c = search needs
-
-cast-result-2 : tie.Need-cast-result-2
-cast-result-2 c = search needs
-
 returns : tie.Need-returns
 returns c = rw (← c .before .before .before .line-of .ensures, c .before .answer .given .1)
 
@@ -31,11 +13,11 @@ pub icode-line-spec : {M : Type 1} → statement M
 icode-line-spec =
     tie.close
     (tie.spec
-    line-of-requires
-    enum-known-answer
-    cast-result
-    mul-result
-    enum-known-answer-2
-    cast-result-2
+    (λ c κs. search needs)
+    (λ c. search needs)
+    (λ c. search needs)
+    (λ c. search needs)
+    (λ c. search needs)
+    (λ c. search needs)
     returns
     returns-2)

@@ -7,14 +7,8 @@ use Rattle.integer.proofs.signed.Statement.{statement}
 use Rattle.integer.proofs.Words.{low, high, high-fits}
 use Rattle.integer.proofs.signed.Tie as tie
 
-cast-result : tie.Need-cast-result
-cast-result c = search needs
-
 returns : tie.Need-returns
 returns c = low (c .before .args .word) (omega arith)
-
-cast-result-2 : tie.Need-cast-result-2
-cast-result-2 c = search needs
 
 sub-result : tie.Need-sub-result
 sub-result c = high-fits (c .before .args .word) (omega arith) (omega (arith, c .before .fits .word))
@@ -23,4 +17,4 @@ returns-2 : tie.Need-returns-2
 returns-2 c = toZ-ofZ (high-fits (c .before .args .word) (omega arith) (omega (arith, c .before .fits .word))) ∙ high (c .before .args .word) (omega arith) (omega (arith, c .before .fits .word))
 
 pub signed-spec : {M : Type 1} → statement M
-signed-spec = tie.close (tie.spec cast-result returns cast-result-2 sub-result returns-2)
+signed-spec = tie.close (tie.spec (λ c. search needs) returns (λ c. search needs) sub-result returns-2)

@@ -19,24 +19,6 @@ Inv-loop r h parameters memory₀ i₀ i-end memory i =
 abbrev μ-loop : tie.MeasureT-loop
 μ-loop r h parameters memory₀ i₀ i-end memory i = length memory₀ - i
 
-loop-holds : tie.Need-loop-holds Inv-loop μ-loop
-loop-holds c = search needs
-
-initial-word-requires : tie.Need-initial-word-requires Inv-loop μ-loop
-initial-word-requires c κs = search needs
-
-mul-memory : tie.Need-mul-memory Inv-loop μ-loop
-mul-memory c = search needs
-
-slice-write-memory : tie.Need-slice-write-memory Inv-loop μ-loop
-slice-write-memory c = search needs
-
-add-i : tie.Need-add-i Inv-loop μ-loop
-add-i c = search needs
-
-loop-less : tie.Need-loop-less Inv-loop μ-loop
-loop-less c = search needs
-
 loop-again : tie.Need-loop-again Inv-loop μ-loop
 loop-again c =
     let a = c .before .before .before .before .before .before .args in
@@ -50,9 +32,6 @@ loop-again c =
           (l .inv .0 ∙ sym (loaded-length (a .r .now) (a .parameters .now) size (rw (p .0) at (p .1 .1 .0)) (p .1 .1 .1)))
           (x .ensures ∙ sym (loaded-word (a .r .now) (a .parameters .now) size (l .i))),
     )
-
-same-length : tie.Need-same-length Inv-loop μ-loop
-same-length c = search needs
 
 returns : tie.Need-returns Inv-loop μ-loop
 returns c =
@@ -70,12 +49,12 @@ fill-spec =
     (tie.spec
     Inv-loop
     μ-loop
-    loop-holds
-    initial-word-requires
-    mul-memory
-    slice-write-memory
-    add-i
-    loop-less
+    (λ c. search needs)
+    (λ c κs. search needs)
+    (λ c. search needs)
+    (λ c. search needs)
+    (λ c. search needs)
+    (λ c. search needs)
     loop-again
-    same-length
+    (λ c. search needs)
     returns)

@@ -12,22 +12,10 @@ returns c =
     let a = c .before .before .before .args in
     sym (word-low (a .r .now) (a .parameters .now) (a .h) (c .before .before .before .pre .0) (a .i) (c .if1 .taken))
 
-add-result : tie.Need-add-result
-add-result c = search needs
-
 returns-2 : tie.Need-returns-2
 returns-2 c =
     let a = c .before .before .before .before .before .args in
     sym (word-third (a .r .now) (a .parameters .now) (a .h) (c .before .before .before .before .before .pre .0) (a .i) (c .before .if2 .taken))
-
-sub-k : tie.Need-sub-k
-sub-k c = search needs
-
-mul-result : tie.Need-mul-result
-mul-result c = search needs
-
-shared-slice-read-result : tie.Need-shared-slice-read-result
-shared-slice-read-result c = search needs
 
 returns-3 : tie.Need-returns-3
 returns-3 c =
@@ -35,30 +23,15 @@ returns-3 c =
     sym (word-parameter (a .r .now) (a .parameters .now) (a .h) (c .before .before .before .before .before .before .pre .0) (a .i) (omega arith)
     (c .before .if3 .taken))
 
-cast-globals : tie.Need-cast-globals
-cast-globals c = search needs
-
 returns-4 : tie.Need-returns-4
 returns-4 c =
     let a = c .before .before .before .before .before .before .before .args in
     sym (word-global (a .r .now) (a .parameters .now) (a .h) (c .before .before .before .before .before .before .before .pre .0) (a .i) (omega arith)
     (c .before .before .if3 .left) (c .if4 .taken))
 
-cast-if5 : tie.Need-cast-if5
-cast-if5 c = search needs
-
-constants-at-requires : tie.Need-constants-at-requires
-constants-at-requires c κs = search needs
-
-mul-word-at : tie.Need-mul-word-at
-mul-word-at c = search needs
-
 add-word-at : tie.Need-add-word-at
 unfolding codeAt constantsAt
 add-word-at c = omega arith
-
-word-at-requires : tie.Need-word-at-requires
-word-at-requires c κs = search needs
 
 returns-5 : tie.Need-returns-5
 returns-5 c =
@@ -80,18 +53,18 @@ initial-word-spec =
     tie.close
     (tie.spec
     returns
-    add-result
+    (λ c. search needs)
     returns-2
-    sub-k
-    mul-result
-    shared-slice-read-result
+    (λ c. search needs)
+    (λ c. search needs)
+    (λ c. search needs)
     returns-3
-    cast-globals
+    (λ c. search needs)
     returns-4
-    cast-if5
-    constants-at-requires
-    mul-word-at
+    (λ c. search needs)
+    (λ c κs. search needs)
+    (λ c. search needs)
     add-word-at
-    word-at-requires
+    (λ c κs. search needs)
     returns-5
     returns-6)

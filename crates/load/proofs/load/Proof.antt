@@ -6,33 +6,12 @@ use Rattle.load.proofs.load.Statement.{statement}
 use Rattle.load.proofs.Loading.{sound-header, load-refused, load-parameters, load-sizes, load-ready, load-globals, load-frames}
 use Rattle.load.proofs.load.Tie as tie
 
-read-requires : tie.Need-read-requires
-read-requires c κs = search needs
-
-enum-known-reading : tie.Need-enum-known-reading
-enum-known-reading c = search needs
-
-enum-known-reading-2 : tie.Need-enum-known-reading-2
-enum-known-reading-2 c = search needs
-
-areas-in-requires : tie.Need-areas-in-requires
-areas-in-requires c κs = search needs
-
-cast-if1 : tie.Need-cast-if1
-cast-if1 c = search needs
-
 returns : tie.Need-returns
 returns c =
     let a = c .before .before .before .before .before .before .before .before .before .before .before .args in
     let k = c .before .before .before .before .reading2 .given in
     let s = sym (c .before .before .before .before .before .before .read .ensures) ∙ k .1 in
     load-parameters (a .r .now) (a .parameters .now) (a .memory .now) (a .stack .now) (k .0 .0) s (c .if1 .taken)
-
-sizes-taken-requires : tie.Need-sizes-taken-requires
-sizes-taken-requires c κs = search needs
-
-same-length : tie.Need-same-length
-same-length c = search needs
 
 returns-2 : tie.Need-returns-2
 returns-2 c =
@@ -64,9 +43,6 @@ fill-requires c κs =
       ),
     )
 
-code-of-requires : tie.Need-code-of-requires
-code-of-requires c κs = search needs
-
 start-of-requires : tie.Need-start-of-requires
 start-of-requires c κs =
     let a = c .before .before .before .before .before .before .before .before .before .before .before .before .before .before .before .before .before .before .before .args in
@@ -84,9 +60,6 @@ returns-3 c =
     let k = c .before .reading .given in
     let s = sym (c .before .before .before .read .ensures) ∙ k .1 in
     load-refused (a .r .now) (a .parameters .now) (a .memory .now) (a .stack .now) (k .0 .0) s
-
-same-length-2 : tie.Need-same-length-2
-same-length-2 c = search needs
 
 returns-4 : tie.Need-returns-4
 returns-4 c =
@@ -110,18 +83,18 @@ pub load-spec : {M : Type 1} → statement M
 load-spec =
     tie.close
     (tie.spec
-    read-requires
-    enum-known-reading
-    enum-known-reading-2
-    areas-in-requires
-    cast-if1
+    (λ c κs. search needs)
+    (λ c. search needs)
+    (λ c. search needs)
+    (λ c κs. search needs)
+    (λ c. search needs)
     returns
-    sizes-taken-requires
-    same-length
+    (λ c κs. search needs)
+    (λ c. search needs)
     returns-2
     fill-requires
-    code-of-requires
+    (λ c κs. search needs)
     start-of-requires
     returns-3
-    same-length-2
+    (λ c. search needs)
     returns-4)

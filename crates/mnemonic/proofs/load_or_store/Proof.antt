@@ -3,17 +3,8 @@ use borrow.Author.Needs.{needs}
 use Rattle.mnemonic.proofs.load_or_store.Statement.{statement}
 use Rattle.mnemonic.proofs.load_or_store.Tie as tie
 
-base-place-requires : tie.Need-base-place-requires
-base-place-requires c κs = search needs
-
-add-t6 : tie.Need-add-t6
-add-t6 c = search needs
-
-mode-place-requires : tie.Need-mode-place-requires
-mode-place-requires c κs = search needs
-
 returns : tie.Need-returns
 returns c = rw (c .before .base-place .ensures .0, c .mode-place .ensures)
 
 pub load-or-store-spec : {M : Type 1} → statement M
-load-or-store-spec = tie.close (tie.spec base-place-requires add-t6 mode-place-requires returns)
+load-or-store-spec = tie.close (tie.spec (λ c κs. search needs) (λ c. search needs) (λ c κs. search needs) returns)

@@ -10,12 +10,6 @@ returns : tie.Need-returns
 unfolding decodeAt
 returns c = rw (le-ltb (c .before .before .args .at) (c .before .before .args .limit) (c .if1 .taken))
 
-byte-at-requires : tie.Need-byte-at-requires
-byte-at-requires c κs = search needs
-
-decode-in-requires : tie.Need-decode-in-requires
-decode-in-requires c κs = search needs
-
 returns-2 : tie.Need-returns-2
 unfolding decodeAt
 returns-2 c =
@@ -28,9 +22,6 @@ returns-2 c =
       c .decode-in .ensures,
     )
 
-add-if3 : tie.Need-add-if3
-add-if3 c = search needs
-
 returns-3 : tie.Need-returns-3
 unfolding decodeAt
 returns-3 c =
@@ -42,12 +33,6 @@ returns-3 c =
       eq-eqb (byte-at .result) 0xF5 (c .before .if2 .left),
       le-ltb (a .at + 1) (a .limit) (c .if3 .taken),
     )
-
-add-decode-in : tie.Need-add-decode-in
-add-decode-in c = search needs
-
-decode-in-requires-2 : tie.Need-decode-in-requires-2
-decode-in-requires-2 c κs = search needs
 
 returns-4 : tie.Need-returns-4
 unfolding decodeAt
@@ -67,11 +52,11 @@ decode-spec =
     tie.close
     (tie.spec
     returns
-    byte-at-requires
-    decode-in-requires
+    (λ c κs. search needs)
+    (λ c κs. search needs)
     returns-2
-    add-if3
+    (λ c. search needs)
     returns-3
-    add-decode-in
-    decode-in-requires-2
+    (λ c. search needs)
+    (λ c κs. search needs)
     returns-4)

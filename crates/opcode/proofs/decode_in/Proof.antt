@@ -10,15 +10,9 @@ use Rattle.opcode.specs.Length.{lengthIn}
 use Rattle.opcode.specs.Table.{rowOf}
 use Rattle.opcode.proofs.decode_in.Tie as tie
 
-length-in-requires : tie.Need-length-in-requires
-length-in-requires c κs = search needs
-
 returns : tie.Need-returns
 unfolding decodeIn
 returns c = rw (← c .before .length-in .ensures, eq-eqb (c .before .length-in .result) 0 (c .if1 .taken))
-
-sub-if2 : tie.Need-sub-if2
-sub-if2 c = search needs
 
 returns-2 : tie.Need-returns-2
 unfolding decodeIn
@@ -34,9 +28,6 @@ returns-2 c =
 instruction-at-requires : tie.Need-instruction-at-requires
 unfolding lengthIn rowOf
 instruction-at-requires c κs = λ e. c .before .if1 .left (c .before .before .length-in .ensures ∙ rw e)
-
-add-t7 : tie.Need-add-t7
-add-t7 c = search needs
 
 returns-3 : tie.Need-returns-3
 unfolding decodeIn
@@ -54,10 +45,10 @@ pub decode-in-spec : {M : Type 1} → statement M
 decode-in-spec =
     tie.close
     (tie.spec
-    length-in-requires
+    (λ c κs. search needs)
     returns
-    sub-if2
+    (λ c. search needs)
     returns-2
     instruction-at-requires
-    add-t7
+    (λ c. search needs)
     returns-3)

@@ -12,15 +12,6 @@ returns : tie.Need-returns
 unfolding decodeAt
 returns c = let a = c .before .before .args in rw (le-ltb (a .at) (length (a .code .now)) (c .if1 .taken))
 
-byte-at-requires : tie.Need-byte-at-requires
-byte-at-requires c κs = search needs
-
-short-form-requires : tie.Need-short-form-requires
-short-form-requires c κs = search needs
-
-add-t8 : tie.Need-add-t8
-add-t8 c = search needs
-
 returns-2 : tie.Need-returns-2
 returns-2 c =
     let a = c .before .before .before .before .before .args in
@@ -28,20 +19,14 @@ returns-2 c =
     (sym (short-decoded (a .code .now) (length (a .code .now)) (a .at) (c .before .before .before .if1 .left)
     (rw (← c .before .before .byte-at .ensures) (c .before .if2 .taken))))
 
-decode-requires : tie.Need-decode-requires
-decode-requires c κs = search needs
-
-returns-3 : tie.Need-returns-3
-returns-3 c = search needs
-
 pub fetch-spec : {M : Type 1} → statement M
 fetch-spec =
     tie.close
     (tie.spec
     returns
-    byte-at-requires
-    short-form-requires
-    add-t8
+    (λ c κs. search needs)
+    (λ c κs. search needs)
+    (λ c. search needs)
     returns-2
-    decode-requires
-    returns-3)
+    (λ c κs. search needs)
+    (λ c. search needs))

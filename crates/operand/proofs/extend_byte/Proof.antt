@@ -10,11 +10,8 @@ use Rattle.operand.proofs.extend_byte.Tie as tie
 returns : tie.Need-returns
 returns c = sym (extended-low w8 (c .before .args .b) (c .if1 .taken))
 
-add-result : tie.Need-add-result
-add-result c = search needs
-
 returns-2 : tie.Need-returns-2
 returns-2 c = sym (extended-high w8 (c .before .args .b) (c .if1 .left) (omega (arith, c .before .fits .b)) (omega arith))
 
 pub extend-byte-spec : {M : Type 1} → statement M
-extend-byte-spec = tie.close (tie.spec returns add-result returns-2)
+extend-byte-spec = tie.close (tie.spec returns (λ c. search needs) returns-2)

@@ -3,14 +3,8 @@ use borrow.Author.Needs.{needs}
 use Rattle.operand.proofs.signed_byte.Statement.{statement}
 use Rattle.operand.proofs.signed_byte.Tie as tie
 
-byte-behind-requires : tie.Need-byte-behind-requires
-byte-behind-requires c κs = search needs
-
-extend-byte-requires : tie.Need-extend-byte-requires
-extend-byte-requires c κs = search needs
-
 returns : tie.Need-returns
 returns c = rw (c .extend-byte .ensures, c .before .byte-behind .ensures)
 
 pub signed-byte-spec : {M : Type 1} → statement M
-signed-byte-spec = tie.close (tie.spec byte-behind-requires extend-byte-requires returns)
+signed-byte-spec = tie.close (tie.spec (λ c κs. search needs) (λ c κs. search needs) returns)

@@ -3,15 +3,9 @@ use borrow.Author.Needs.{needs}
 use Rattle.operand.proofs.signed_halfword.Statement.{statement}
 use Rattle.operand.proofs.signed_halfword.Tie as tie
 
-halfword-behind-requires : tie.Need-halfword-behind-requires
-halfword-behind-requires c κs = search needs
-
-extend-halfword-requires : tie.Need-extend-halfword-requires
-extend-halfword-requires c κs = search needs
-
 returns : tie.Need-returns
 returns c = rw (c .extend-halfword .ensures, c .before .halfword-behind .ensures)
 
 pub signed-halfword-spec : {M : Type 1} → statement M
 signed-halfword-spec =
-    tie.close (tie.spec halfword-behind-requires extend-halfword-requires returns)
+    tie.close (tie.spec (λ c κs. search needs) (λ c κs. search needs) returns)

@@ -5,15 +5,6 @@ use Rattle.record.proofs.line_of.Statement.{statement}
 use Rattle.record.specs.Number.{lineOf}
 use Rattle.record.proofs.line_of.Tie as tie
 
-record-number-requires : tie.Need-record-number-requires
-record-number-requires c κs = search needs
-
-header-of-requires : tie.Need-header-of-requires
-header-of-requires c κs = search needs
-
-line-at-requires : tie.Need-line-at-requires
-line-at-requires c κs = search needs
-
 returns : tie.Need-returns
 unfolding lineOf
 returns c = rw (
@@ -30,4 +21,4 @@ returns-2 c = rw (← c .before .record-number .ensures, ne-eqb _ 0 (c .if1 .lef
 pub line-of-spec : {M : Type 1} → statement M
 line-of-spec =
     tie.close
-    (tie.spec record-number-requires header-of-requires line-at-requires returns returns-2)
+    (tie.spec (λ c κs. search needs) (λ c κs. search needs) (λ c κs. search needs) returns returns-2)

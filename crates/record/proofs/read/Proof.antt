@@ -5,12 +5,6 @@ use Rattle.record.proofs.read.Statement.{statement}
 use Rattle.record.specs.Number.{readingOf}
 use Rattle.record.proofs.read.Tie as tie
 
-record-number-requires : tie.Need-record-number-requires
-record-number-requires c κs = search needs
-
-header-of-requires : tie.Need-header-of-requires
-header-of-requires c κs = search needs
-
 returns : tie.Need-returns
 unfolding readingOf
 returns c = rw (← c .before .before .record-number .ensures, eq-eqb _ 0 (c .before .if1 .taken), c .header-of .ensures)
@@ -20,4 +14,4 @@ unfolding readingOf
 returns-2 c = rw (← c .before .record-number .ensures, ne-eqb _ 0 (c .if1 .left))
 
 pub read-spec : {M : Type 1} → statement M
-read-spec = tie.close (tie.spec record-number-requires header-of-requires returns returns-2)
+read-spec = tie.close (tie.spec (λ c κs. search needs) (λ c κs. search needs) returns returns-2)

@@ -18,12 +18,6 @@ returns : tie.Need-returns
 unfolding recordNumber
 returns c = rw (lt-ltb _ 28 (c .if1 .taken))
 
-header-of-requires : tie.Need-header-of-requires
-header-of-requires c κs = search needs
-
-sizes-fit-requires : tie.Need-sizes-fit-requires
-sizes-fit-requires c κs = search needs
-
 returns-2 : tie.Need-returns-2
 unfolding recordNumber
 returns-2 c = rw (
@@ -32,9 +26,6 @@ returns-2 c = rw (
   ← c .before .sizes-fit .ensures,
   c .if2 .taken,
 )
-
-record-length-requires : tie.Need-record-length-requires
-record-length-requires c κs = search needs
 
 returns-3 : tie.Need-returns-3
 unfolding recordNumber
@@ -75,9 +66,6 @@ returns-4 c = rw (three-pass (c .before .before), ne-eqb _ 0 (c .if4 .taken))
 returns-5 : tie.Need-returns-5
 returns-5 c = rw (three-pass (c .before .before .before .before), eq-eqb _ 0 (c .before .before .if4 .left), ne-eqb _ 0 (c .if5 .taken))
 
-version-sound-requires : tie.Need-version-sound-requires
-version-sound-requires c κs = search needs
-
 returns-6 : tie.Need-returns-6
 returns-6 c = rw (
   three-pass (c .before .before .before .before .before .before),
@@ -86,9 +74,6 @@ returns-6 c = rw (
   ← c .before .version-sound .ensures,
   c .if6 .taken,
 )
-
-source-sound-requires : tie.Need-source-sound-requires
-source-sound-requires c κs = search needs
 
 returns-7 : tie.Need-returns-7
 returns-7 c = rw (
@@ -100,12 +85,6 @@ returns-7 c = rw (
   ← c .before .source-sound .ensures,
   c .if7 .taken,
 )
-
-code-of-requires : tie.Need-code-of-requires
-code-of-requires c κs = search needs
-
-entries-sound-requires : tie.Need-entries-sound-requires
-entries-sound-requires c κs = search needs
 
 returns-8 : tie.Need-returns-8
 returns-8 c = rw (
@@ -140,18 +119,18 @@ record-number-spec =
     tie.close
     (tie.spec
     returns
-    header-of-requires
-    sizes-fit-requires
+    (λ c κs. search needs)
+    (λ c κs. search needs)
     returns-2
-    record-length-requires
+    (λ c κs. search needs)
     returns-3
     returns-4
     returns-5
-    version-sound-requires
+    (λ c κs. search needs)
     returns-6
-    source-sound-requires
+    (λ c κs. search needs)
     returns-7
-    code-of-requires
-    entries-sound-requires
+    (λ c κs. search needs)
+    (λ c κs. search needs)
     returns-8
     returns-9)

@@ -5,26 +5,8 @@ use Rattle.report.specs.Report.{endedText}
 use Rattle.report.proofs.Printing.{print-short, print-whole}
 use Rattle.report.proofs.print_ended.Tie as tie
 
-slice-relend-prefix-put-ended : tie.Need-slice-relend-prefix-put-ended
-slice-relend-prefix-put-ended c = search needs
-
-slice-aggregate-put-ended : tie.Need-slice-aggregate-put-ended
-slice-aggregate-put-ended c = search needs
-
-put-ended-requires : tie.Need-put-ended-requires
-put-ended-requires c κs = search needs
-
-same-length : tie.Need-same-length
-same-length c = search needs
-
 returns : tie.Need-returns
 returns c = print-short (endedText (c .before .before .before .before .before .before .before .before .before .args .r .now) (c .before .before .before .before .before .before .before .before .before .args .e) (c .before .before .before .before .before .before .before .before .before .args .memory .now) (c .before .before .before .before .before .before .before .before .before .args .stack .now)) (c .before .before .before .before .before .before .before .before .before .args .out .now) (c .before .before .before .put-ended .ensures) (c .if1 .taken)
-
-put-ended-requires-2 : tie.Need-put-ended-requires-2
-put-ended-requires-2 c κs = search needs
-
-same-length-2 : tie.Need-same-length-2
-same-length-2 c = search needs
 
 returns-2 : tie.Need-returns-2
 returns-2 c = print-whole (endedText (c .before .before .before .before .before .before .before .before .before .before .before .before .before .args .r .now) (c .before .before .before .before .before .before .before .before .before .before .before .before .before .args .e) (c .before .before .before .before .before .before .before .before .before .before .before .before .before .args .memory .now) (c .before .before .before .before .before .before .before .before .before .before .before .before .before .args .stack .now)) (c .before .before .before .before .before .before .before .before .before .before .before .before .before .args .out .now) (c .before .before .before .before .before .before .before .put-ended .ensures) (c .before .before .before .before .if1 .left) (c .before .before .put-ended2 .ensures)
@@ -33,11 +15,11 @@ pub print-ended-spec : {M : Type 1} → statement M
 print-ended-spec =
     tie.close
     (tie.spec
-    slice-relend-prefix-put-ended
-    slice-aggregate-put-ended
-    put-ended-requires
-    same-length
+    (λ c. search needs)
+    (λ c. search needs)
+    (λ c κs. search needs)
+    (λ c. search needs)
     returns
-    put-ended-requires-2
-    same-length-2
+    (λ c κs. search needs)
+    (λ c. search needs)
     returns-2)

@@ -6,14 +6,8 @@ use Rattle.run_file.proofs.budget_at.Statement.{statement}
 use Rattle.run_file.specs.RunFile.{resultsCount}
 use Rattle.run_file.proofs.budget_at.Tie as tie
 
-results-count-requires : tie.Need-results-count-requires
-results-count-requires c κs = search needs
-
 add-result : tie.Need-add-result
 add-result c = omega (arith, c .before .shared-slice-known .given 5)
-
-parameters-count-requires : tie.Need-parameters-count-requires
-parameters-count-requires c κs = search needs
 
 mul-result : tie.Need-mul-result
 mul-result c = omega (arith, c .before .before .shared-slice-known .given (6 + resultsCount (c .before .before .before .args .f .now)))
@@ -23,16 +17,13 @@ add-result-2 c =
     let byte = c .before .before .shared-slice-known .given in
     omega (arith, byte 5, byte (6 + resultsCount (c .before .before .before .args .f .now)))
 
-returns : tie.Need-returns
-returns c = search needs
-
 pub budget-at-spec : {M : Type 1} → statement M
 budget-at-spec =
     tie.close
     (tie.spec
-    results-count-requires
+    (λ c κs. search needs)
     add-result
-    parameters-count-requires
+    (λ c κs. search needs)
     mul-result
     add-result-2
-    returns)
+    (λ c. search needs))

@@ -4,15 +4,9 @@ use Rattle.run_file.proofs.budget_of.Statement.{statement}
 use Rattle.run_file.specs.RunFile.{budgetOf}
 use Rattle.run_file.proofs.budget_of.Tie as tie
 
-budget-at-requires : tie.Need-budget-at-requires
-budget-at-requires c κs = search needs
-
-word-at-requires : tie.Need-word-at-requires
-word-at-requires c κs = search needs
-
 returns : tie.Need-returns
 unfolding budgetOf
 returns c = rw (c .word-at .ensures, c .before .budget-at .ensures)
 
 pub budget-of-spec : {M : Type 1} → statement M
-budget-of-spec = tie.close (tie.spec budget-at-requires word-at-requires returns)
+budget-of-spec = tie.close (tie.spec (λ c κs. search needs) (λ c κs. search needs) returns)

@@ -6,16 +6,10 @@ use Rattle.run_file.proofs.memory_words.Statement.{statement}
 use Rattle.run_file.specs.RunFile.{resultsCount, memoryWords}
 use Rattle.run_file.proofs.memory_words.Tie as tie
 
-budget-at-requires : tie.Need-budget-at-requires
-budget-at-requires c κs = search needs
-
 add-halfword-at : tie.Need-add-halfword-at
 add-halfword-at c =
     let byte = c .before .shared-slice-known .given in
     omega (arith, byte 5, byte (6 + resultsCount (c .before .before .args .f .now)))
-
-halfword-at-requires : tie.Need-halfword-at-requires
-halfword-at-requires c κs = search needs
 
 returns : tie.Need-returns
 unfolding memoryWords
@@ -23,4 +17,4 @@ returns c = rw (c .halfword-at .ensures, c .before .budget-at .ensures)
 
 pub memory-words-spec : {M : Type 1} → statement M
 memory-words-spec =
-    tie.close (tie.spec budget-at-requires add-halfword-at halfword-at-requires returns)
+    tie.close (tie.spec (λ c κs. search needs) add-halfword-at (λ c κs. search needs) returns)

@@ -4,21 +4,12 @@ use borrow.Author.Needs.{needs}
 use Rattle.run_file.proofs.parameters_count.Statement.{statement}
 use Rattle.run_file.proofs.parameters_count.Tie as tie
 
-results-count-requires : tie.Need-results-count-requires
-results-count-requires c κs = search needs
-
 add-byte-at : tie.Need-add-byte-at
 add-byte-at c = omega (arith, c .before .shared-slice-known .given 5)
-
-byte-at-requires : tie.Need-byte-at-requires
-byte-at-requires c κs = search needs
-
-cast-result : tie.Need-cast-result
-cast-result c = search needs
 
 returns : tie.Need-returns
 returns c = rw (c .byte-at .ensures, c .before .results-count .ensures)
 
 pub parameters-count-spec : {M : Type 1} → statement M
 parameters-count-spec =
-    tie.close (tie.spec results-count-requires add-byte-at byte-at-requires cast-result returns)
+    tie.close (tie.spec (λ c κs. search needs) add-byte-at (λ c κs. search needs) (λ c. search needs) returns)

@@ -18,35 +18,11 @@ Inv-loop f parameters₀ from i₀ i-end parameters i =
 abbrev μ-loop : tie.MeasureT-loop
 μ-loop f parameters₀ from i₀ i-end parameters i = length parameters₀ - i
 
-results-count-requires : tie.Need-results-count-requires Inv-loop μ-loop
-results-count-requires c κs = search needs
-
 add-from : tie.Need-add-from Inv-loop μ-loop
 add-from c = omega (arith, c .before .before .shared-slice-known .given 5)
 
-loop-holds : tie.Need-loop-holds Inv-loop μ-loop
-loop-holds c = search needs
-
-mul-word-at : tie.Need-mul-word-at Inv-loop μ-loop
-mul-word-at c = search needs
-
 add-word-at : tie.Need-add-word-at Inv-loop μ-loop
 add-word-at c = omega (arith, c .before .before .before .before .shared-slice-known .given 5)
-
-word-at-requires : tie.Need-word-at-requires Inv-loop μ-loop
-word-at-requires c κs = search needs
-
-mul-parameters : tie.Need-mul-parameters Inv-loop μ-loop
-mul-parameters c = search needs
-
-slice-write-parameters : tie.Need-slice-write-parameters Inv-loop μ-loop
-slice-write-parameters c = search needs
-
-add-i : tie.Need-add-i Inv-loop μ-loop
-add-i c = search needs
-
-loop-less : tie.Need-loop-less Inv-loop μ-loop
-loop-less c = search needs
 
 loop-again : tie.Need-loop-again Inv-loop μ-loop
 loop-again c =
@@ -61,9 +37,6 @@ loop-again c =
           (l .inv .0 ∙ sym (series-length (wordAt f) 4 from n))
           (x .ensures ∙ sym (series-at (wordAt f) 4 from n (l .i) (omega arith))),
     )
-
-same-length : tie.Need-same-length Inv-loop μ-loop
-same-length c = search needs
 
 returns : tie.Need-returns Inv-loop μ-loop
 returns c =
@@ -81,16 +54,16 @@ read-parameters-spec =
     (tie.spec
     Inv-loop
     μ-loop
-    results-count-requires
+    (λ c κs. search needs)
     add-from
-    loop-holds
-    mul-word-at
+    (λ c. search needs)
+    (λ c. search needs)
     add-word-at
-    word-at-requires
-    mul-parameters
-    slice-write-parameters
-    add-i
-    loop-less
+    (λ c κs. search needs)
+    (λ c. search needs)
+    (λ c. search needs)
+    (λ c. search needs)
+    (λ c. search needs)
     loop-again
-    same-length
+    (λ c. search needs)
     returns)

@@ -9,16 +9,10 @@ use Rattle.run_file.proofs.record_of.Statement.{statement}
 use Rattle.run_file.specs.RunFile.{resultsCount, recordOf}
 use Rattle.run_file.proofs.record_of.Tie as tie
 
-budget-at-requires : tie.Need-budget-at-requires
-budget-at-requires c κs = search needs
-
 add-part : tie.Need-add-part
 add-part c =
     let byte = c .before .shared-slice-known .given in
     omega (arith, byte 5, byte (6 + resultsCount (c .before .before .args .f .now)))
-
-part-requires : tie.Need-part-requires
-part-requires c κs = search needs
 
 returns : tie.Need-returns
 unfolding recordOf
@@ -28,4 +22,4 @@ returns c =
     (c .part .ensures ∙ take-all (length f) (drop (c .before .budget-at .result + 8) f) (simp length-drop (omega arith)))
 
 pub record-of-spec : {M : Type 1} → statement M
-record-of-spec = tie.close (tie.spec budget-at-requires add-part part-requires returns)
+record-of-spec = tie.close (tie.spec (λ c κs. search needs) add-part (λ c κs. search needs) returns)

@@ -4,15 +4,9 @@ use Rattle.run_file.proofs.results_of.Statement.{statement}
 use Rattle.run_file.specs.RunFile.{resultsOf}
 use Rattle.run_file.proofs.results_of.Tie as tie
 
-results-count-requires : tie.Need-results-count-requires
-results-count-requires c κs = search needs
-
-part-requires : tie.Need-part-requires
-part-requires c κs = search needs
-
 returns : tie.Need-returns
 unfolding resultsOf
 returns c = rw (c .part .ensures, c .before .results-count .ensures)
 
 pub results-of-spec : {M : Type 1} → statement M
-results-of-spec = tie.close (tie.spec results-count-requires part-requires returns)
+results-of-spec = tie.close (tie.spec (λ c κs. search needs) (λ c κs. search needs) returns)

@@ -15,9 +15,6 @@ returns : tie.Need-returns
 unfolding wellFormed
 returns c = rw (lt-leb _ 8192 (c .if1 .taken))
 
-is-named-requires : tie.Need-is-named-requires
-is-named-requires c κs = search needs
-
 returns-2 : tie.Need-returns-2
 unfolding wellFormed
 returns-2 c = rw (
@@ -25,9 +22,6 @@ returns-2 c = rw (
   ← c .before .is-named .ensures,
   not-true (c .before .is-named .result) (c .if2 .taken),
 )
-
-halfword-at-requires : tie.Need-halfword-at-requires
-halfword-at-requires c κs = search needs
 
 returns-3 : tie.Need-returns-3
 unfolding wellFormed
@@ -53,9 +47,6 @@ three-pass c =
       eq-eqb _ 1 (c .if3 .left),
     )
 
-budget-at-requires : tie.Need-budget-at-requires
-budget-at-requires c κs = search needs
-
 add-if4 : tie.Need-add-if4
 add-if4 c =
     let byte = c .before .before .before .before .before .before .shared-slice-known .given in
@@ -63,9 +54,6 @@ add-if4 c =
 
 returns-4 : tie.Need-returns-4
 returns-4 c = rw (three-pass (c .before .before), ← c .before .budget-at .ensures, lt-leb _ _ (c .if4 .taken))
-
-memory-words-requires : tie.Need-memory-words-requires
-memory-words-requires c κs = search needs
 
 returns-5 : tie.Need-returns-5
 returns-5 c = rw (
@@ -80,12 +68,12 @@ well-formed-spec =
     tie.close
     (tie.spec
     returns
-    is-named-requires
+    (λ c κs. search needs)
     returns-2
-    halfword-at-requires
+    (λ c κs. search needs)
     returns-3
-    budget-at-requires
+    (λ c κs. search needs)
     add-if4
     returns-4
-    memory-words-requires
+    (λ c κs. search needs)
     returns-5)

@@ -9,15 +9,9 @@ returns : tie.Need-returns
 unfolding lineAt
 returns c = rw (le-ltb _ _ (c .if1 .taken))
 
-pairs-covering-requires : tie.Need-pairs-covering-requires
-pairs-covering-requires c κs = search needs
-
-pair-line-requires : tie.Need-pair-line-requires
-pair-line-requires c κs = search needs
-
 returns-2 : tie.Need-returns-2
 unfolding lineAt
 returns-2 c = rw (lt-ltb _ _ (c .before .before .if1 .left), c .pair-line .ensures, c .before .pairs-covering .ensures)
 
 pub line-at-spec : {M : Type 1} → statement M
-line-at-spec = tie.close (tie.spec returns pairs-covering-requires pair-line-requires returns-2)
+line-at-spec = tie.close (tie.spec returns (λ c κs. search needs) (λ c κs. search needs) returns-2)

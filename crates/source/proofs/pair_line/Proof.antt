@@ -7,27 +7,9 @@ use Rattle.header.specs.Header.{codeAt, constantsAt, relocationAt, versionsAt, 
 use Rattle.source.proofs.Pairs.{pair-line-at}
 use Rattle.source.proofs.pair_line.Tie as tie
 
-returns : tie.Need-returns
-returns c = search needs
-
-sources-at-requires : tie.Need-sources-at-requires
-sources-at-requires c κs = search needs
-
-sub-pair-at : tie.Need-sub-pair-at
-sub-pair-at c = search needs
-
-cast-pair-at : tie.Need-cast-pair-at
-cast-pair-at c = search needs
-
-mul-pair-at : tie.Need-mul-pair-at
-mul-pair-at c = search needs
-
 add-pair-at : tie.Need-add-pair-at
 unfolding codeAt constantsAt relocationAt versionsAt sourcesAt
 add-pair-at c = omega arith
-
-pair-at-requires : tie.Need-pair-at-requires
-pair-at-requires c κs = search needs
 
 returns-2 : tie.Need-returns-2
 returns-2 c = let a = c .before .before .before .before .args in
@@ -37,11 +19,11 @@ pub pair-line-spec : {M : Type 1} → statement M
 pair-line-spec =
     tie.close
     (tie.spec
-    returns
-    sources-at-requires
-    sub-pair-at
-    cast-pair-at
-    mul-pair-at
+    (λ c. search needs)
+    (λ c κs. search needs)
+    (λ c. search needs)
+    (λ c. search needs)
+    (λ c. search needs)
     add-pair-at
-    pair-at-requires
+    (λ c κs. search needs)
     returns-2)

@@ -20,14 +20,8 @@ Inv-loop r offset pairs at₀ k₀ at k = (k ≤ pairs) × (at ≡ at₀ + 8 * k
 abbrev μ-loop : tie.MeasureT-loop
 μ-loop r offset pairs at₀ k₀ at k = pairs - k
 
-sources-at-requires : tie.Need-sources-at-requires Inv-loop μ-loop
-sources-at-requires c κs = search needs
-
 loop-holds : tie.Need-loop-holds Inv-loop μ-loop
 loop-holds c = (omega arith, omega arith, rw sub-zero (omega arith))
-
-pair-at-requires : tie.Need-pair-at-requires Inv-loop μ-loop
-pair-at-requires c κs = search needs
 
 returns : tie.Need-returns Inv-loop μ-loop
 unfolding sourceOffsets
@@ -42,12 +36,6 @@ returns c = rw (
 add-at : tie.Need-add-at Inv-loop μ-loop
 unfolding codeAt constantsAt relocationAt versionsAt sourcesAt
 add-at c = omega arith
-
-add-k : tie.Need-add-k Inv-loop μ-loop
-add-k c = search needs
-
-loop-less : tie.Need-loop-less Inv-loop μ-loop
-loop-less c = search needs
 
 loop-again : tie.Need-loop-again Inv-loop μ-loop
 loop-again c = (
@@ -67,12 +55,12 @@ pairs-covering-spec =
     (tie.spec
     Inv-loop
     μ-loop
-    sources-at-requires
+    (λ c κs. search needs)
     loop-holds
-    pair-at-requires
+    (λ c κs. search needs)
     returns
     add-at
-    add-k
-    loop-less
+    (λ c. search needs)
+    (λ c. search needs)
     loop-again
     returns-2)

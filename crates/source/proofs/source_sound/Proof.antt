@@ -25,9 +25,6 @@ returns : tie.Need-returns Inv-loop μ-loop
 unfolding sourceSound
 returns c = rw (ne-eqb _ 0 (c .if1 .taken))
 
-sources-at-requires : tie.Need-sources-at-requires Inv-loop μ-loop
-sources-at-requires c κs = search needs
-
 loop-holds : tie.Need-loop-holds Inv-loop μ-loop
 loop-holds c = (omega arith, rw sub-zero)
 
@@ -38,12 +35,6 @@ left-decides : (c : tie.At-loop Inv-loop μ-loop) →
     sourceSound r h ≡ risingFrom (h .code) (c .loop .least) (offsetsFrom r (c .loop .at) (h .sources / 2 - c .loop .counter))
 unfolding sourceSound sourceOffsets
 left-decides c = rw (eq-eqb _ 0 (c .before .before .before .if1 .left), ← c .before .sources-at .ensures) (c .loop .inv .1)
-
-pair-at-requires : tie.Need-pair-at-requires Inv-loop μ-loop
-pair-at-requires c κs = search needs
-
-cast-if2 : tie.Need-cast-if2 Inv-loop μ-loop
-cast-if2 c = search needs
 
 returns-2 : tie.Need-returns-2 Inv-loop μ-loop
 returns-2 c = rw (
@@ -62,21 +53,9 @@ returns-3 c = rw (
   le-ltb _ _ (c .if3 .taken),
 )
 
-cast-least : tie.Need-cast-least Inv-loop μ-loop
-cast-least c = search needs
-
-add-least : tie.Need-add-least Inv-loop μ-loop
-add-least c = search needs
-
 add-at : tie.Need-add-at Inv-loop μ-loop
 unfolding codeAt constantsAt relocationAt versionsAt sourcesAt
 add-at c = omega arith
-
-add-counter : tie.Need-add-counter Inv-loop μ-loop
-add-counter c = search needs
-
-loop-less : tie.Need-loop-less Inv-loop μ-loop
-loop-less c = search needs
 
 loop-again : tie.Need-loop-again Inv-loop μ-loop
 loop-again c = (
@@ -100,16 +79,16 @@ source-sound-spec =
     Inv-loop
     μ-loop
     returns
-    sources-at-requires
+    (λ c κs. search needs)
     loop-holds
-    pair-at-requires
-    cast-if2
+    (λ c κs. search needs)
+    (λ c. search needs)
     returns-2
     returns-3
-    cast-least
-    add-least
+    (λ c. search needs)
+    (λ c. search needs)
     add-at
-    add-counter
-    loop-less
+    (λ c. search needs)
+    (λ c. search needs)
     loop-again
     returns-4)

@@ -24,24 +24,12 @@ returns c =
     sym (followed-break (a .memory .now) (a .start) (a .fp) (a .calls) (l .frame) (l .counter) (l .inv)
     (c .before .loop-test .taken) (omega (arith, c .if1 .taken)))
 
-word-at-requires : tie.Need-word-at-requires Inv-loop μ-loop
-word-at-requires c κs = search needs
-
-cast-saved : tie.Need-cast-saved Inv-loop μ-loop
-cast-saved c = search needs
-
 returns-2 : tie.Need-returns-2 Inv-loop μ-loop
 returns-2 c =
     let a = c .before .before .before .before .before .before .args in
     let l = c .before .before .before .before .loop in
     sym (followed-break (a .memory .now) (a .start) (a .fp) (a .calls) (l .frame) (l .counter) (l .inv)
     (c .before .before .before .loop-test .taken) (omega (arith, c .before .word-at .ensures, c .if2 .taken)))
-
-add-counter : tie.Need-add-counter Inv-loop μ-loop
-add-counter c = search needs
-
-loop-less : tie.Need-loop-less Inv-loop μ-loop
-loop-less c = search needs
 
 loop-again : tie.Need-loop-again Inv-loop μ-loop
 loop-again c =
@@ -64,10 +52,10 @@ is-chained-spec =
     μ-loop
     loop-holds
     returns
-    word-at-requires
-    cast-saved
+    (λ c κs. search needs)
+    (λ c. search needs)
     returns-2
-    add-counter
-    loop-less
+    (λ c. search needs)
+    (λ c. search needs)
     loop-again
     returns-3)

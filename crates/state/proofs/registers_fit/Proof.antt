@@ -16,9 +16,6 @@ returns-2 c =
     let q = c .before .before .before .before .args .q in
     rw (eq-eqb (q .gp) 3 (c .before .before .if1 .left), lt-leb (q .fp) (q .mp) (c .if2 .taken))
 
-cast-if3 : tie.Need-cast-if3
-cast-if3 c = search needs
-
 returns-3 : tie.Need-returns-3
 unfolding registersFit
 returns-3 c =
@@ -29,9 +26,6 @@ returns-3 c =
       le-leb (q .fp) (q .mp) (c .before .before .if2 .left),
       lt-leb (q .mp) (length (a .memory .now)) (c .if3 .taken),
     )
-
-cast-if4 : tie.Need-cast-if4
-cast-if4 c = search needs
 
 returns-4 : tie.Need-returns-4
 unfolding registersFit
@@ -59,4 +53,4 @@ returns-5 c =
 
 pub registers-fit-spec : {M : Type 1} → statement M
 registers-fit-spec =
-    tie.close (tie.spec returns returns-2 cast-if3 returns-3 cast-if4 returns-4 returns-5)
+    tie.close (tie.spec returns returns-2 (λ c. search needs) returns-3 (λ c. search needs) returns-4 returns-5)

@@ -6,9 +6,6 @@ use Rattle.state.specs.Fits.{sizesTaken}
 use Rattle.state.proofs.sizes_taken.Statement.{statement}
 use Rattle.state.proofs.sizes_taken.Tie as tie
 
-frames-start-requires : tie.Need-frames-start-requires
-frames-start-requires c κs = search needs
-
 returns : tie.Need-returns
 unfolding sizesTaken
 returns c = rw (← c .before .frames-start .ensures, lt-leb (c .before .frames-start .result) (length (c .before .before .before .before .args .memory .now)) (c .if1 .taken))
@@ -22,4 +19,4 @@ unfolding sizesTaken
 returns-3 c = rw (← c .before .before .frames-start .ensures, le-leb (c .before .before .frames-start .result) (length (c .before .before .before .before .before .args .memory .now)) (c .before .if1 .left), le-leb (length (c .before .before .before .before .before .args .memory .now)) 16384 (c .if2 .left))
 
 pub sizes-taken-spec : {M : Type 1} → statement M
-sizes-taken-spec = tie.close (tie.spec frames-start-requires returns returns-2 returns-3)
+sizes-taken-spec = tie.close (tie.spec (λ c κs. search needs) returns returns-2 returns-3)

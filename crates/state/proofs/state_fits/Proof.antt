@@ -5,32 +5,17 @@ use Rattle.state.specs.Fits.{fits}
 use Rattle.state.proofs.state_fits.Statement.{statement}
 use Rattle.state.proofs.state_fits.Tie as tie
 
-sizes-taken-requires : tie.Need-sizes-taken-requires
-sizes-taken-requires c κs = search needs
-
 returns : tie.Need-returns
 unfolding fits
 returns c = rw (← c .before .sizes-taken .ensures, not-true (c .before .sizes-taken .result) (c .if1 .taken))
-
-header-kept-requires : tie.Need-header-kept-requires
-header-kept-requires c κs = search needs
 
 returns-2 : tie.Need-returns-2
 unfolding fits
 returns-2 c = rw (← c .before .before .before .sizes-taken .ensures, not-false (c .before .before .before .sizes-taken .result) (c .before .before .if1 .left), ← c .before .header-kept .ensures, not-true (c .before .header-kept .result) (c .if2 .taken))
 
-registers-fit-requires : tie.Need-registers-fit-requires
-registers-fit-requires c κs = search needs
-
 returns-3 : tie.Need-returns-3
 unfolding fits
 returns-3 c = rw (← c .before .before .before .before .before .sizes-taken .ensures, not-false (c .before .before .before .before .before .sizes-taken .result) (c .before .before .before .before .if1 .left), ← c .before .before .before .header-kept .ensures, not-false (c .before .before .before .header-kept .result) (c .before .before .if2 .left), ← c .before .registers-fit .ensures, not-true (c .before .registers-fit .result) (c .if3 .taken))
-
-frames-start-requires : tie.Need-frames-start-requires
-frames-start-requires c κs = search needs
-
-is-chained-requires : tie.Need-is-chained-requires
-is-chained-requires c κs = search needs
 
 returns-4 : tie.Need-returns-4
 unfolding fits
@@ -40,12 +25,12 @@ pub state-fits-spec : {M : Type 1} → statement M
 state-fits-spec =
     tie.close
     (tie.spec
-    sizes-taken-requires
+    (λ c κs. search needs)
     returns
-    header-kept-requires
+    (λ c κs. search needs)
     returns-2
-    registers-fit-requires
+    (λ c κs. search needs)
     returns-3
-    frames-start-requires
-    is-chained-requires
+    (λ c κs. search needs)
+    (λ c κs. search needs)
     returns-4)

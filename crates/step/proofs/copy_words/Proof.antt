@@ -18,21 +18,6 @@ abbrev μ-loop : tie.MeasureT-loop
 loop-holds : tie.Need-loop-holds Inv-loop μ-loop
 loop-holds c = (refl, omega arith, refl)
 
-mul-set-word : tie.Need-mul-set-word Inv-loop μ-loop
-mul-set-word c = search needs
-
-shared-slice-read-set-word : tie.Need-shared-slice-read-set-word Inv-loop μ-loop
-shared-slice-read-set-word c = search needs
-
-set-word-requires : tie.Need-set-word-requires Inv-loop μ-loop
-set-word-requires c κs = search needs
-
-add-i : tie.Need-add-i Inv-loop μ-loop
-add-i c = search needs
-
-loop-less : tie.Need-loop-less Inv-loop μ-loop
-loop-less c = search needs
-
 loop-again : tie.Need-loop-again Inv-loop μ-loop
 loop-again c = (c .before .before .before .before .before .before .loop .inv .0, omega (arith, c .before .before .before .before .before .before .loop .inv .0), c .before .before .set-word .ensures ∙ (rw (c .before .before .before .before .before .before .loop .inv .2) (sets-one-more (c .before .before .before .before .before .before .before .before .before .args .dst .now) (c .before .before .before .before .before .before .before .before .before .args .src .now) (c .before .before .before .before .before .before .loop .i) (omega (arith, c .before .before .before .before .before .before .loop .inv .0)))))
 
@@ -49,11 +34,11 @@ copy-words-spec =
     Inv-loop
     μ-loop
     loop-holds
-    mul-set-word
-    shared-slice-read-set-word
-    set-word-requires
-    add-i
-    loop-less
+    (λ c. search needs)
+    (λ c. search needs)
+    (λ c κs. search needs)
+    (λ c. search needs)
+    (λ c. search needs)
     loop-again
     same-length
     returns)

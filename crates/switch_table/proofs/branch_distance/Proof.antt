@@ -6,19 +6,10 @@ use Rattle.switch_table.specs.Switch.{branchDistance}
 use Rattle.switch_table.proofs.branch_distance.Statement.{statement}
 use Rattle.switch_table.proofs.branch_distance.Tie as tie
 
-mul-halfword-behind : tie.Need-mul-halfword-behind
-mul-halfword-behind c = search needs
-
-add-halfword-behind : tie.Need-add-halfword-behind
-add-halfword-behind c = search needs
-
-halfword-behind-requires : tie.Need-halfword-behind-requires
-halfword-behind-requires c κs = search needs
-
 returns : tie.Need-returns
 unfolding branchDistance
 returns c = rw (add-assoc (c .before .before .args .at) 7 (2 * c .before .before .args .k)) (c .halfword-behind .ensures)
 
 pub branch-distance-spec : {M : Type 1} → statement M
 branch-distance-spec =
-    tie.close (tie.spec mul-halfword-behind add-halfword-behind halfword-behind-requires returns)
+    tie.close (tie.spec (λ c. search needs) (λ c. search needs) (λ c κs. search needs) returns)

@@ -4,12 +4,9 @@ use Rattle.switch_table.specs.Switch.{elseDistance}
 use Rattle.switch_table.proofs.else_distance.Statement.{statement}
 use Rattle.switch_table.proofs.else_distance.Tie as tie
 
-halfword-behind-requires : tie.Need-halfword-behind-requires
-halfword-behind-requires c κs = search needs
-
 returns : tie.Need-returns
 unfolding elseDistance
 returns c = c .halfword-behind .ensures
 
 pub else-distance-spec : {M : Type 1} → statement M
-else-distance-spec = tie.close (tie.spec halfword-behind-requires returns)
+else-distance-spec = tie.close (tie.spec (λ c κs. search needs) returns)

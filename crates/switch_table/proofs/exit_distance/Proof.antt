@@ -4,12 +4,9 @@ use Rattle.switch_table.specs.Switch.{exitDistance}
 use Rattle.switch_table.proofs.exit_distance.Statement.{statement}
 use Rattle.switch_table.proofs.exit_distance.Tie as tie
 
-halfword-behind-requires : tie.Need-halfword-behind-requires
-halfword-behind-requires c κs = search needs
-
 returns : tie.Need-returns
 unfolding exitDistance
 returns c = c .halfword-behind .ensures
 
 pub exit-distance-spec : {M : Type 1} → statement M
-exit-distance-spec = tie.close (tie.spec halfword-behind-requires returns)
+exit-distance-spec = tie.close (tie.spec (λ c κs. search needs) returns)

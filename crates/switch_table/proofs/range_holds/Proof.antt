@@ -8,34 +8,10 @@ use Rattle.switch_table.specs.Switch.{rangeHolds}
 use Rattle.switch_table.proofs.range_holds.Statement.{statement}
 use Rattle.switch_table.proofs.range_holds.Tie as tie
 
-mul-word-behind : tie.Need-mul-word-behind
-mul-word-behind c = search needs
-
-add-word-behind : tie.Need-add-word-behind
-add-word-behind c = search needs
-
-word-behind-requires : tie.Need-word-behind-requires
-word-behind-requires c κs = search needs
-
-at-most-requires : tie.Need-at-most-requires
-at-most-requires c κs = search needs
-
 returns : tie.Need-returns
 unfolding rangeHolds
 returns c = let low : c .before .before .before .before .args .at + 7 + 10 * c .before .before .before .before .args .k ≡ c .before .before .before .before .args .at + (7 + 10 * c .before .before .before .before .args .k) = omega arith in
     rw (low, ← c .before .before .word-behind .ensures, ← c .before .at-most .ensures, not-true (c .before .at-most .result) (c .if1 .taken))
-
-mul-word-behind-2 : tie.Need-mul-word-behind-2
-mul-word-behind-2 c = search needs
-
-add-word-behind-2 : tie.Need-add-word-behind-2
-add-word-behind-2 c = search needs
-
-word-behind-requires-2 : tie.Need-word-behind-requires-2
-word-behind-requires-2 c κs = search needs
-
-at-most-requires-2 : tie.Need-at-most-requires-2
-at-most-requires-2 c κs = search needs
 
 returns-2 : tie.Need-returns-2
 unfolding rangeHolds
@@ -47,13 +23,13 @@ pub range-holds-spec : {M : Type 1} → statement M
 range-holds-spec =
     tie.close
     (tie.spec
-    mul-word-behind
-    add-word-behind
-    word-behind-requires
-    at-most-requires
+    (λ c. search needs)
+    (λ c. search needs)
+    (λ c κs. search needs)
+    (λ c κs. search needs)
     returns
-    mul-word-behind-2
-    add-word-behind-2
-    word-behind-requires-2
-    at-most-requires-2
+    (λ c. search needs)
+    (λ c. search needs)
+    (λ c κs. search needs)
+    (λ c κs. search needs)
     returns-2)

@@ -18,12 +18,6 @@ abbrev μ-loop : tie.MeasureT-loop
 loop-holds : tie.Need-loop-holds Inv-loop μ-loop
 loop-holds c = let e : c .before .args .n - 0 ≡ c .before .args .n = omega arith in (omega arith, rw e)
 
-range-holds-requires : tie.Need-range-holds-requires Inv-loop μ-loop
-range-holds-requires c κs = search needs
-
-range-distance-requires : tie.Need-range-distance-requires Inv-loop μ-loop
-range-distance-requires c κs = search needs
-
 add-k : tie.Need-add-k Inv-loop μ-loop
 add-k c = omega (arith, c .before .before .before .before .before .fits .n)
 
@@ -65,8 +59,8 @@ search-distance-spec =
     Inv-loop
     μ-loop
     loop-holds
-    range-holds-requires
-    range-distance-requires
+    (λ c κs. search needs)
+    (λ c κs. search needs)
     add-k
     loop-less
     loop-again

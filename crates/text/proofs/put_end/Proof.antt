@@ -6,38 +6,17 @@ use Rattle.text.specs.Text.{endLine}
 use Rattle.text.proofs.put_end.Statement.{statement}
 use Rattle.text.proofs.put_end.Tie as tie
 
-slice-aggregate-put-numbered : tie.Need-slice-aggregate-put-numbered
-slice-aggregate-put-numbered c = search needs
-
-put-numbered-requires : tie.Need-put-numbered-requires
-put-numbered-requires c κs = search needs
-
-slice-aggregate-put-numbered-2 : tie.Need-slice-aggregate-put-numbered-2
-slice-aggregate-put-numbered-2 c = search needs
-
 put-numbered-requires-2 : tie.Need-put-numbered-requires-2
 put-numbered-requires-2 c κs = omega (arith, number-ends _ _ (c .before .before .before .before .put-numbered .ensures))
-
-slice-aggregate-put-numbered-3 : tie.Need-slice-aggregate-put-numbered-3
-slice-aggregate-put-numbered-3 c = search needs
 
 put-numbered-requires-3 : tie.Need-put-numbered-requires-3
 put-numbered-requires-3 c κs = omega (arith, number-ends _ _ (c .before .before .before .before .before .before .before .before .before .put-numbered .ensures), number-ends _ _ (c .before .before .before .before .put-numbered2 .ensures))
 
-slice-aggregate-put-numbered-4 : tie.Need-slice-aggregate-put-numbered-4
-slice-aggregate-put-numbered-4 c = search needs
-
 put-numbered-requires-4 : tie.Need-put-numbered-requires-4
 put-numbered-requires-4 c κs = omega (arith, number-ends _ _ (c .before .before .before .before .before .before .before .before .before .before .before .before .before .before .put-numbered .ensures), number-ends _ _ (c .before .before .before .before .before .before .before .before .before .put-numbered2 .ensures), number-ends _ _ (c .before .before .before .before .put-numbered3 .ensures))
 
-slice-aggregate-put-bytes : tie.Need-slice-aggregate-put-bytes
-slice-aggregate-put-bytes c = search needs
-
 put-bytes-requires : tie.Need-put-bytes-requires
 put-bytes-requires c κs = omega (arith, number-ends _ _ (c .before .before .before .before .before .before .before .before .before .before .before .before .before .before .before .before .before .before .before .put-numbered .ensures), number-ends _ _ (c .before .before .before .before .before .before .before .before .before .before .before .before .before .before .put-numbered2 .ensures), number-ends _ _ (c .before .before .before .before .before .before .before .before .before .put-numbered3 .ensures), number-ends _ _ (c .before .before .before .before .put-numbered4 .ensures))
-
-same-length : tie.Need-same-length
-same-length c = search needs
 
 returns : tie.Need-returns
 unfolding endLine
@@ -47,15 +26,15 @@ pub put-end-spec : {M : Type 1} → statement M
 put-end-spec =
     tie.close
     (tie.spec
-    slice-aggregate-put-numbered
-    put-numbered-requires
-    slice-aggregate-put-numbered-2
+    (λ c. search needs)
+    (λ c κs. search needs)
+    (λ c. search needs)
     put-numbered-requires-2
-    slice-aggregate-put-numbered-3
+    (λ c. search needs)
     put-numbered-requires-3
-    slice-aggregate-put-numbered-4
+    (λ c. search needs)
     put-numbered-requires-4
-    slice-aggregate-put-bytes
+    (λ c. search needs)
     put-bytes-requires
-    same-length
+    (λ c. search needs)
     returns)

@@ -14,17 +14,8 @@ Inv-loop out₀ at n digits i₀ out i = (i ≤ digits) × Left out₀ at (digit
 abbrev μ-loop : tie.MeasureT-loop
 μ-loop out₀ at n digits i₀ out i = digits - i
 
-width-of-requires : tie.Need-width-of-requires Inv-loop μ-loop
-width-of-requires c κs = search needs
-
 loop-holds : tie.Need-loop-holds Inv-loop μ-loop
 loop-holds c = (omega arith, left-start (let all : c .width-of .result - 0 ≡ c .width-of .result = omega arith in rw all) (omega arith))
-
-sub-power-of-ten : tie.Need-sub-power-of-ten Inv-loop μ-loop
-sub-power-of-ten c = search needs
-
-sub-power-of-ten-2 : tie.Need-sub-power-of-ten-2 Inv-loop μ-loop
-sub-power-of-ten-2 c = search needs
 
 power-of-ten-requires : tie.Need-power-of-ten-requires Inv-loop μ-loop
 power-of-ten-requires c κs = omega (arith, c .before .before .width-of .ensures, width-bounds (c .before .before .before .before .args .n) .1)
@@ -32,35 +23,8 @@ power-of-ten-requires c κs = omega (arith, c .before .before .width-of .ensures
 div-digit : tie.Need-div-digit Inv-loop μ-loop
 div-digit c = rw (c .power-of-ten .ensures) (power-positive (c .before .before .before .width-of .result - 1 - c .before .before .loop .i))
 
-cast-put-byte : tie.Need-cast-put-byte Inv-loop μ-loop
-cast-put-byte c = search needs
-
-add-put-byte : tie.Need-add-put-byte Inv-loop μ-loop
-add-put-byte c = search needs
-
-cast-put-byte-2 : tie.Need-cast-put-byte-2 Inv-loop μ-loop
-cast-put-byte-2 c = search needs
-
-add-put-byte-2 : tie.Need-add-put-byte-2 Inv-loop μ-loop
-add-put-byte-2 c = search needs
-
-put-byte-requires : tie.Need-put-byte-requires Inv-loop μ-loop
-put-byte-requires c κs = search needs
-
-add-i : tie.Need-add-i Inv-loop μ-loop
-add-i c = search needs
-
-loop-less : tie.Need-loop-less Inv-loop μ-loop
-loop-less c = search needs
-
 loop-again : tie.Need-loop-again Inv-loop μ-loop
 loop-again c = (omega arith, left-next (c .before .before .before .before .before .before .loop .inv .1) (digits-one (c .before .before .before .before .before .before .before .width-of .result) (c .before .before .before .before .before .before .loop .i) (c .before .before .before .before .before .before .before .before .before .args .n) (c .before .before .before .before .before .loop-test .taken)) (wrote-one (rw (← c .before .before .before .before .power-of-ten .ensures) (c .before .before .put-byte .ensures)) (omega arith)))
-
-cast-result : tie.Need-cast-result Inv-loop μ-loop
-cast-result c = search needs
-
-add-result : tie.Need-add-result Inv-loop μ-loop
-add-result c = search needs
 
 same-length : tie.Need-same-length Inv-loop μ-loop
 same-length c = left-length (c .before .loop .inv .1)
@@ -75,21 +39,21 @@ put-number-spec =
     (tie.spec
     Inv-loop
     μ-loop
-    width-of-requires
+    (λ c κs. search needs)
     loop-holds
-    sub-power-of-ten
-    sub-power-of-ten-2
+    (λ c. search needs)
+    (λ c. search needs)
     power-of-ten-requires
     div-digit
-    cast-put-byte
-    add-put-byte
-    cast-put-byte-2
-    add-put-byte-2
-    put-byte-requires
-    add-i
-    loop-less
+    (λ c. search needs)
+    (λ c. search needs)
+    (λ c. search needs)
+    (λ c. search needs)
+    (λ c κs. search needs)
+    (λ c. search needs)
+    (λ c. search needs)
     loop-again
-    cast-result
-    add-result
+    (λ c. search needs)
+    (λ c. search needs)
     same-length
     returns)

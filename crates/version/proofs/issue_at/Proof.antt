@@ -22,12 +22,6 @@ returns : tie.Need-returns
 unfolding issueAt
 returns c = rw (byte-past (c .before .before .args .r .now) _ (c .if1 .taken))
 
-byte-at-requires : tie.Need-byte-at-requires
-byte-at-requires c κs = search needs
-
-within-requires : tie.Need-within-requires
-within-requires c κs = search needs
-
 returns-2 : tie.Need-returns-2
 unfolding issueAt
 returns-2 c = rw (
@@ -36,15 +30,6 @@ returns-2 c = rw (
   not-true (c .before .within .result) (c .if3 .taken),
   ne-eqb _ 32 (c .before .before .if2 .taken),
 )
-
-add-byte-at : tie.Need-add-byte-at
-add-byte-at c = search needs
-
-byte-at-requires-2 : tie.Need-byte-at-requires-2
-byte-at-requires-2 c κs = search needs
-
-within-requires-2 : tie.Need-within-requires-2
-within-requires-2 c κs = search needs
 
 returns-3 : tie.Need-returns-3
 unfolding issueAt
@@ -72,20 +57,8 @@ two-sound c =
       not-false (c .before .within2 .result) (c .if4 .left),
     )
 
-add-byte-at-2 : tie.Need-add-byte-at-2
-add-byte-at-2 c = search needs
-
-byte-at-requires-3 : tie.Need-byte-at-requires-3
-byte-at-requires-3 c κs = search needs
-
 returns-4 : tie.Need-returns-4
 returns-4 c = rw (two-sound (c .before .before), ← c .before .byte-at3 .ensures, ne-eqb _ 47 (c .if5 .taken))
-
-add-byte-at-3 : tie.Need-add-byte-at-3
-add-byte-at-3 c = search needs
-
-byte-at-requires-4 : tie.Need-byte-at-requires-4
-byte-at-requires-4 c κs = search needs
 
 returns-5 : tie.Need-returns-5
 returns-5 c = rw (
@@ -95,9 +68,6 @@ returns-5 c = rw (
   ← c .before .byte-at4 .ensures,
   eq-eqb _ 45 (c .if6 .taken),
 )
-
-within-requires-3 : tie.Need-within-requires-3
-within-requires-3 c κs = search needs
 
 returns-6 : tie.Need-returns-6
 returns-6 c = rw (
@@ -114,18 +84,18 @@ issue-at-spec =
     tie.close
     (tie.spec
     returns
-    byte-at-requires
-    within-requires
+    (λ c κs. search needs)
+    (λ c κs. search needs)
     returns-2
-    add-byte-at
-    byte-at-requires-2
-    within-requires-2
+    (λ c. search needs)
+    (λ c κs. search needs)
+    (λ c κs. search needs)
     returns-3
-    add-byte-at-2
-    byte-at-requires-3
+    (λ c. search needs)
+    (λ c κs. search needs)
     returns-4
-    add-byte-at-3
-    byte-at-requires-4
+    (λ c. search needs)
+    (λ c κs. search needs)
     returns-5
-    within-requires-3
+    (λ c κs. search needs)
     returns-6)

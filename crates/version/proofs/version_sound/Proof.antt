@@ -9,15 +9,9 @@ returns : tie.Need-returns
 unfolding versionSound
 returns c = rw (eq-eqb _ 0 (c .if1 .taken))
 
-versions-at-requires : tie.Need-versions-at-requires
-versions-at-requires c κs = search needs
-
-issue-at-requires : tie.Need-issue-at-requires
-issue-at-requires c κs = search needs
-
 returns-2 : tie.Need-returns-2
 unfolding versionSound
 returns-2 c = rw (ne-eqb _ 0 (c .before .before .if1 .left), c .issue-at .ensures, c .before .versions-at .ensures)
 
 pub version-sound-spec : {M : Type 1} → statement M
-version-sound-spec = tie.close (tie.spec returns versions-at-requires issue-at-requires returns-2)
+version-sound-spec = tie.close (tie.spec returns (λ c κs. search needs) (λ c κs. search needs) returns-2)

@@ -10,21 +10,9 @@ use Rattle.words.proofs.byte_behind.Tie as tie
 returns : tie.Need-returns
 returns c = sym (byte-past (c .before .args .s .now) (c .before .args .at + c .before .args .k) (omega arith))
 
-sub-if2 : tie.Need-sub-if2
-sub-if2 c = search needs
-
 returns-2 : tie.Need-returns-2
 returns-2 c = sym (byte-past (c .before .before .args .s .now) (c .before .before .args .at + c .before .before .args .k) (omega arith))
 
-add-result : tie.Need-add-result
-add-result c = search needs
-
-shared-slice-read-result : tie.Need-shared-slice-read-result
-shared-slice-read-result c = search needs
-
-returns-3 : tie.Need-returns-3
-returns-3 c = search needs
-
 pub byte-behind-spec : {M : Type 1} → statement M
 byte-behind-spec =
-    tie.close (tie.spec returns sub-if2 returns-2 add-result shared-slice-read-result returns-3)
+    tie.close (tie.spec returns (λ c. search needs) returns-2 (λ c. search needs) (λ c. search needs) (λ c. search needs))

@@ -9,18 +9,6 @@ use Rattle.words.proofs.halfword_at.Tie as tie
 returns : tie.Need-returns
 returns c = sym (halfword-past (c .before .before .args .s .now) _ (c .if1 .taken))
 
-byte-at-requires : tie.Need-byte-at-requires
-byte-at-requires c κs = search needs
-
-add-byte-at : tie.Need-add-byte-at
-add-byte-at c = search needs
-
-byte-at-requires-2 : tie.Need-byte-at-requires-2
-byte-at-requires-2 c κs = search needs
-
-pair-requires : tie.Need-pair-requires
-pair-requires c κs = search needs
-
 returns-2 : tie.Need-returns-2
 unfolding halfwordAt
 returns-2 c = rw (c .pair .ensures, c .before .before .byte-at .ensures, c .before .byte-at2 .ensures)
@@ -28,4 +16,4 @@ returns-2 c = rw (c .pair .ensures, c .before .before .byte-at .ensures, c .befo
 pub halfword-at-spec : {M : Type 1} → statement M
 halfword-at-spec =
     tie.close
-    (tie.spec returns byte-at-requires add-byte-at byte-at-requires-2 pair-requires returns-2)
+    (tie.spec returns (λ c κs. search needs) (λ c. search needs) (λ c κs. search needs) (λ c κs. search needs) returns-2)

@@ -9,18 +9,6 @@ use Rattle.words.proofs.word_at.Tie as tie
 returns : tie.Need-returns
 returns c = sym (word-past (c .before .before .args .s .now) _ (c .if1 .taken))
 
-halfword-at-requires : tie.Need-halfword-at-requires
-halfword-at-requires c κs = search needs
-
-add-halfword-at : tie.Need-add-halfword-at
-add-halfword-at c = search needs
-
-halfword-at-requires-2 : tie.Need-halfword-at-requires-2
-halfword-at-requires-2 c κs = search needs
-
-join-requires : tie.Need-join-requires
-join-requires c κs = search needs
-
 returns-2 : tie.Need-returns-2
 unfolding wordAt
 returns-2 c = rw (c .join .ensures, c .before .before .halfword-at .ensures, c .before .halfword-at2 .ensures)
@@ -30,8 +18,8 @@ word-at-spec =
     tie.close
     (tie.spec
     returns
-    halfword-at-requires
-    add-halfword-at
-    halfword-at-requires-2
-    join-requires
+    (λ c κs. search needs)
+    (λ c. search needs)
+    (λ c κs. search needs)
+    (λ c κs. search needs)
     returns-2)

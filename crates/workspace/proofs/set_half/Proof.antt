@@ -5,20 +5,8 @@ use borrow.Author.Needs.{needs}
 use Rattle.workspace.proofs.set_half.Statement.{statement}
 use Rattle.workspace.proofs.set_half.Tie as tie
 
-mul-w : tie.Need-mul-w
-mul-w c = search needs
-
-slice-write-w : tie.Need-slice-write-w
-slice-write-w c = search needs
-
-same-length : tie.Need-same-length
-same-length c = search needs
-
-returns : tie.Need-returns
-returns c = search needs
-
 returns-2 : tie.Need-returns-2
 returns-2 c = sym (set-out (c .before .args .w .now) (c .before .args .i) (c .before .args .x) (c .if1 .left))
 
 pub set-half-spec : {M : Type 1} → statement M
-set-half-spec = tie.close (tie.spec mul-w slice-write-w same-length returns returns-2)
+set-half-spec = tie.close (tie.spec (λ c. search needs) (λ c. search needs) (λ c. search needs) (λ c. search needs) returns-2)

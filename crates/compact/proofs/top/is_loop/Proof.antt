@@ -3,11 +3,8 @@ use borrow.Author.Needs.{needs}
 use Rattle.compact.proofs.top.is_loop.Statement.{statement}
 use Rattle.compact.proofs.top.is_loop.Tie as tie
 
-byte-at-requires : tie.Need-byte-at-requires
-byte-at-requires c κs = search needs
-
 returns : tie.Need-returns
 returns c = rw (c .byte-at .ensures)
 
 pub is-loop-spec : {M : Type 1} → statement M
-is-loop-spec = tie.close (tie.spec byte-at-requires returns)
+is-loop-spec = tie.close (tie.spec (λ c κs. search needs) returns)

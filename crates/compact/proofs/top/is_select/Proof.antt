@@ -4,9 +4,6 @@ use borrow.Author.Tests.{eq-eqb, ne-eqb}
 use Rattle.compact.proofs.top.is_select.Statement.{statement}
 use Rattle.compact.proofs.top.is_select.Tie as tie
 
-byte-at-requires : tie.Need-byte-at-requires
-byte-at-requires c κs = search needs
-
 returns : tie.Need-returns
 returns c = rw (← c .before .byte-at .ensures, eq-eqb (c .before .byte-at .result) 0xE2 (c .if1 .taken))
 
@@ -14,4 +11,4 @@ returns-2 : tie.Need-returns-2
 returns-2 c = rw (← c .before .byte-at .ensures, ne-eqb (c .before .byte-at .result) 0xE2 (c .if1 .left))
 
 pub is-select-spec : {M : Type 1} → statement M
-is-select-spec = tie.close (tie.spec byte-at-requires returns returns-2)
+is-select-spec = tie.close (tie.spec (λ c κs. search needs) returns returns-2)

@@ -7,41 +7,17 @@ use Rattle.compact.proofs.Origins.{at-origin}
 use Rattle.compact.specs.Tops.{labelHeight}
 use Rattle.compact.proofs.top.label_height.Tie as tie
 
-returns : tie.Need-returns
-returns c = search needs
-
 -- With a label the definition goes on from its origin.
 at-label : (c : tie.Else1) →
     let a = c .before .before .before .args in
     labelHeight (a .code .now) (a .w .now) (a .origin) ≡ labelHeight (a .code .now) (a .w .now) (suc (a .origin - 1))
 at-label c = at-origin (labelHeight (c .before .before .before .args .code .now) (c .before .before .before .args .w .now)) (c .before .before .before .args .origin) (c .if1 .left)
 
-sub-at : tie.Need-sub-at
-sub-at c = search needs
-
-cast-at : tie.Need-cast-at
-cast-at c = search needs
-
-mul-half-at : tie.Need-mul-half-at
-mul-half-at c = search needs
-
-half-at-requires : tie.Need-half-at-requires
-half-at-requires c κs = search needs
-
-cast-shown : tie.Need-cast-shown
-cast-shown c = search needs
-
-is-loop-requires : tie.Need-is-loop-requires
-is-loop-requires c κs = search needs
-
 returns-2 : tie.Need-returns-2
 returns-2 c = rw (at-label (c .before .before .before), ← c .before .is-loop .ensures, c .if2 .taken, c .before .before .half-at .ensures)
 
 returns-3 : tie.Need-returns-3
 returns-3 c = rw (at-label (c .before .before .before .before), ← c .before .before .is-loop .ensures, c .before .if2 .left, ← c .before .before .before .half-at .ensures, c .if3 .taken)
-
-sub-result : tie.Need-sub-result
-sub-result c = search needs
 
 returns-4 : tie.Need-returns-4
 returns-4 c = rw (at-label (c .before .before .before .before), ← c .before .before .is-loop .ensures, c .before .if2 .left, c .before .before .before .half-at .ensures)
@@ -50,14 +26,14 @@ pub label-height-spec : {M : Type 1} → statement M
 label-height-spec =
     tie.close
     (tie.spec
-    returns
-    sub-at
-    cast-at
-    mul-half-at
-    half-at-requires
-    cast-shown
-    is-loop-requires
+    (λ c. search needs)
+    (λ c. search needs)
+    (λ c. search needs)
+    (λ c. search needs)
+    (λ c κs. search needs)
+    (λ c. search needs)
+    (λ c κs. search needs)
     returns-2
     returns-3
-    sub-result
+    (λ c. search needs)
     returns-4)

@@ -5,24 +5,6 @@ use Rattle.compact.proofs.Origins.{at-origin}
 use Rattle.compact.specs.Tops.{originUnder}
 use Rattle.compact.proofs.top.origin_under.Tie as tie
 
-returns : tie.Need-returns
-returns c = search needs
-
-sub-half-at : tie.Need-sub-half-at
-sub-half-at c = search needs
-
-cast-half-at : tie.Need-cast-half-at
-cast-half-at c = search needs
-
-mul-half-at : tie.Need-mul-half-at
-mul-half-at c = search needs
-
-add-half-at : tie.Need-add-half-at
-add-half-at c = search needs
-
-half-at-requires : tie.Need-half-at-requires
-half-at-requires c κs = search needs
-
 returns-2 : tie.Need-returns-2
 returns-2 c = rw (at-origin (originUnder (c .before .before .before .args .w .now)) (c .before .before .before .args .origin) (c .before .if1 .left), c .half-at .ensures)
 
@@ -30,10 +12,10 @@ pub origin-under-spec : {M : Type 1} → statement M
 origin-under-spec =
     tie.close
     (tie.spec
-    returns
-    sub-half-at
-    cast-half-at
-    mul-half-at
-    add-half-at
-    half-at-requires
+    (λ c. search needs)
+    (λ c. search needs)
+    (λ c. search needs)
+    (λ c. search needs)
+    (λ c. search needs)
+    (λ c κs. search needs)
     returns-2)

@@ -5,12 +5,6 @@ use Rattle.effect.proofs.data.address_of.Statement.{statement}
 use Rattle.effect.specs.Data.{addressOf}
 use Rattle.effect.proofs.data.address_of.Tie as tie
 
-cast-t6 : tie.Need-cast-t6
-cast-t6 c = search needs
-
-moved-requires : tie.Need-moved-requires
-moved-requires c κs = search needs
-
 returns : tie.Need-returns
 unfolding addressOf
 returns c = rw (lt-ltb (c .before .before .args .a) 0x1_0000_0000 (c .before .if1 .taken), c .moved .ensures)
@@ -20,4 +14,4 @@ unfolding addressOf
 returns-2 c = rw (le-ltb (c .before .args .a) 0x1_0000_0000 (c .if1 .left))
 
 pub address-of-spec : {M : Type 1} → statement M
-address-of-spec = tie.close (tie.spec cast-t6 moved-requires returns returns-2)
+address-of-spec = tie.close (tie.spec (λ c. search needs) (λ c κs. search needs) returns returns-2)

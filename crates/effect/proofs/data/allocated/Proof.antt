@@ -7,25 +7,13 @@ use Rattle.effect.proofs.data.allocated.Statement.{statement}
 use Rattle.effect.specs.Data.{allocated}
 use Rattle.effect.proofs.data.allocated.Tie as tie
 
-cast-mp : tie.Need-cast-mp
-cast-mp c = search needs
-
-add-mp : tie.Need-add-mp
-add-mp c = search needs
-
 returns : tie.Need-returns
 unfolding allocated
 returns c = rw (lt-leb (c .before .before .before .args .q .mp + c .before .before .before .args .words) (length (c .before .before .before .args .m .now)) (c .if1 .taken))
-
-cast-sized : tie.Need-cast-sized
-cast-sized c = search needs
-
-sized-requires : tie.Need-sized-requires
-sized-requires c κs = search needs
 
 returns-2 : tie.Need-returns-2
 unfolding allocated
 returns-2 c = rw (le-leb (c .before .before .before .before .args .q .mp + c .before .before .before .before .args .words) (length (c .before .before .before .before .args .m .now)) (c .before .if1 .left), c .sized .ensures)
 
 pub allocated-spec : {M : Type 1} → statement M
-allocated-spec = tie.close (tie.spec cast-mp add-mp returns cast-sized sized-requires returns-2)
+allocated-spec = tie.close (tie.spec (λ c. search needs) (λ c. search needs) returns (λ c. search needs) (λ c κs. search needs) returns-2)

@@ -10,12 +10,9 @@ returns : tie.Need-returns
 unfolding inverted
 returns c = rw (le-ltb (c .before .args .b) 2 (omega arith))
 
-given-requires : tie.Need-given-requires
-given-requires c κs = search needs
-
 returns-2 : tie.Need-returns-2
 unfolding inverted
 returns-2 c = rw (lt-ltb (c .before .before .args .b) 2 (omega arith), c .given .ensures)
 
 pub inverted-spec : {M : Type 1} → statement M
-inverted-spec = tie.close (tie.spec returns given-requires returns-2)
+inverted-spec = tie.close (tie.spec returns (λ c κs. search needs) returns-2)

@@ -7,43 +7,16 @@ use Rattle.effect.specs.Data.{loadFrom}
 use Rattle.registers.proofs.Protected.{live-below}
 use Rattle.effect.proofs.data.load_from.Tie as tie
 
-enum-told : tie.Need-enum-told
-enum-told c = search needs
-
-is-live-requires : tie.Need-is-live-requires
-is-live-requires c κs = search needs
-
 returns : tie.Need-returns
 unfolding loadFrom
 returns c = rw (c .before .before .enum-told .given .1, ← c .before .is-live .ensures, not-true (c .before .is-live .result) (c .if1 .taken))
-
-word-at-requires : tie.Need-word-at-requires
-word-at-requires c κs = search needs
-
-moved-requires : tie.Need-moved-requires
-moved-requires c κs = search needs
-
-enum-told-2 : tie.Need-enum-told-2
-enum-told-2 c = search needs
-
-is-live-requires-2 : tie.Need-is-live-requires-2
-is-live-requires-2 c κs = search needs
 
 returns-2 : tie.Need-returns-2
 unfolding loadFrom
 returns-2 c = rw (c .before .before .enum-told2 .given .1, ← c .before .is-live2 .ensures, not-true (c .before .is-live2 .result) (c .if2 .taken))
 
-word-at-requires-2 : tie.Need-word-at-requires-2
-word-at-requires-2 c κs = search needs
-
 add-word-at : tie.Need-add-word-at
 add-word-at c = record { fits = omega (arith, live-below (c .before .before .before .before .before .before .args .q) (c .before .before .before .before .before .before .args .a) 2 (c .before .before .is-live2 .result) (c .before .before .is-live2 .ensures) (not-false (c .before .before .is-live2 .result) (c .before .if2 .left))) }
-
-word-at-requires-3 : tie.Need-word-at-requires-3
-word-at-requires-3 c κs = search needs
-
-moved-requires-2 : tie.Need-moved-requires-2
-moved-requires-2 c κs = search needs
 
 returns-3 : tie.Need-returns-3
 unfolding loadFrom
@@ -57,17 +30,17 @@ pub load-from-spec : {M : Type 1} → statement M
 load-from-spec =
     tie.close
     (tie.spec
-    enum-told
-    is-live-requires
+    (λ c. search needs)
+    (λ c κs. search needs)
     returns
-    word-at-requires
-    moved-requires
-    enum-told-2
-    is-live-requires-2
+    (λ c κs. search needs)
+    (λ c κs. search needs)
+    (λ c. search needs)
+    (λ c κs. search needs)
     returns-2
-    word-at-requires-2
+    (λ c κs. search needs)
     add-word-at
-    word-at-requires-3
-    moved-requires-2
+    (λ c κs. search needs)
+    (λ c κs. search needs)
     returns-3
     returns-4)

@@ -7,18 +7,9 @@ use Rattle.effect.specs.Data.{storeTo}
 use Rattle.registers.proofs.Protected.{live-below}
 use Rattle.effect.proofs.data.store_to.Tie as tie
 
-enum-told : tie.Need-enum-told
-enum-told c = search needs
-
-is-live-requires : tie.Need-is-live-requires
-is-live-requires c κs = search needs
-
 returns : tie.Need-returns
 unfolding storeTo
 returns c = rw (c .before .before .enum-told .given .1, ← c .before .is-live .ensures, not-true (c .before .is-live .result) (c .if1 .taken))
-
-is-protected-requires : tie.Need-is-protected-requires
-is-protected-requires c κs = search needs
 
 returns-2 : tie.Need-returns-2
 unfolding storeTo
@@ -27,21 +18,9 @@ returns-2 c = rw (c .before .before .before .before .enum-told .given .1, ← c 
 cast-t15 : tie.Need-cast-t15
 cast-t15 c = record { fits = omega (arith, live-below (c .before .before .before .before .before .before .before .args .q) (c .before .before .before .before .before .before .before .args .a) 1 (c .before .before .before .is-live .result) (c .before .before .before .is-live .ensures) (not-false (c .before .before .before .is-live .result) (c .before .before .if1 .left))) }
 
-moved-requires : tie.Need-moved-requires
-moved-requires c κs = search needs
-
-enum-told-2 : tie.Need-enum-told-2
-enum-told-2 c = search needs
-
-is-live-requires-2 : tie.Need-is-live-requires-2
-is-live-requires-2 c κs = search needs
-
 returns-3 : tie.Need-returns-3
 unfolding storeTo
 returns-3 c = rw (c .before .before .enum-told2 .given .1, ← c .before .is-live2 .ensures, not-true (c .before .is-live2 .result) (c .if3 .taken))
-
-is-protected-requires-2 : tie.Need-is-protected-requires-2
-is-protected-requires-2 c κs = search needs
 
 returns-4 : tie.Need-returns-4
 unfolding storeTo
@@ -50,18 +29,12 @@ returns-4 c = rw (c .before .before .before .before .enum-told2 .given .1, ← c
 add-is-protected : tie.Need-add-is-protected
 add-is-protected c = record { fits = omega (arith, live-below (c .before .before .before .before .before .before .before .args .q) (c .before .before .before .before .before .before .before .args .a) 2 (c .before .before .before .is-live2 .result) (c .before .before .before .is-live2 .ensures) (not-false (c .before .before .before .is-live2 .result) (c .before .before .if3 .left))) }
 
-is-protected-requires-3 : tie.Need-is-protected-requires-3
-is-protected-requires-3 c κs = search needs
-
 returns-5 : tie.Need-returns-5
 unfolding storeTo
 returns-5 c = rw (c .before .before .before .before .before .before .enum-told2 .given .1, ← c .before .before .before .before .before .is-live2 .ensures, not-false (c .before .before .before .before .before .is-live2 .result) (c .before .before .before .before .if3 .left), ← c .before .before .before .is-protected2 .ensures, c .before .before .if4 .left, ← c .before .is-protected3 .ensures, c .if5 .taken)
 
 cast-t24 : tie.Need-cast-t24
 cast-t24 c = record { fits = omega (arith, live-below (c .before .before .before .before .before .before .before .before .before .args .q) (c .before .before .before .before .before .before .before .before .before .args .a) 2 (c .before .before .before .before .before .is-live2 .result) (c .before .before .before .before .before .is-live2 .ensures) (not-false (c .before .before .before .before .before .is-live2 .result) (c .before .before .before .before .if3 .left))) }
-
-moved-requires-2 : tie.Need-moved-requires-2
-moved-requires-2 c κs = search needs
 
 returns-6 : tie.Need-returns-6
 unfolding storeTo
@@ -75,22 +48,22 @@ pub store-to-spec : {M : Type 1} → statement M
 store-to-spec =
     tie.close
     (tie.spec
-    enum-told
-    is-live-requires
+    (λ c. search needs)
+    (λ c κs. search needs)
     returns
-    is-protected-requires
+    (λ c κs. search needs)
     returns-2
     cast-t15
-    moved-requires
-    enum-told-2
-    is-live-requires-2
+    (λ c κs. search needs)
+    (λ c. search needs)
+    (λ c κs. search needs)
     returns-3
-    is-protected-requires-2
+    (λ c κs. search needs)
     returns-4
     add-is-protected
-    is-protected-requires-3
+    (λ c κs. search needs)
     returns-5
     cast-t24
-    moved-requires-2
+    (λ c κs. search needs)
     returns-6
     returns-7)

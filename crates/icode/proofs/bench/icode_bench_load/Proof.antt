@@ -6,9 +6,6 @@ use Rattle.icode.proofs.bench.icode_bench_load.Statement.{statement}
 use Rattle.icode.specs.Bench.{benchLoad}
 use Rattle.icode.proofs.bench.icode_bench_load.Tie as tie
 
-record-number-requires : tie.Need-record-number-requires
-record-number-requires c κs = search needs
-
 returns : tie.Need-returns
 unfolding benchLoad
 returns c = rw (← c .before .record-number .ensures, ne-eqb (c .before .record-number .result) 0 (c .if1 .taken))
@@ -17,30 +14,9 @@ returns-2 : tie.Need-returns-2
 unfolding benchLoad
 returns-2 c = rw (← c .before .before .record-number .ensures, eq-eqb (c .before .before .record-number .result) 0 (c .before .if1 .left), ne-eqb (length (c .before .before .before .before .before .before .before .before .args .state .now)) 6 (c .if2 .taken))
 
-load-requires : tie.Need-load-requires
-load-requires c κs = search needs
-
-enum-known-loaded : tie.Need-enum-known-loaded
-enum-known-loaded c = search needs
-
-enum-known-loaded-2 : tie.Need-enum-known-loaded-2
-enum-known-loaded-2 c = search needs
-
-write-state-requires : tie.Need-write-state-requires
-write-state-requires c κs = search needs
-
-same-length : tie.Need-same-length
-same-length c = search needs
-
 returns-3 : tie.Need-returns-3
 unfolding benchLoad
 returns-3 c = rw (← c .before .before .before .before .before .before .before .before .before .record-number .ensures, eq-eqb (c .before .before .before .before .before .before .before .before .before .record-number .result) 0 (c .before .before .before .before .before .before .before .before .if1 .left), eq-eqb (length (c .before .before .before .before .before .before .before .before .before .before .before .before .before .before .before .args .state .now)) 6 (c .before .before .before .before .before .before .before .if2 .left), ← c .before .before .before .before .before .load .ensures, c .before .loaded .given .1)
-
-same-length-2 : tie.Need-same-length-2
-same-length-2 c = search needs
-
-same-length-3 : tie.Need-same-length-3
-same-length-3 c = search needs
 
 returns-4 : tie.Need-returns-4
 unfolding benchLoad
@@ -50,15 +26,15 @@ pub icode-bench-load-spec : {M : Type 1} → statement M
 icode-bench-load-spec =
     tie.close
     (tie.spec
-    record-number-requires
+    (λ c κs. search needs)
     returns
     returns-2
-    load-requires
-    enum-known-loaded
-    enum-known-loaded-2
-    write-state-requires
-    same-length
+    (λ c κs. search needs)
+    (λ c. search needs)
+    (λ c. search needs)
+    (λ c κs. search needs)
+    (λ c. search needs)
     returns-3
-    same-length-2
-    same-length-3
+    (λ c. search needs)
+    (λ c. search needs)
     returns-4)

@@ -6,9 +6,6 @@ use Rattle.icode.proofs.bench.icode_bench_run.Statement.{statement}
 use Rattle.icode.specs.Bench.{benchRun}
 use Rattle.icode.proofs.bench.icode_bench_run.Tie as tie
 
-record-number-requires : tie.Need-record-number-requires
-record-number-requires c κs = search needs
-
 returns : tie.Need-returns
 unfolding benchRun
 returns c = rw (← c .before .record-number .ensures, ne-eqb (c .before .record-number .result) 0 (c .if1 .taken))
@@ -21,48 +18,9 @@ returns-3 : tie.Need-returns-3
 unfolding benchRun
 returns-3 c = rw (← c .before .before .before .record-number .ensures, eq-eqb (c .before .before .before .record-number .result) 0 (c .before .before .if1 .left), eq-eqb (length (c .before .before .before .before .before .before .before .before .before .args .state .now)) 6 (c .before .if2 .left), ne-eqb (length (c .before .before .before .before .before .before .before .before .before .args .outcome .now)) 3 (c .if3 .taken))
 
-read-state-requires : tie.Need-read-state-requires
-read-state-requires c κs = search needs
-
-run-requires : tie.Need-run-requires
-run-requires c κs = search needs
-
-enum-known-answer : tie.Need-enum-known-answer
-enum-known-answer c = search needs
-
-enum-known-answer-2 : tie.Need-enum-known-answer-2
-enum-known-answer-2 c = search needs
-
-write-outcome-requires : tie.Need-write-outcome-requires
-write-outcome-requires c κs = search needs
-
-write-state-requires : tie.Need-write-state-requires
-write-state-requires c κs = search needs
-
-same-length : tie.Need-same-length
-same-length c = search needs
-
-same-length-2 : tie.Need-same-length-2
-same-length-2 c = search needs
-
-same-length-3 : tie.Need-same-length-3
-same-length-3 c = search needs
-
 returns-4 : tie.Need-returns-4
 unfolding benchRun
 returns-4 c = rw (← c .before .before .before .before .before .before .before .before .before .before .before .before .before .before .before .record-number .ensures, eq-eqb (c .before .before .before .before .before .before .before .before .before .before .before .before .before .before .before .record-number .result) 0 (c .before .before .before .before .before .before .before .before .before .before .before .before .before .before .if1 .left), eq-eqb (length (c .before .before .before .before .before .before .before .before .before .before .before .before .before .before .before .before .before .before .before .before .before .args .state .now)) 6 (c .before .before .before .before .before .before .before .before .before .before .before .before .before .if2 .left), eq-eqb (length (c .before .before .before .before .before .before .before .before .before .before .before .before .before .before .before .before .before .before .before .before .before .args .outcome .now)) 3 (c .before .before .before .before .before .before .before .before .before .before .before .before .if3 .left), ← c .before .before .before .before .before .before .before .before .before .before .read-state .ensures, ← c .before .before .before .before .before .before .before .run .ensures, c .before .answer .given .1)
-
-same-length-4 : tie.Need-same-length-4
-same-length-4 c = search needs
-
-same-length-5 : tie.Need-same-length-5
-same-length-5 c = search needs
-
-same-length-6 : tie.Need-same-length-6
-same-length-6 c = search needs
-
-same-length-7 : tie.Need-same-length-7
-same-length-7 c = search needs
 
 returns-5 : tie.Need-returns-5
 unfolding benchRun
@@ -72,22 +30,22 @@ pub icode-bench-run-spec : {M : Type 1} → statement M
 icode-bench-run-spec =
     tie.close
     (tie.spec
-    record-number-requires
+    (λ c κs. search needs)
     returns
     returns-2
     returns-3
-    read-state-requires
-    run-requires
-    enum-known-answer
-    enum-known-answer-2
-    write-outcome-requires
-    write-state-requires
-    same-length
-    same-length-2
-    same-length-3
+    (λ c κs. search needs)
+    (λ c κs. search needs)
+    (λ c. search needs)
+    (λ c. search needs)
+    (λ c κs. search needs)
+    (λ c κs. search needs)
+    (λ c. search needs)
+    (λ c. search needs)
+    (λ c. search needs)
     returns-4
-    same-length-4
-    same-length-5
-    same-length-6
-    same-length-7
+    (λ c. search needs)
+    (λ c. search needs)
+    (λ c. search needs)
+    (λ c. search needs)
     returns-5)

@@ -7,26 +7,11 @@ use Rattle.icode.specs.Bench.{stateWords}
 use Rattle.icode.proofs.Written.{sets-all}
 use Rattle.icode.proofs.bench.write_state.Tie as tie
 
-slice-write-state : tie.Need-slice-write-state
-slice-write-state c = search needs
-
-slice-write-state-2 : tie.Need-slice-write-state-2
-slice-write-state-2 c = search needs
-
-slice-write-state-3 : tie.Need-slice-write-state-3
-slice-write-state-3 c = search needs
-
-slice-write-state-4 : tie.Need-slice-write-state-4
-slice-write-state-4 c = search needs
-
 slice-write-state-5 : tie.Need-slice-write-state-5
 slice-write-state-5 c = simp length-set (omega arith)
 
 slice-write-state-6 : tie.Need-slice-write-state-6
 slice-write-state-6 c = simp length-set (omega arith)
-
-same-length : tie.Need-same-length
-same-length c = search needs
 
 returns : tie.Need-returns
 returns c = sets-all (c .args .state .now) (stateWords (c .args .q)) (c .pre)
@@ -35,11 +20,11 @@ pub write-state-spec : {M : Type 1} → statement M
 write-state-spec =
     tie.close
     (tie.spec
-    slice-write-state
-    slice-write-state-2
-    slice-write-state-3
-    slice-write-state-4
+    (λ c. search needs)
+    (λ c. search needs)
+    (λ c. search needs)
+    (λ c. search needs)
     slice-write-state-5
     slice-write-state-6
-    same-length
+    (λ c. search needs)
     returns)

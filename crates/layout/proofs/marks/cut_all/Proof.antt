@@ -14,9 +14,6 @@ Inv-loop code w₀ count p₀ w p = Regions code w₀ w p
 abbrev μ-loop : tie.MeasureT-loop
 μ-loop code w₀ count p₀ w p = count - p
 
-entry-count-requires : tie.Need-entry-count-requires Inv-loop μ-loop
-entry-count-requires c κs = search needs
-
 loop-holds : tie.Need-loop-holds Inv-loop μ-loop
 loop-holds c = regions-start (c .before .before .before .args .code .now) (c .before .before .before .args .w .now)
 
@@ -25,9 +22,6 @@ cut-region-requires c κs =
     let bytes = c .before .before .before .before .before .shared-slice-known in
     let below = count-below (c .before .before .before .before .before .before .args .code .now) (λ k. omega (arith, bytes .given k)) in
     (c .before .before .before .before .before .before .pre, omega (arith, c .before .before .before .entry-count .ensures, c .before .loop-test .taken))
-
-same-length : tie.Need-same-length Inv-loop μ-loop
-same-length c = search needs
 
 returns : tie.Need-returns Inv-loop μ-loop
 returns c =
@@ -38,12 +32,6 @@ returns c =
     (rw (c .before .before .before .before .before .before .before .entry-count .ensures) at (c .before .before .before .before .before .loop-test .taken))
     (r .result) _ (r .ensures) (c .if1 .taken)
 
-add-p : tie.Need-add-p Inv-loop μ-loop
-add-p c = search needs
-
-loop-less : tie.Need-loop-less Inv-loop μ-loop
-loop-less c = search needs
-
 loop-again : tie.Need-loop-again Inv-loop μ-loop
 loop-again c =
     let a = c .before .before .before .before .before .before .before .before .before .before .args in
@@ -52,12 +40,6 @@ loop-again c =
     regions-next (a .code .now) (a .w .now) (l .w) (l .p) (l .inv)
     (rw (c .before .before .before .before .before .before .before .entry-count .ensures) at (c .before .before .before .before .before .loop-test .taken))
     (r .result) _ (r .ensures) (c .if1 .left) (r .kept .1 .1 .0)
-
-cut-region-requires-2 : tie.Need-cut-region-requires-2 Inv-loop μ-loop
-cut-region-requires-2 c κs = search needs
-
-same-length-2 : tie.Need-same-length-2 Inv-loop μ-loop
-same-length-2 c = search needs
 
 returns-2 : tie.Need-returns-2 Inv-loop μ-loop
 returns-2 c =
@@ -73,14 +55,14 @@ cut-all-spec =
     (tie.spec
     Inv-loop
     μ-loop
-    entry-count-requires
+    (λ c κs. search needs)
     loop-holds
     cut-region-requires
-    same-length
+    (λ c. search needs)
     returns
-    add-p
-    loop-less
+    (λ c. search needs)
+    (λ c. search needs)
     loop-again
-    cut-region-requires-2
-    same-length-2
+    (λ c κs. search needs)
+    (λ c. search needs)
     returns-2)

@@ -15,23 +15,11 @@ Inv-loop code p w₀ limit at₀ counter₀ end w at counter = Region code p w�
 abbrev μ-loop : tie.MeasureT-loop
 μ-loop code p w₀ limit at₀ counter₀ end w at counter = length code - counter
 
-region-end-requires : tie.Need-region-end-requires Inv-loop μ-loop
-region-end-requires c κs = search needs
-
-entry-at-requires : tie.Need-entry-at-requires Inv-loop μ-loop
-entry-at-requires c κs = search needs
-
-cast-at : tie.Need-cast-at Inv-loop μ-loop
-cast-at c = search needs
-
 loop-holds : tie.Need-loop-holds Inv-loop μ-loop
 loop-holds c =
     let a = c .before .before .before .before .args in
     let e = c .entry-at in
     region-start (a .code .now) (a .p) (a .w .now) (e .result) (e .ensures) (omega (arith, e .ok))
-
-same-length : tie.Need-same-length Inv-loop μ-loop
-same-length c = search needs
 
 returns : tie.Need-returns Inv-loop μ-loop
 returns c =
@@ -40,15 +28,6 @@ returns c =
     let e = c .before .before .before .before .region-end in
     region-over (a .code .now) (a .p) (a .w .now) (l .w) (l .at) (l .counter) (l .inv)
     (e .result) (e .ensures) (c .before .loop-test .taken) (c .if1 .taken)
-
-decode-requires : tie.Need-decode-requires Inv-loop μ-loop
-decode-requires c κs = search needs
-
-enum-told : tie.Need-enum-told Inv-loop μ-loop
-enum-told c = search needs
-
-same-length-2 : tie.Need-same-length-2 Inv-loop μ-loop
-same-length-2 c = search needs
 
 returns-2 : tie.Need-returns-2 Inv-loop μ-loop
 returns-2 c =
@@ -60,12 +39,6 @@ returns-2 c =
     (c .before .before .before .if1 .left)
     (sym (c .before .before .decode .ensures) ∙ c .enum-told .given .1)
 
-enum-told-2 : tie.Need-enum-told-2 Inv-loop μ-loop
-enum-told-2 c = search needs
-
-same-length-3 : tie.Need-same-length-3 Inv-loop μ-loop
-same-length-3 c = search needs
-
 returns-3 : tie.Need-returns-3 Inv-loop μ-loop
 returns-3 c =
     let a = c .before .before .before .before .before .before .before .before .before .before .args in
@@ -76,29 +49,11 @@ returns-3 c =
     (c .before .before .before .if1 .left)
     (sym (c .before .before .decode .ensures) ∙ c .enum-told2 .given .1)
 
-enum-known-next : tie.Need-enum-known-next Inv-loop μ-loop
-enum-known-next c = search needs
-
 mul-set-half : tie.Need-mul-set-half Inv-loop μ-loop
 mul-set-half c = omega (arith, c .before .before .before .before .before .before .before .loop .inv .near)
 
 add-set-half : tie.Need-add-set-half Inv-loop μ-loop
 add-set-half c = omega (arith, c .before .before .before .before .before .before .before .loop .inv .near)
-
-add-set-half-2 : tie.Need-add-set-half-2 Inv-loop μ-loop
-add-set-half-2 c = search needs
-
-cast-set-half : tie.Need-cast-set-half Inv-loop μ-loop
-cast-set-half c = search needs
-
-set-half-requires : tie.Need-set-half-requires Inv-loop μ-loop
-set-half-requires c κs = search needs
-
-add-counter : tie.Need-add-counter Inv-loop μ-loop
-add-counter c = search needs
-
-loop-less : tie.Need-loop-less Inv-loop μ-loop
-loop-less c = search needs
 
 loop-again : tie.Need-loop-again Inv-loop μ-loop
 loop-again c =
@@ -114,9 +69,6 @@ loop-again c =
     (region-below (a .code .now) (λ k. omega (arith, bytes .given k)) (a .p) (c .before .before .before .before .before .before .before .before .before .before .before .before .before .before .before .pre .0)))
     (c .before .before .set-half .ensures)
 
-same-length-4 : tie.Need-same-length-4 Inv-loop μ-loop
-same-length-4 c = search needs
-
 returns-4 : tie.Need-returns-4 Inv-loop μ-loop
 returns-4 c =
     let a = c .before .before .before .before .before .before .args in
@@ -129,27 +81,27 @@ cut-region-spec =
     (tie.spec
     Inv-loop
     μ-loop
-    region-end-requires
-    entry-at-requires
-    cast-at
+    (λ c κs. search needs)
+    (λ c κs. search needs)
+    (λ c. search needs)
     loop-holds
-    same-length
+    (λ c. search needs)
     returns
-    decode-requires
-    enum-told
-    same-length-2
+    (λ c κs. search needs)
+    (λ c. search needs)
+    (λ c. search needs)
     returns-2
-    enum-told-2
-    same-length-3
+    (λ c. search needs)
+    (λ c. search needs)
     returns-3
-    enum-known-next
+    (λ c. search needs)
     mul-set-half
     add-set-half
-    add-set-half-2
-    cast-set-half
-    set-half-requires
-    add-counter
-    loop-less
+    (λ c. search needs)
+    (λ c. search needs)
+    (λ c κs. search needs)
+    (λ c. search needs)
+    (λ c. search needs)
     loop-again
-    same-length-4
+    (λ c. search needs)
     returns-4)

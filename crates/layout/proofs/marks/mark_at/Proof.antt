@@ -7,19 +7,10 @@ use Rattle.layout.proofs.marks.mark_at.Tie as tie
 returns : tie.Need-returns
 returns c = rw (le-ltb (c .before .before .args .at) (c .before .before .args .size) (c .if1 .taken))
 
-mul-half-at : tie.Need-mul-half-at
-mul-half-at c = search needs
-
-add-half-at : tie.Need-add-half-at
-add-half-at c = search needs
-
-half-at-requires : tie.Need-half-at-requires
-half-at-requires c κs = search needs
-
 returns-2 : tie.Need-returns-2
 returns-2 c =
     rw (lt-ltb (c .before .before .before .args .at) (c .before .before .before .args .size) (c .before .if1 .left))
     (c .half-at .ensures)
 
 pub mark-at-spec : {M : Type 1} → statement M
-mark-at-spec = tie.close (tie.spec returns mul-half-at add-half-at half-at-requires returns-2)
+mark-at-spec = tie.close (tie.spec returns (λ c. search needs) (λ c. search needs) (λ c κs. search needs) returns-2)

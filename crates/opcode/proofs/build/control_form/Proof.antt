@@ -7,45 +7,6 @@ use Rattle.opcode.proofs.Rows.{find-rest, rest-nop}
 use Rattle.opcode.specs.Table.{controlTable}
 use Rattle.opcode.proofs.build.control_form.Tie as tie
 
-byte-at-requires : tie.Need-byte-at-requires
-byte-at-requires c κs = search needs
-
-signed-byte-requires : tie.Need-signed-byte-requires
-signed-byte-requires c κs = search needs
-
-signed-halfword-requires : tie.Need-signed-halfword-requires
-signed-halfword-requires c κs = search needs
-
-signed-byte-requires-2 : tie.Need-signed-byte-requires-2
-signed-byte-requires-2 c κs = search needs
-
-signed-halfword-requires-2 : tie.Need-signed-halfword-requires-2
-signed-halfword-requires-2 c κs = search needs
-
-unsigned-byte-requires : tie.Need-unsigned-byte-requires
-unsigned-byte-requires c κs = search needs
-
-unsigned-byte-requires-2 : tie.Need-unsigned-byte-requires-2
-unsigned-byte-requires-2 c κs = search needs
-
-unsigned-halfword-requires : tie.Need-unsigned-halfword-requires
-unsigned-halfword-requires c κs = search needs
-
-unsigned-halfword-requires-2 : tie.Need-unsigned-halfword-requires-2
-unsigned-halfword-requires-2 c κs = search needs
-
-unsigned-halfword-requires-3 : tie.Need-unsigned-halfword-requires-3
-unsigned-halfword-requires-3 c κs = search needs
-
-unsigned-byte-requires-3 : tie.Need-unsigned-byte-requires-3
-unsigned-byte-requires-3 c κs = search needs
-
-unsigned-byte-requires-4 : tie.Need-unsigned-byte-requires-4
-unsigned-byte-requires-4 c κs = search needs
-
-second-byte-requires : tie.Need-second-byte-requires
-second-byte-requires c κs = search needs
-
 returns : tie.Need-returns
 returns c = rw (← c .before .before .byte-at .ensures, c .before .match .keys1, c .signed-byte .ensures)
 
@@ -108,19 +69,19 @@ pub control-form-spec : {M : Type 1} → statement M
 control-form-spec =
     tie.close
     (tie.spec
-    byte-at-requires
-    signed-byte-requires
-    signed-halfword-requires
-    signed-byte-requires-2
-    signed-halfword-requires-2
-    unsigned-byte-requires
-    unsigned-byte-requires-2
-    unsigned-halfword-requires
-    unsigned-halfword-requires-2
-    unsigned-halfword-requires-3
-    unsigned-byte-requires-3
-    unsigned-byte-requires-4
-    second-byte-requires
+    (λ c κs. search needs)
+    (λ c κs. search needs)
+    (λ c κs. search needs)
+    (λ c κs. search needs)
+    (λ c κs. search needs)
+    (λ c κs. search needs)
+    (λ c κs. search needs)
+    (λ c κs. search needs)
+    (λ c κs. search needs)
+    (λ c κs. search needs)
+    (λ c κs. search needs)
+    (λ c κs. search needs)
+    (λ c κs. search needs)
     returns
     returns-2
     returns-3

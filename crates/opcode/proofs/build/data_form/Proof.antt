@@ -7,69 +7,6 @@ use Rattle.opcode.specs.Table.{dataTable}
 use Rattle.operand.proofs.Extend.{extended-word}
 use Rattle.opcode.proofs.build.data_form.Tie as tie
 
-byte-at-requires : tie.Need-byte-at-requires
-byte-at-requires c κs = search needs
-
-unsigned-byte-requires : tie.Need-unsigned-byte-requires
-unsigned-byte-requires c κs = search needs
-
-unsigned-halfword-requires : tie.Need-unsigned-halfword-requires
-unsigned-halfword-requires c κs = search needs
-
-signed-byte-requires : tie.Need-signed-byte-requires
-signed-byte-requires c κs = search needs
-
-signed-halfword-requires : tie.Need-signed-halfword-requires
-signed-halfword-requires c κs = search needs
-
-word-requires : tie.Need-word-requires
-word-requires c κs = search needs
-
-unsigned-byte-requires-2 : tie.Need-unsigned-byte-requires-2
-unsigned-byte-requires-2 c κs = search needs
-
-unsigned-byte-requires-3 : tie.Need-unsigned-byte-requires-3
-unsigned-byte-requires-3 c κs = search needs
-
-unsigned-byte-requires-4 : tie.Need-unsigned-byte-requires-4
-unsigned-byte-requires-4 c κs = search needs
-
-unsigned-halfword-requires-2 : tie.Need-unsigned-halfword-requires-2
-unsigned-halfword-requires-2 c κs = search needs
-
-unsigned-byte-requires-5 : tie.Need-unsigned-byte-requires-5
-unsigned-byte-requires-5 c κs = search needs
-
-unsigned-byte-requires-6 : tie.Need-unsigned-byte-requires-6
-unsigned-byte-requires-6 c κs = search needs
-
-unsigned-byte-requires-7 : tie.Need-unsigned-byte-requires-7
-unsigned-byte-requires-7 c κs = search needs
-
-unsigned-halfword-requires-3 : tie.Need-unsigned-halfword-requires-3
-unsigned-halfword-requires-3 c κs = search needs
-
-unsigned-byte-requires-8 : tie.Need-unsigned-byte-requires-8
-unsigned-byte-requires-8 c κs = search needs
-
-unsigned-halfword-requires-4 : tie.Need-unsigned-halfword-requires-4
-unsigned-halfword-requires-4 c κs = search needs
-
-unsigned-byte-requires-9 : tie.Need-unsigned-byte-requires-9
-unsigned-byte-requires-9 c κs = search needs
-
-unsigned-byte-requires-10 : tie.Need-unsigned-byte-requires-10
-unsigned-byte-requires-10 c κs = search needs
-
-unsigned-byte-requires-11 : tie.Need-unsigned-byte-requires-11
-unsigned-byte-requires-11 c κs = search needs
-
-unsigned-halfword-requires-5 : tie.Need-unsigned-halfword-requires-5
-unsigned-halfword-requires-5 c κs = search needs
-
-unsigned-byte-requires-12 : tie.Need-unsigned-byte-requires-12
-unsigned-byte-requires-12 c κs = search needs
-
 returns : tie.Need-returns
 returns c = rw (← c .before .before .byte-at .ensures, c .before .match .keys1, c .unsigned-byte .ensures)
 
@@ -146,27 +83,27 @@ pub data-form-spec : {M : Type 1} → statement M
 data-form-spec =
     tie.close
     (tie.spec
-    byte-at-requires
-    unsigned-byte-requires
-    unsigned-halfword-requires
-    signed-byte-requires
-    signed-halfword-requires
-    word-requires
-    unsigned-byte-requires-2
-    unsigned-byte-requires-3
-    unsigned-byte-requires-4
-    unsigned-halfword-requires-2
-    unsigned-byte-requires-5
-    unsigned-byte-requires-6
-    unsigned-byte-requires-7
-    unsigned-halfword-requires-3
-    unsigned-byte-requires-8
-    unsigned-halfword-requires-4
-    unsigned-byte-requires-9
-    unsigned-byte-requires-10
-    unsigned-byte-requires-11
-    unsigned-halfword-requires-5
-    unsigned-byte-requires-12
+    (λ c κs. search needs)
+    (λ c κs. search needs)
+    (λ c κs. search needs)
+    (λ c κs. search needs)
+    (λ c κs. search needs)
+    (λ c κs. search needs)
+    (λ c κs. search needs)
+    (λ c κs. search needs)
+    (λ c κs. search needs)
+    (λ c κs. search needs)
+    (λ c κs. search needs)
+    (λ c κs. search needs)
+    (λ c κs. search needs)
+    (λ c κs. search needs)
+    (λ c κs. search needs)
+    (λ c κs. search needs)
+    (λ c κs. search needs)
+    (λ c κs. search needs)
+    (λ c κs. search needs)
+    (λ c κs. search needs)
+    (λ c κs. search needs)
     returns
     returns-2
     returns-3

@@ -8,12 +8,6 @@ use Rattle.opcode.specs.Decode.{instructionAt}
 use Rattle.opcode.specs.Table.{rowOf}
 use Rattle.opcode.proofs.build.instruction_at.Tie as tie
 
-byte-at-requires : tie.Need-byte-at-requires
-byte-at-requires c κs = search needs
-
-short-form-requires : tie.Need-short-form-requires
-short-form-requires c κs = search needs
-
 returns : tie.Need-returns
 unfolding instructionAt rowOf
 returns c =
@@ -23,9 +17,6 @@ returns c =
       ne-eqb (byteAt (a .code .now) (a .at)) 0x70 (c .before .before .before .before .pre),
       lt-ltb (byteAt (a .code .now) (a .at)) 0x80 (omega arith),
     )
-
-data-form-requires : tie.Need-data-form-requires
-data-form-requires c κs = search needs
 
 returns-2 : tie.Need-returns-2
 unfolding instructionAt rowOf
@@ -38,9 +29,6 @@ returns-2 c =
       lt-ltb (byteAt (a .code .now) (a .at)) 0xA0 (omega arith),
     )
 
-operation-form-requires : tie.Need-operation-form-requires
-operation-form-requires c κs = search needs
-
 returns-3 : tie.Need-returns-3
 unfolding instructionAt rowOf
 returns-3 c =
@@ -52,9 +40,6 @@ returns-3 c =
       le-ltb (byteAt (a .code .now) (a .at)) 0xA0 (omega arith),
       lt-ltb (byteAt (a .code .now) (a .at)) 0xDA (omega arith),
     )
-
-control-form-requires : tie.Need-control-form-requires
-control-form-requires c κs = search needs
 
 returns-4 : tie.Need-returns-4
 unfolding instructionAt rowOf
@@ -72,12 +57,12 @@ pub instruction-at-spec : {M : Type 1} → statement M
 instruction-at-spec =
     tie.close
     (tie.spec
-    byte-at-requires
-    short-form-requires
+    (λ c κs. search needs)
+    (λ c κs. search needs)
     returns
-    data-form-requires
+    (λ c κs. search needs)
     returns-2
-    operation-form-requires
+    (λ c κs. search needs)
     returns-3
-    control-form-requires
+    (λ c κs. search needs)
     returns-4)

@@ -6,9 +6,6 @@ use Rattle.opcode.proofs.Rows.{find-rest}
 use Rattle.opcode.specs.Table.{operationTable}
 use Rattle.opcode.proofs.build.operation_form.Tie as tie
 
-byte-at-requires : tie.Need-byte-at-requires
-byte-at-requires c κs = search needs
-
 returns : tie.Need-returns
 returns c = rw (← c .before .byte-at .ensures, c .match .keys1)
 
@@ -106,7 +103,7 @@ pub operation-form-spec : {M : Type 1} → statement M
 operation-form-spec =
     tie.close
     (tie.spec
-    byte-at-requires
+    (λ c κs. search needs)
     returns
     returns-2
     returns-3

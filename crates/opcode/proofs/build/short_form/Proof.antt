@@ -4,12 +4,6 @@ use Rattle.opcode.proofs.build.short_form.Statement.{statement}
 use Rattle.opcode.proofs.Rows.{digit-seven}
 use Rattle.opcode.proofs.build.short_form.Tie as tie
 
-byte-at-requires : tie.Need-byte-at-requires
-byte-at-requires c κs = search needs
-
-cast-digit : tie.Need-cast-digit
-cast-digit c = search needs
-
 returns : tie.Need-returns
 returns c = rw (← c .before .byte-at .ensures, c .match .keys1, c .before .byte-at .ensures)
 
@@ -44,8 +38,8 @@ pub short-form-spec : {M : Type 1} → statement M
 short-form-spec =
     tie.close
     (tie.spec
-    byte-at-requires
-    cast-digit
+    (λ c κs. search needs)
+    (λ c. search needs)
     returns
     returns-2
     returns-3

@@ -9,17 +9,11 @@ returns : tie.Need-returns
 unfolding rowOf
 returns c = rw (eq-eqb (c .before .args .opcode) 0x70 (c .if1 .taken))
 
-short-format-requires : tie.Need-short-format-requires
-short-format-requires c κs = search needs
-
 returns-2 : tie.Need-returns-2
 unfolding rowOf
 returns-2 c =
     let n = c .before .before .before .args .opcode in
     rw (c .short-format .ensures, ne-eqb n 0x70 (c .before .before .if1 .left), lt-ltb n 0x80 (c .before .if2 .taken))
-
-data-format-requires : tie.Need-data-format-requires
-data-format-requires c κs = search needs
 
 returns-3 : tie.Need-returns-3
 unfolding rowOf
@@ -32,9 +26,6 @@ returns-3 c =
       lt-ltb n 0xA0 (c .before .if3 .taken),
     )
 
-operation-format-requires : tie.Need-operation-format-requires
-operation-format-requires c κs = search needs
-
 returns-4 : tie.Need-returns-4
 unfolding rowOf
 returns-4 c =
@@ -46,9 +37,6 @@ returns-4 c =
       le-ltb n 0xA0 (c .before .before .if3 .left),
       lt-ltb n 0xDA (c .before .if4 .taken),
     )
-
-control-format-requires : tie.Need-control-format-requires
-control-format-requires c κs = search needs
 
 returns-5 : tie.Need-returns-5
 unfolding rowOf
@@ -67,11 +55,11 @@ format-of-spec =
     tie.close
     (tie.spec
     returns
-    short-format-requires
+    (λ c κs. search needs)
     returns-2
-    data-format-requires
+    (λ c κs. search needs)
     returns-3
-    operation-format-requires
+    (λ c κs. search needs)
     returns-4
-    control-format-requires
+    (λ c κs. search needs)
     returns-5)

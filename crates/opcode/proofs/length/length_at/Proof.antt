@@ -9,12 +9,6 @@ use Rattle.opcode.proofs.Present.{byte-present}
 use Rattle.opcode.specs.Length.{lengthAt}
 use Rattle.opcode.proofs.length.length_at.Tie as tie
 
-byte-at-requires : tie.Need-byte-at-requires
-byte-at-requires c κs = search needs
-
-length-in-requires : tie.Need-length-in-requires
-length-in-requires c κs = search needs
-
 returns : tie.Need-returns
 unfolding lengthAt
 returns c =
@@ -25,9 +19,6 @@ add-length-in : tie.Need-add-length-in
 add-length-in c =
     let a = c .before .before .before .args in
     omega (arith, byte-present (a .code .now) (a .at) (λ e. omega arith))
-
-length-in-requires-2 : tie.Need-length-in-requires-2
-length-in-requires-2 c κs = search needs
 
 returns-2 : tie.Need-returns-2
 unfolding lengthAt
@@ -62,11 +53,11 @@ pub length-at-spec : {M : Type 1} → statement M
 length-at-spec =
     tie.close
     (tie.spec
-    byte-at-requires
-    length-in-requires
+    (λ c κs. search needs)
+    (λ c κs. search needs)
     returns
     add-length-in
-    length-in-requires-2
+    (λ c κs. search needs)
     returns-2
     add-result
     returns-3)

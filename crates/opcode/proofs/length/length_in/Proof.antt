@@ -37,35 +37,11 @@ sized c =
     let n = c .unsigned-halfword in
     length-fits (format-of .result) (n .result) (omega (arith, format-of .ok)) (omega (arith, n .ok))
 
-byte-at-requires : tie.Need-byte-at-requires
-byte-at-requires c κs = search needs
-
-format-of-requires : tie.Need-format-of-requires
-format-of-requires c κs = search needs
-
-enum-told : tie.Need-enum-told
-enum-told c = search needs
-
 returns : tie.Need-returns
 returns c = rw (c .before .enum-told .given .1) (sym (length-none _ _ _ (found (c .before .before .before)) (c .if1 .taken)))
 
-enum-told-2 : tie.Need-enum-told-2
-enum-told-2 c = search needs
-
-cast-fixed : tie.Need-cast-fixed
-cast-fixed c = search needs
-
 returns-2 : tie.Need-returns-2
 returns-2 c = let z : c .before .before .format-of .result / 32 ≡ 0 = omega arith in rw (whole (c .before), z) (omega arith)
-
-cast-result : tie.Need-cast-result
-cast-result c = search needs
-
-unsigned-halfword-requires : tie.Need-unsigned-halfword-requires
-unsigned-halfword-requires c κs = search needs
-
-cast-result-2 : tie.Need-cast-result-2
-cast-result-2 c = search needs
 
 mul-result : tie.Need-mul-result
 mul-result c = omega (arith, sized c)
@@ -80,16 +56,16 @@ pub length-in-spec : {M : Type 1} → statement M
 length-in-spec =
     tie.close
     (tie.spec
-    byte-at-requires
-    format-of-requires
-    enum-told
+    (λ c κs. search needs)
+    (λ c κs. search needs)
+    (λ c. search needs)
     returns
-    enum-told-2
-    cast-fixed
+    (λ c. search needs)
+    (λ c. search needs)
     returns-2
-    cast-result
-    unsigned-halfword-requires
-    cast-result-2
+    (λ c. search needs)
+    (λ c κs. search needs)
+    (λ c. search needs)
     mul-result
     add-result
     returns-3)

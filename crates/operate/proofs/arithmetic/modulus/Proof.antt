@@ -29,12 +29,6 @@ settled c z =
     value-is Modulus (c .before .before .fits .x) (c .signed2 .ensures) (c .before .before .fits .y) (c .before .signed .ensures) z
     (ne-eqb (c .before .before .args .y) 0 (c .before .before .pre))
 
-signed-requires : tie.Need-signed-requires
-signed-requires c κs = search needs
-
-signed-requires-2 : tie.Need-signed-requires-2
-signed-requires-2 c κs = search needs
-
 rem-rest : tie.Need-rem-rest
 rem-rest c = (
   divisor (c .before .before .fits .y) (c .before .signed .ensures) (c .before .before .pre),
@@ -42,15 +36,9 @@ rem-rest c = (
       (c .before .before .fits .y) (c .before .signed .ensures),
 )
 
-signed-word-requires : tie.Need-signed-word-requires
-signed-word-requires c κs = search needs
-
 returns : tie.Need-returns
 returns c = let d : tie.After-signed2 = c .before .before in
     c .signed-word .ensures ∙ settled d _ (rest-zero (first d) (second d) (c .before .if1 .taken))
-
-signed-word-requires-2 : tie.Need-signed-word-requires-2
-signed-word-requires-2 c κs = search needs
 
 returns-2 : tie.Need-returns-2
 returns-2 c = let d : tie.After-signed2 = c .before .before .before .before in
@@ -59,9 +47,6 @@ returns-2 c = let d : tie.After-signed2 = c .before .before .before .before in
 
 add-signed-word : tie.Need-add-signed-word
 add-signed-word c = sum-fits (first (c .before .before .before)) (second (c .before .before .before))
-
-signed-word-requires-3 : tie.Need-signed-word-requires-3
-signed-word-requires-3 c κs = search needs
 
 returns-3 : tie.Need-returns-3
 returns-3 c = let d : tie.After-signed2 = c .before .before .before .before in
@@ -72,17 +57,11 @@ returns-3 c = let d : tie.After-signed2 = c .before .before .before .before in
 add-signed-word-2 : tie.Need-add-signed-word-2
 add-signed-word-2 c = sum-fits (first (c .before .before .before)) (second (c .before .before .before))
 
-signed-word-requires-4 : tie.Need-signed-word-requires-4
-signed-word-requires-4 c κs = search needs
-
 returns-4 : tie.Need-returns-4
 returns-4 c = let d : tie.After-signed2 = c .before .before .before .before in
     c .signed-word4 .ensures ∙ settled d _
     (rest-other (first d) (second d) (c .before .before .before .if1 .left)
     (c .before .before .if2 .left ∙ sym (ap not (c .before .if4 .taken))))
-
-signed-word-requires-5 : tie.Need-signed-word-requires-5
-signed-word-requires-5 c κs = search needs
 
 returns-5 : tie.Need-returns-5
 returns-5 c = let d : tie.After-signed2 = c .before .before .before .before in
@@ -93,18 +72,18 @@ pub modulus-spec : {M : Type 1} → statement M
 modulus-spec =
     tie.close
     (tie.spec
-    signed-requires
-    signed-requires-2
+    (λ c κs. search needs)
+    (λ c κs. search needs)
     rem-rest
-    signed-word-requires
+    (λ c κs. search needs)
     returns
-    signed-word-requires-2
+    (λ c κs. search needs)
     returns-2
     add-signed-word
-    signed-word-requires-3
+    (λ c κs. search needs)
     returns-3
     add-signed-word-2
-    signed-word-requires-4
+    (λ c κs. search needs)
     returns-4
-    signed-word-requires-5
+    (λ c κs. search needs)
     returns-5)

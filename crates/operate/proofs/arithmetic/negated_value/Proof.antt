@@ -11,14 +11,8 @@ use Rattle.operate.proofs.Operands.{read, read-fits}
 use Rattle.operate.proofs.Sizes.{result-fits}
 use Rattle.operate.proofs.arithmetic.negated_value.Tie as tie
 
-signed-requires : tie.Need-signed-requires
-signed-requires c κs = search needs
-
 sub-signed-word : tie.Need-sub-signed-word
 sub-signed-word c = result-fits Subtract (pos _) _ (sfits-lit tt) (read-fits (c .before .fits .x) (c .signed .ensures))
-
-signed-word-requires : tie.Need-signed-word-requires
-signed-word-requires c κs = search needs
 
 returns : tie.Need-returns
 unfolding negatedValue
@@ -27,4 +21,4 @@ returns c = c .signed-word .ensures
 
 pub negated-value-spec : {M : Type 1} → statement M
 negated-value-spec =
-    tie.close (tie.spec signed-requires sub-signed-word signed-word-requires returns)
+    tie.close (tie.spec (λ c κs. search needs) sub-signed-word (λ c κs. search needs) returns)

@@ -8,66 +8,21 @@ use Rattle.operate.specs.Arithmetic.{signedValue}
 use Rattle.operate.proofs.Operands.{operands-fit, divisor, stored-is}
 use Rattle.operate.proofs.arithmetic.signed_value.Tie as tie
 
-enum-told : tie.Need-enum-told
-enum-told c = search needs
-
-signed-requires : tie.Need-signed-requires
-signed-requires c κs = search needs
-
-signed-requires-2 : tie.Need-signed-requires-2
-signed-requires-2 c κs = search needs
-
 add-signed-word : tie.Need-add-signed-word
 add-signed-word c = operands-fit Add (c .before .before .before .before .fits .x) (c .before .signed .ensures)
     (c .before .before .before .before .fits .y) (c .signed2 .ensures)
-
-signed-word-requires : tie.Need-signed-word-requires
-signed-word-requires c κs = search needs
-
-enum-told-2 : tie.Need-enum-told-2
-enum-told-2 c = search needs
-
-signed-requires-3 : tie.Need-signed-requires-3
-signed-requires-3 c κs = search needs
-
-signed-requires-4 : tie.Need-signed-requires-4
-signed-requires-4 c κs = search needs
 
 sub-signed-word : tie.Need-sub-signed-word
 sub-signed-word c = operands-fit Subtract (c .before .before .before .before .fits .x) (c .before .signed3 .ensures)
     (c .before .before .before .before .fits .y) (c .signed4 .ensures)
 
-signed-word-requires-2 : tie.Need-signed-word-requires-2
-signed-word-requires-2 c κs = search needs
-
-enum-told-3 : tie.Need-enum-told-3
-enum-told-3 c = search needs
-
-signed-requires-5 : tie.Need-signed-requires-5
-signed-requires-5 c κs = search needs
-
-signed-requires-6 : tie.Need-signed-requires-6
-signed-requires-6 c κs = search needs
-
 mul-signed-word : tie.Need-mul-signed-word
 mul-signed-word c = operands-fit Multiply (c .before .before .before .before .fits .x) (c .before .signed5 .ensures)
     (c .before .before .before .before .fits .y) (c .signed6 .ensures)
 
-signed-word-requires-3 : tie.Need-signed-word-requires-3
-signed-word-requires-3 c κs = search needs
-
-enum-told-4 : tie.Need-enum-told-4
-enum-told-4 c = search needs
-
 returns : tie.Need-returns
 unfolding signedValue
 returns c = rw (c .before .enum-told4 .given .1, eq-eqb (c .before .before .before .args .y) 0 (c .if1 .taken))
-
-signed-requires-7 : tie.Need-signed-requires-7
-signed-requires-7 c κs = search needs
-
-signed-requires-8 : tie.Need-signed-requires-8
-signed-requires-8 c κs = search needs
 
 div-signed-word : tie.Need-div-signed-word
 div-signed-word c = (
@@ -76,18 +31,9 @@ div-signed-word c = (
       (c .before .before .before .before .before .fits .y) (c .signed8 .ensures),
 )
 
-signed-word-requires-4 : tie.Need-signed-word-requires-4
-signed-word-requires-4 c κs = search needs
-
-enum-told-5 : tie.Need-enum-told-5
-enum-told-5 c = search needs
-
 returns-2 : tie.Need-returns-2
 unfolding signedValue
 returns-2 c = rw (c .before .enum-told5 .given .1, eq-eqb (c .before .before .before .args .y) 0 (c .if2 .taken))
-
-modulus-requires : tie.Need-modulus-requires
-modulus-requires c κs = search needs
 
 returns-3 : tie.Need-returns-3
 returns-3 c = rw (c .before .before .before .enum-told .given .1)
@@ -121,30 +67,30 @@ pub signed-value-spec : {M : Type 1} → statement M
 signed-value-spec =
     tie.close
     (tie.spec
-    enum-told
-    signed-requires
-    signed-requires-2
+    (λ c. search needs)
+    (λ c κs. search needs)
+    (λ c κs. search needs)
     add-signed-word
-    signed-word-requires
-    enum-told-2
-    signed-requires-3
-    signed-requires-4
+    (λ c κs. search needs)
+    (λ c. search needs)
+    (λ c κs. search needs)
+    (λ c κs. search needs)
     sub-signed-word
-    signed-word-requires-2
-    enum-told-3
-    signed-requires-5
-    signed-requires-6
+    (λ c κs. search needs)
+    (λ c. search needs)
+    (λ c κs. search needs)
+    (λ c κs. search needs)
     mul-signed-word
-    signed-word-requires-3
-    enum-told-4
+    (λ c κs. search needs)
+    (λ c. search needs)
     returns
-    signed-requires-7
-    signed-requires-8
+    (λ c κs. search needs)
+    (λ c κs. search needs)
     div-signed-word
-    signed-word-requires-4
-    enum-told-5
+    (λ c κs. search needs)
+    (λ c. search needs)
     returns-2
-    modulus-requires
+    (λ c κs. search needs)
     returns-3
     returns-4
     returns-5

@@ -8,50 +8,20 @@ use Rattle.operate.specs.Arithmetic.{unsignedValue}
 use Rattle.operate.proofs.Naturals.{no-larger, below-zero, difference-is, product-fits}
 use Rattle.operate.proofs.arithmetic.unsigned_value.Tie as tie
 
-enum-told : tie.Need-enum-told
-enum-told c = search needs
-
-add-unsigned-word : tie.Need-add-unsigned-word
-add-unsigned-word c = search needs
-
-unsigned-word-requires : tie.Need-unsigned-word-requires
-unsigned-word-requires c κs = search needs
-
-enum-told-2 : tie.Need-enum-told-2
-enum-told-2 c = search needs
-
 returns : tie.Need-returns
 unfolding unsignedValue
 returns c = rw (c .before .enum-told2 .given .1) (below-zero _ _ (c .if1 .taken))
 
-enum-told-3 : tie.Need-enum-told-3
-enum-told-3 c = search needs
-
 mul-unsigned-word : tie.Need-mul-unsigned-word
 mul-unsigned-word c = product-fits _ _ (c .before .before .fits .x) (c .before .before .fits .y)
-
-unsigned-word-requires-2 : tie.Need-unsigned-word-requires-2
-unsigned-word-requires-2 c κs = search needs
-
-enum-told-4 : tie.Need-enum-told-4
-enum-told-4 c = search needs
 
 returns-2 : tie.Need-returns-2
 unfolding unsignedValue
 returns-2 c = rw (c .before .enum-told4 .given .1, eq-eqb (c .before .before .before .args .y) 0 (c .if2 .taken))
 
-div-t14 : tie.Need-div-t14
-div-t14 c = search needs
-
-enum-told-5 : tie.Need-enum-told-5
-enum-told-5 c = search needs
-
 returns-3 : tie.Need-returns-3
 unfolding unsignedValue
 returns-3 c = rw (c .before .enum-told5 .given .1, eq-eqb (c .before .before .before .args .y) 0 (c .if3 .taken))
-
-rem-t16 : tie.Need-rem-t16
-rem-t16 c = search needs
 
 returns-4 : tie.Need-returns-4
 unfolding unsignedValue
@@ -79,20 +49,20 @@ pub unsigned-value-spec : {M : Type 1} → statement M
 unsigned-value-spec =
     tie.close
     (tie.spec
-    enum-told
-    add-unsigned-word
-    unsigned-word-requires
-    enum-told-2
+    (λ c. search needs)
+    (λ c. search needs)
+    (λ c κs. search needs)
+    (λ c. search needs)
     returns
-    enum-told-3
+    (λ c. search needs)
     mul-unsigned-word
-    unsigned-word-requires-2
-    enum-told-4
+    (λ c κs. search needs)
+    (λ c. search needs)
     returns-2
-    div-t14
-    enum-told-5
+    (λ c. search needs)
+    (λ c. search needs)
     returns-3
-    rem-t16
+    (λ c. search needs)
     returns-4
     returns-5
     returns-6

@@ -5,9 +5,6 @@ use Rattle.operate.proofs.arithmetic.unsigned_word.Statement.{statement
 use Rattle.operate.proofs.Naturals.{in-word, past-word}
 use Rattle.operate.proofs.arithmetic.unsigned_word.Tie as tie
 
-cast-t3 : tie.Need-cast-t3
-cast-t3 c = search needs
-
 returns : tie.Need-returns
 returns c = in-word _ (omega arith)
 
@@ -15,4 +12,4 @@ returns-2 : tie.Need-returns-2
 returns-2 c = past-word _ (c .if1 .left)
 
 pub unsigned-word-spec : {M : Type 1} → statement M
-unsigned-word-spec = tie.close (tie.spec cast-t3 returns returns-2)
+unsigned-word-spec = tie.close (tie.spec (λ c. search needs) returns returns-2)

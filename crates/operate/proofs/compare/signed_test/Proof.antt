@@ -3,30 +3,6 @@ use borrow.Author.Needs.{needs}
 use Rattle.operate.proofs.compare.signed_test.Statement.{statement}
 use Rattle.operate.proofs.compare.signed_test.Tie as tie
 
-enum-told : tie.Need-enum-told
-enum-told c = search needs
-
-below-requires : tie.Need-below-requires
-below-requires c κs = search needs
-
-enum-told-2 : tie.Need-enum-told-2
-enum-told-2 c = search needs
-
-below-requires-2 : tie.Need-below-requires-2
-below-requires-2 c κs = search needs
-
-enum-told-3 : tie.Need-enum-told-3
-enum-told-3 c = search needs
-
-at-most-requires : tie.Need-at-most-requires
-at-most-requires c κs = search needs
-
-enum-told-4 : tie.Need-enum-told-4
-enum-told-4 c = search needs
-
-at-most-requires-2 : tie.Need-at-most-requires-2
-at-most-requires-2 c κs = search needs
-
 returns : tie.Need-returns
 returns c = rw (c .before .enum-told .given .1) (c .below .ensures)
 
@@ -43,14 +19,14 @@ pub signed-test-spec : {M : Type 1} → statement M
 signed-test-spec =
     tie.close
     (tie.spec
-    enum-told
-    below-requires
-    enum-told-2
-    below-requires-2
-    enum-told-3
-    at-most-requires
-    enum-told-4
-    at-most-requires-2
+    (λ c. search needs)
+    (λ c κs. search needs)
+    (λ c. search needs)
+    (λ c κs. search needs)
+    (λ c. search needs)
+    (λ c κs. search needs)
+    (λ c. search needs)
+    (λ c κs. search needs)
     returns
     returns-2
     returns-3

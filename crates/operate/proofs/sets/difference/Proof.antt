@@ -6,11 +6,8 @@ use borrow.Author.Needs.{needs}
 use Rattle.operate.proofs.sets.difference.Statement.{statement}
 use Rattle.operate.proofs.sets.difference.Tie as tie
 
-sub-result : tie.Need-sub-result
-sub-result c = search needs
-
 returns : tie.Need-returns
 returns c = let e : 0xFFFF_FFFF - c .args .y ≡ 0x1_0000_0000 - suc (c .args .y) = omega arith in rw e
 
 pub difference-spec : {M : Type 1} → statement M
-difference-spec = tie.close (tie.spec sub-result returns)
+difference-spec = tie.close (tie.spec (λ c. search needs) returns)

@@ -19,26 +19,8 @@ loop-holds c = walked-start (c .before .args .m .now) (c .before .args .start) (
 returns : tie.Need-returns Inv-loop μ-loop
 returns c = sym (walked-above (c .before .before .before .before .args .m .now) (c .before .before .before .before .args .start) (c .before .before .before .before .args .fp) (c .before .before .before .before .args .calls) (c .before .before .before .before .args .a) (c .before .before .loop .frame) (c .before .before .loop .counter) (c .before .before .loop .inv) (c .if1 .taken))
 
-sub-if2 : tie.Need-sub-if2 Inv-loop μ-loop
-sub-if2 c = search needs
-
 returns-2 : tie.Need-returns-2 Inv-loop μ-loop
 returns-2 c = sym (walked-near (c .before .before .before .before .before .args .m .now) (c .before .before .before .before .before .args .start) (c .before .before .before .before .before .args .fp) (c .before .before .before .before .before .args .calls) (c .before .before .before .before .before .args .a) (c .before .before .before .loop .frame) (c .before .before .before .loop .counter) (c .before .before .before .loop .inv) (c .before .before .loop-test .taken) (c .before .if1 .left) (omega arith))
-
-sub-word-at : tie.Need-sub-word-at Inv-loop μ-loop
-sub-word-at c = search needs
-
-word-at-requires : tie.Need-word-at-requires Inv-loop μ-loop
-word-at-requires c κs = search needs
-
-cast-frame : tie.Need-cast-frame Inv-loop μ-loop
-cast-frame c = search needs
-
-add-counter : tie.Need-add-counter Inv-loop μ-loop
-add-counter c = search needs
-
-loop-less : tie.Need-loop-less Inv-loop μ-loop
-loop-less c = search needs
 
 loop-again : tie.Need-loop-again Inv-loop μ-loop
 loop-again c = rw (c .word-at .ensures) (walked-next (c .before .before .before .before .before .before .args .m .now) (c .before .before .before .before .before .before .args .start) (c .before .before .before .before .before .before .args .fp) (c .before .before .before .before .before .before .args .calls) (c .before .before .before .before .before .before .args .a) (c .before .before .before .before .loop .frame) (c .before .before .before .before .loop .counter) (c .before .before .before .before .loop .inv) (c .before .before .before .loop-test .taken) (omega arith))
@@ -54,12 +36,12 @@ is-link-spec =
     μ-loop
     loop-holds
     returns
-    sub-if2
+    (λ c. search needs)
     returns-2
-    sub-word-at
-    word-at-requires
-    cast-frame
-    add-counter
-    loop-less
+    (λ c. search needs)
+    (λ c κs. search needs)
+    (λ c. search needs)
+    (λ c. search needs)
+    (λ c. search needs)
     loop-again
     returns-3)

@@ -8,9 +8,6 @@ use Rattle.registers.specs.Memory.{live}
 use Rattle.registers.proofs.Protected.{at-most-less}
 use Rattle.registers.proofs.access.is_live.Tie as tie
 
-cast-mp : tie.Need-cast-mp
-cast-mp c = search needs
-
 returns : tie.Need-returns
 unfolding live
 returns c = rw (lt-leb (c .before .before .args .a + c .before .before .args .n) (c .before .before .args .q .mp) (omega arith))
@@ -20,4 +17,4 @@ unfolding live
 returns-2 c = at-most-less (c .before .before .args .a) (c .before .before .args .n) (c .before .before .args .q .mp) (c .if1 .left)
 
 pub is-live-spec : {M : Type 1} → statement M
-is-live-spec = tie.close (tie.spec cast-mp returns returns-2)
+is-live-spec = tie.close (tie.spec (λ c. search needs) returns returns-2)

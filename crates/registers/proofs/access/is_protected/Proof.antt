@@ -5,32 +5,14 @@ use Rattle.registers.proofs.access.is_protected.Statement.{statement}
 use Rattle.registers.proofs.Protected.{free-above, header-only, constant, framed}
 use Rattle.registers.proofs.access.is_protected.Tie as tie
 
-cast-if1 : tie.Need-cast-if1
-cast-if1 c = search needs
-
 returns : tie.Need-returns
 returns c = sym (free-above (c .before .before .args .areas) (c .before .before .args .q) (c .before .before .args .m .now) (c .before .before .args .a) (c .before .before .pre) (c .if1 .taken))
-
-cast-constants : tie.Need-cast-constants
-cast-constants c = search needs
-
-add-constants : tie.Need-add-constants
-add-constants c = search needs
 
 returns-2 : tie.Need-returns-2
 returns-2 c = sym (header-only (c .before .before .before .before .args .areas) (c .before .before .before .before .args .q) (c .before .before .before .before .args .m .now) (c .before .before .before .before .args .a) (c .before .before .before .before .pre) (c .if2 .taken))
 
-cast-start : tie.Need-cast-start
-cast-start c = search needs
-
-add-start : tie.Need-add-start
-add-start c = search needs
-
 returns-3 : tie.Need-returns-3
 returns-3 c = sym (constant (c .before .before .before .before .before .before .args .areas) (c .before .before .before .before .before .before .args .q) (c .before .before .before .before .before .before .args .m .now) (c .before .before .before .before .before .before .args .a) (c .before .before .before .before .before .before .pre) (c .before .before .if2 .left) (c .if3 .taken))
-
-is-link-requires : tie.Need-is-link-requires
-is-link-requires c κs = search needs
 
 returns-4 : tie.Need-returns-4
 returns-4 c = c .is-link .ensures ∙ sym (framed (c .before .before .before .before .before .before .before .args .areas) (c .before .before .before .before .before .before .before .args .q) (c .before .before .before .before .before .before .before .args .m .now) (c .before .before .before .before .before .before .before .args .a) (c .before .before .before .before .before .before .before .pre) (c .before .if3 .left))
@@ -39,13 +21,13 @@ pub is-protected-spec : {M : Type 1} → statement M
 is-protected-spec =
     tie.close
     (tie.spec
-    cast-if1
+    (λ c. search needs)
     returns
-    cast-constants
-    add-constants
+    (λ c. search needs)
+    (λ c. search needs)
     returns-2
-    cast-start
-    add-start
+    (λ c. search needs)
+    (λ c. search needs)
     returns-3
-    is-link-requires
+    (λ c κs. search needs)
     returns-4)

@@ -9,53 +9,17 @@ use borrow.Author.Needs.{needs}
 use Rattle.step.proofs.Machine.gave.Statement.{statement}
 use Rattle.step.proofs.Machine.gave.Tie as tie
 
-enum-known-e : tie.Need-enum-known-e
-enum-known-e c = search needs
-
-trapped-requires : tie.Need-trapped-requires
-trapped-requires c κs = search needs
-
-enum-told : tie.Need-enum-told
-enum-told c = search needs
-
-finished-requires : tie.Need-finished-requires
-finished-requires c κs = search needs
-
-enum-known-e-2 : tie.Need-enum-known-e-2
-enum-known-e-2 c = search needs
-
-low-word-requires : tie.Need-low-word-requires
-low-word-requires c κs = search needs
-
-push-count-requires : tie.Need-push-count-requires
-push-count-requires c κs = search needs
-
 add-height : tie.Need-add-height
 add-height c = record { fits = omega (arith, c .before .low-word .ensures, c .push-count .ensures, pushes-small (c .before .before .before .e2 .given .0 .1 .0)) }
-
-trapped-requires-2 : tie.Need-trapped-requires-2
-trapped-requires-2 c κs = search needs
 
 returns : tie.Need-returns
 unfolding settledOf
 returns c = λ m. rw (c .before .before .before .before .before .e2 .given .1, ← c .before .before .before .low-word .ensures, ← c .before .before .push-count .ensures, lt-ltb (length (c .before .before .before .before .before .before .before .before .args .stack .now)) (c .before .before .before .low-word .result + c .before .before .push-count .result) (c .before .if1 .taken), c .trapped2 .ensures)
 
-trapped-requires-3 : tie.Need-trapped-requires-3
-trapped-requires-3 c κs = search needs
-
 returns-2 : tie.Need-returns-2
 unfolding settledOf
 returns-2 c = let p = rw (c .before .before .before .before .before .before .e2 .given .1) at (c .before .before .before .before .before .before .before .before .before .pre .1) in
     λ m. rw (c .before .before .before .before .before .before .e2 .given .1, p .1, ← c .before .before .before .before .low-word .ensures, ← c .before .before .before .push-count .ensures, le-ltb (length (c .before .before .before .before .before .before .before .before .before .args .stack .now)) (c .before .before .before .before .low-word .result + c .before .before .before .push-count .result) (c .before .before .if1 .left), le-ltb (c .before .before .before .before .before .before .before .before .before .args .next) (c .before .before .before .before .before .before .before .before .before .args .size) (c .before .if2 .taken), c .trapped3 .ensures)
-
-push-words-requires : tie.Need-push-words-requires
-push-words-requires c κs = search needs
-
-cast-arrived : tie.Need-cast-arrived
-cast-arrived c = search needs
-
-arrived-requires : tie.Need-arrived-requires
-arrived-requires c κs = search needs
 
 returns-3 : tie.Need-returns-3
 unfolding settledOf
@@ -64,9 +28,6 @@ returns-3 c = λ m. rw (c .before .before .e .given .1, c .trapped .ensures)
 returns-4 : tie.Need-returns-4
 unfolding settledOf
 returns-4 c = λ m. rw (c .before .enum-told .given .1, c .finished .ensures)
-
-same-length : tie.Need-same-length
-same-length c = search needs
 
 returns-5 : tie.Need-returns-5
 unfolding settledOf
@@ -77,22 +38,22 @@ pub gave-spec : {M : Type 1} → statement M
 gave-spec =
     tie.close
     (tie.spec
-    enum-known-e
-    trapped-requires
-    enum-told
-    finished-requires
-    enum-known-e-2
-    low-word-requires
-    push-count-requires
+    (λ c. search needs)
+    (λ c κs. search needs)
+    (λ c. search needs)
+    (λ c κs. search needs)
+    (λ c. search needs)
+    (λ c κs. search needs)
+    (λ c κs. search needs)
     add-height
-    trapped-requires-2
+    (λ c κs. search needs)
     returns
-    trapped-requires-3
+    (λ c κs. search needs)
     returns-2
-    push-words-requires
-    cast-arrived
-    arrived-requires
+    (λ c κs. search needs)
+    (λ c. search needs)
+    (λ c κs. search needs)
     returns-3
     returns-4
-    same-length
+    (λ c. search needs)
     returns-5)

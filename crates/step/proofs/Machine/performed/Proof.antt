@@ -9,35 +9,17 @@ use borrow.Author.Needs.{needs}
 use Rattle.step.proofs.Machine.performed.Statement.{statement}
 use Rattle.step.proofs.Machine.performed.Tie as tie
 
-group-of-requires : tie.Need-group-of-requires
-group-of-requires c κs = search needs
-
-enum-told : tie.Need-enum-told
-enum-told c = search needs
-
-given-effect-requires : tie.Need-given-effect-requires
-given-effect-requires c κs = search needs
-
 gave-requires : tie.Need-gave-requires
 gave-requires c κs = let a = c .before .before .before .before .before .before .before .before .before .before .before .before .args in
     let q = a .self .registers in
     let P = program (a .code .now) (a .self .areas) in
     (fitting (a .self .areas) q (a .memory .now) (a .stack .now) (c .before .before .before .before .before .before .before .before .before .before .before .before .pre .1 .0) .deep, rw (c .before .given-effect .ensures P) (rw (sym (c .before .before .before .before .before .before .group-of .ensures) ∙ c .before .before .before .before .enum-told .given .1) at (carried P q (a .memory .now) (a .next) (topWords (needed (a .i)) (q .height) (a .stack .now)) (a .i))))
 
-enum-told-2 : tie.Need-enum-told-2
-enum-told-2 c = search needs
-
-gone-effect-requires : tie.Need-gone-effect-requires
-gone-effect-requires c κs = search needs
-
 went-requires : tie.Need-went-requires
 went-requires c κs = let a = c .before .before .before .before .before .before .before .before .before .before .args in
     let q = a .self .registers in
     let P = program (a .code .now) (a .self .areas) in
     rw (c .gone-effect .ensures P (a .memory .now)) (rw (sym (c .before .before .before .before .group-of .ensures) ∙ c .before .before .enum-told2 .given .1) at (carried P q (a .memory .now) (a .next) (topWords (needed (a .i)) (q .height) (a .stack .now)) (a .i)))
-
-enum-told-3 : tie.Need-enum-told-3
-enum-told-3 c = search needs
 
 stored-effect-requires : tie.Need-stored-effect-requires
 stored-effect-requires c κs = let a = c .before .before .before .before .before .before .before .before .before .before .args in
@@ -49,9 +31,6 @@ put-requires c κs = let a = c .before .before .before .before .before .before .
     let P = program (a .code .now) (a .self .areas) in
     (fitting (a .self .areas) q (a .memory .now) (a .stack .now) (c .before .before .before .before .before .before .before .before .before .before .before .before .before .pre .1 .0) .deep, (fitting (a .self .areas) q (a .memory .now) (a .stack .now) (c .before .before .before .before .before .before .before .before .before .before .before .before .before .pre .1 .0) .height, rw (c .before .before .stored-effect .ensures (a .code .now)) (rw (sym (c .before .before .before .before .before .before .before .group-of .ensures) ∙ c .before .before .before .before .before .enum-told3 .given .1) at (carried P q (a .memory .now) (a .next) (topWords (needed (a .i)) (q .height) (a .stack .now)) (a .i)))))
 
-enum-told-4 : tie.Need-enum-told-4
-enum-told-4 c = search needs
-
 other-effect-requires : tie.Need-other-effect-requires
 other-effect-requires c κs = let a = c .before .before .before .before .before .before .before .before .before .before .args in
     let f = fitting (a .self .areas) (a .self .registers) (a .memory .now) (a .stack .now) (c .before .before .before .before .before .before .before .before .before .before .pre .1 .0) in
@@ -61,38 +40,17 @@ settled-requires : tie.Need-settled-requires
 settled-requires c κs = let a = c .before .before .before .before .before .before .before .before .before .before .before .before .before .args in
     fitting (a .self .areas) (a .self .registers) (a .memory .now) (a .stack .now) (c .before .before .before .before .before .before .before .before .before .before .before .before .before .pre .1 .0) .deep
 
-same-length : tie.Need-same-length
-same-length c = search needs
-
-same-length-2 : tie.Need-same-length-2
-same-length-2 c = search needs
-
 returns : tie.Need-returns
 returns c = let a = c .before .before .before .before .before .before .before .before .before .before .before .before .before .before .before .args in
     rw (← c .before .before .before .before .given-effect .ensures (program (a .code .now) (a .self .areas))) (c .before .before .gave .ensures (a .memory .now))
-
-same-length-3 : tie.Need-same-length-3
-same-length-3 c = search needs
 
 returns-2 : tie.Need-returns-2
 returns-2 c = let a = c .before .before .before .before .before .before .before .before .before .before .before .args in
     rw (← c .before .gone-effect .ensures (program (a .code .now) (a .self .areas)) (a .memory .now)) (c .went .ensures (a .memory .now) (a .stack .now) (fitting (a .self .areas) (a .self .registers) (a .memory .now) (a .stack .now) (c .before .before .before .before .before .before .before .before .before .before .before .pre .1 .0) .height))
 
-same-length-4 : tie.Need-same-length-4
-same-length-4 c = search needs
-
-same-length-5 : tie.Need-same-length-5
-same-length-5 c = search needs
-
 returns-3 : tie.Need-returns-3
 returns-3 c = let a = c .before .before .before .before .before .before .before .before .before .before .before .before .before .before .before .before .args in
     rw (← c .before .before .before .before .before .stored-effect .ensures (a .code .now)) (c .before .before .put .ensures)
-
-same-length-6 : tie.Need-same-length-6
-same-length-6 c = search needs
-
-same-length-7 : tie.Need-same-length-7
-same-length-7 c = search needs
 
 returns-4 : tie.Need-returns-4
 returns-4 c = rw (← c .before .before .before .before .before .before .before .other-effect .ensures) (c .before .before .before .before .settled .ensures)
@@ -101,27 +59,27 @@ pub performed-spec : {M : Type 1} → statement M
 performed-spec =
     tie.close
     (tie.spec
-    group-of-requires
-    enum-told
-    given-effect-requires
+    (λ c κs. search needs)
+    (λ c. search needs)
+    (λ c κs. search needs)
     gave-requires
-    enum-told-2
-    gone-effect-requires
+    (λ c. search needs)
+    (λ c κs. search needs)
     went-requires
-    enum-told-3
+    (λ c. search needs)
     stored-effect-requires
     put-requires
-    enum-told-4
+    (λ c. search needs)
     other-effect-requires
     settled-requires
-    same-length
-    same-length-2
+    (λ c. search needs)
+    (λ c. search needs)
     returns
-    same-length-3
+    (λ c. search needs)
     returns-2
-    same-length-4
-    same-length-5
+    (λ c. search needs)
+    (λ c. search needs)
     returns-3
-    same-length-6
-    same-length-7
+    (λ c. search needs)
+    (λ c. search needs)
     returns-4)

@@ -10,27 +10,6 @@ use borrow.Author.Needs.{needs}
 use Rattle.step.proofs.Machine.put.Statement.{statement}
 use Rattle.step.proofs.Machine.put.Tie as tie
 
-enum-known-e : tie.Need-enum-known-e
-enum-known-e c = search needs
-
-trapped-requires : tie.Need-trapped-requires
-trapped-requires c κs = search needs
-
-enum-told : tie.Need-enum-told
-enum-told c = search needs
-
-finished-requires : tie.Need-finished-requires
-finished-requires c κs = search needs
-
-enum-known-e-2 : tie.Need-enum-known-e-2
-enum-known-e-2 c = search needs
-
-low-word-requires : tie.Need-low-word-requires
-low-word-requires c κs = search needs
-
-trapped-requires-2 : tie.Need-trapped-requires-2
-trapped-requires-2 c κs = search needs
-
 returns : tie.Need-returns
 unfolding settledOf
 returns c = let p = rw (c .before .before .before .before .e2 .given .1) at (c .before .before .before .before .before .before .before .before .pre .1 .1) in
@@ -39,14 +18,8 @@ returns c = let p = rw (c .before .before .before .before .e2 .given .1) at (c .
     let g = c .before .before .before .before .e2 .given .0 .0 in
     rw (c .before .before .before .before .e2 .given .1, le-ltb (length (c .before .before .before .before .before .before .before .before .args .stack .now)) (h - g + pushes (c .before .before .before .before .e2 .given .0 .1 .0)) (omega (arith, c .before .before .before .before .before .before .before .before .pre .1 .0)), p .1, le-ltb (c .before .before .before .before .before .before .before .before .args .next) (c .before .before .before .before .before .before .before .before .args .size) (c .before .if1 .taken), c .trapped2 .ensures)
 
-write-words-requires : tie.Need-write-words-requires
-write-words-requires c κs = search needs
-
 cast-arrived : tie.Need-cast-arrived
 cast-arrived c = record { fits = omega (arith, c .before .before .before .before .before .low-word .ensures, c .before .before .before .before .before .before .before .before .before .before .before .pre .0, c .before .before .before .before .before .before .before .before .before .before .before .pre .1 .0) }
-
-arrived-requires : tie.Need-arrived-requires
-arrived-requires c κs = search needs
 
 returns-2 : tie.Need-returns-2
 unfolding settledOf
@@ -55,9 +28,6 @@ returns-2 c = rw (c .before .before .e .given .1, c .trapped .ensures)
 returns-3 : tie.Need-returns-3
 unfolding settledOf
 returns-3 c = rw (c .before .enum-told .given .1, c .finished .ensures)
-
-same-length : tie.Need-same-length
-same-length c = search needs
 
 returns-4 : tie.Need-returns-4
 unfolding settledOf
@@ -72,18 +42,18 @@ pub put-spec : {M : Type 1} → statement M
 put-spec =
     tie.close
     (tie.spec
-    enum-known-e
-    trapped-requires
-    enum-told
-    finished-requires
-    enum-known-e-2
-    low-word-requires
-    trapped-requires-2
+    (λ c. search needs)
+    (λ c κs. search needs)
+    (λ c. search needs)
+    (λ c κs. search needs)
+    (λ c. search needs)
+    (λ c κs. search needs)
+    (λ c κs. search needs)
     returns
-    write-words-requires
+    (λ c κs. search needs)
     cast-arrived
-    arrived-requires
+    (λ c κs. search needs)
     returns-2
     returns-3
-    same-length
+    (λ c. search needs)
     returns-4)

@@ -9,55 +9,16 @@ use Rattle.step.specs.Step.{settled as settledOf}
 use Rattle.step.proofs.Pushing.{pushes-small}
 use Rattle.step.proofs.Machine.settled.Tie as tie
 
-enum-known-e : tie.Need-enum-known-e
-enum-known-e c = search needs
-
-trapped-requires : tie.Need-trapped-requires
-trapped-requires c κs = search needs
-
-enum-told : tie.Need-enum-told
-enum-told c = search needs
-
-enum-known-e-2 : tie.Need-enum-known-e-2
-enum-known-e-2 c = search needs
-
-low-word-requires : tie.Need-low-word-requires
-low-word-requires c κs = search needs
-
-push-count-requires : tie.Need-push-count-requires
-push-count-requires c κs = search needs
-
 add-height : tie.Need-add-height
 add-height c = record { fits = omega (arith, c .before .low-word .ensures, c .push-count .ensures, pushes-small (c .before .before .before .e2 .given .0 .1 .0)) }
-
-trapped-requires-2 : tie.Need-trapped-requires-2
-trapped-requires-2 c κs = search needs
 
 returns : tie.Need-returns
 unfolding settledOf
 returns c = rw (c .before .before .before .before .before .e2 .given .1, ← c .before .before .before .low-word .ensures, ← c .before .before .push-count .ensures, lt-ltb (length (c .before .before .before .before .before .before .before .before .before .args .stack .now)) (c .before .before .before .low-word .result + c .before .before .push-count .result) (c .before .if1 .taken), c .trapped2 .ensures)
 
-cast-if2 : tie.Need-cast-if2
-cast-if2 c = search needs
-
-trapped-requires-3 : tie.Need-trapped-requires-3
-trapped-requires-3 c κs = search needs
-
 returns-2 : tie.Need-returns-2
 unfolding settledOf
 returns-2 c = rw (c .before .before .before .before .before .before .before .e2 .given .1, ← c .before .before .before .before .before .low-word .ensures, ← c .before .before .before .before .push-count .ensures, le-ltb (length (c .before .before .before .before .before .before .before .before .before .before .before .args .stack .now)) (c .before .before .before .before .before .low-word .result + c .before .before .before .before .push-count .result) (c .before .before .before .if1 .left), le-ltb (c .before .before .before .before .before .before .before .e2 .given .0 .1 .1 .1 .0 .pc) (c .before .before .before .before .before .before .before .before .before .before .before .args .size) (c .before .if2 .taken), c .trapped3 .ensures)
-
-write-words-requires : tie.Need-write-words-requires
-write-words-requires c κs = search needs
-
-push-words-requires : tie.Need-push-words-requires
-push-words-requires c κs = search needs
-
-cast-raised : tie.Need-cast-raised
-cast-raised c = search needs
-
-raised-requires : tie.Need-raised-requires
-raised-requires c κs = search needs
 
 returns-3 : tie.Need-returns-3
 unfolding settledOf
@@ -67,12 +28,6 @@ returns-4 : tie.Need-returns-4
 unfolding settledOf
 returns-4 c = rw (c .enum-told .given .1)
 
-same-length : tie.Need-same-length
-same-length c = search needs
-
-same-length-2 : tie.Need-same-length-2
-same-length-2 c = search needs
-
 returns-5 : tie.Need-returns-5
 unfolding settledOf
 returns-5 c = rw (c .before .before .before .before .before .before .before .before .before .before .before .before .before .before .before .before .e2 .given .1, ← c .before .before .before .before .before .before .before .before .before .before .before .before .before .before .low-word .ensures, ← c .before .before .before .before .before .before .before .before .before .before .before .before .before .push-count .ensures, le-ltb (length (c .before .before .before .before .before .before .before .before .before .before .before .before .before .before .before .before .before .before .before .before .args .stack .now)) (c .before .before .before .before .before .before .before .before .before .before .before .before .before .before .low-word .result + c .before .before .before .before .before .before .before .before .before .before .before .before .before .push-count .result) (c .before .before .before .before .before .before .before .before .before .before .before .before .if1 .left), lt-ltb (c .before .before .before .before .before .before .before .before .before .before .before .before .before .before .before .before .e2 .given .0 .1 .1 .1 .0 .pc) (c .before .before .before .before .before .before .before .before .before .before .before .before .before .before .before .before .before .before .before .before .args .size) (c .before .before .before .before .before .before .before .before .before .before .if2 .left), c .before .before .before .before .before .before .before .write-words .ensures, c .before .before .before .push-words .ensures, c .raised .ensures)
@@ -81,24 +36,24 @@ pub settled-spec : {M : Type 1} → statement M
 settled-spec =
     tie.close
     (tie.spec
-    enum-known-e
-    trapped-requires
-    enum-told
-    enum-known-e-2
-    low-word-requires
-    push-count-requires
+    (λ c. search needs)
+    (λ c κs. search needs)
+    (λ c. search needs)
+    (λ c. search needs)
+    (λ c κs. search needs)
+    (λ c κs. search needs)
     add-height
-    trapped-requires-2
+    (λ c κs. search needs)
     returns
-    cast-if2
-    trapped-requires-3
+    (λ c. search needs)
+    (λ c κs. search needs)
     returns-2
-    write-words-requires
-    push-words-requires
-    cast-raised
-    raised-requires
+    (λ c κs. search needs)
+    (λ c κs. search needs)
+    (λ c. search needs)
+    (λ c κs. search needs)
     returns-3
     returns-4
-    same-length
-    same-length-2
+    (λ c. search needs)
+    (λ c. search needs)
     returns-5)

@@ -10,33 +10,6 @@ use borrow.Author.Needs.{needs}
 use Rattle.step.proofs.Machine.step.Statement.{statement}
 use Rattle.step.proofs.Machine.step.Tie as tie
 
-cast-fetch : tie.Need-cast-fetch
-cast-fetch c = search needs
-
-fetch-requires : tie.Need-fetch-requires
-fetch-requires c κs = search needs
-
-enum-told : tie.Need-enum-told
-enum-told c = search needs
-
-trapped-requires : tie.Need-trapped-requires
-trapped-requires c κs = search needs
-
-enum-told-2 : tie.Need-enum-told-2
-enum-told-2 c = search needs
-
-trapped-requires-2 : tie.Need-trapped-requires-2
-trapped-requires-2 c κs = search needs
-
-enum-known-decoded : tie.Need-enum-known-decoded
-enum-known-decoded c = search needs
-
-needed-words-requires : tie.Need-needed-words-requires
-needed-words-requires c κs = search needs
-
-trapped-requires-3 : tie.Need-trapped-requires-3
-trapped-requires-3 c κs = search needs
-
 returns : tie.Need-returns
 unfolding stepOf performed
 returns c = rw (← c .before .before .before .before .before .before .before .fetch .ensures, c .before .before .before .before .before .decoded .given .1, ← c .before .before .before .needed-words .ensures, lt-ltb (c .before .before .before .before .before .before .before .before .before .before .before .before .before .args .self .registers .height) (c .before .before .before .needed-words .result) (c .before .if1 .taken), c .trapped3 .ensures)
@@ -55,12 +28,6 @@ returns-3 : tie.Need-returns-3
 unfolding stepOf performed
 returns-3 c = rw (← c .before .before .before .fetch .ensures, c .before .enum-told2 .given .1, c .trapped2 .ensures)
 
-same-length : tie.Need-same-length
-same-length c = search needs
-
-same-length-2 : tie.Need-same-length-2
-same-length-2 c = search needs
-
 returns-4 : tie.Need-returns-4
 unfolding stepOf performed
 returns-4 c = rw (← c .before .before .before .before .before .before .before .before .before .before .before .before .before .fetch .ensures, c .before .before .before .before .before .before .before .before .before .before .before .decoded .given .1, le-ltb (c .before .before .before .before .before .before .before .before .before .before .before .before .before .before .before .before .before .before .before .args .self .registers .height) (needed (c .before .before .before .before .before .before .before .before .before .before .before .decoded .given .0 .0)) (omega (arith, c .before .before .before .before .before .before .before .before .before .needed-words .ensures))) (c .before .before .before .before .performed .ensures)
@@ -69,20 +36,20 @@ pub step-spec : {M : Type 1} → statement M
 step-spec =
     tie.close
     (tie.spec
-    cast-fetch
-    fetch-requires
-    enum-told
-    trapped-requires
-    enum-told-2
-    trapped-requires-2
-    enum-known-decoded
-    needed-words-requires
-    trapped-requires-3
+    (λ c. search needs)
+    (λ c κs. search needs)
+    (λ c. search needs)
+    (λ c κs. search needs)
+    (λ c. search needs)
+    (λ c κs. search needs)
+    (λ c. search needs)
+    (λ c κs. search needs)
+    (λ c κs. search needs)
     returns
     cast-performed
     performed-requires
     returns-2
     returns-3
-    same-length
-    same-length-2
+    (λ c. search needs)
+    (λ c. search needs)
     returns-4)

@@ -10,30 +10,6 @@ use borrow.Author.Needs.{needs}
 use Rattle.step.proofs.Machine.went.Statement.{statement}
 use Rattle.step.proofs.Machine.went.Tie as tie
 
-enum-known-e : tie.Need-enum-known-e
-enum-known-e c = search needs
-
-trapped-requires : tie.Need-trapped-requires
-trapped-requires c κs = search needs
-
-enum-told : tie.Need-enum-told
-enum-told c = search needs
-
-finished-requires : tie.Need-finished-requires
-finished-requires c κs = search needs
-
-enum-known-e-2 : tie.Need-enum-known-e-2
-enum-known-e-2 c = search needs
-
-low-word-requires : tie.Need-low-word-requires
-low-word-requires c κs = search needs
-
-cast-if1 : tie.Need-cast-if1
-cast-if1 c = search needs
-
-trapped-requires-2 : tie.Need-trapped-requires-2
-trapped-requires-2 c κs = search needs
-
 returns : tie.Need-returns
 unfolding settledOf
 returns c = let p = rw (c .before .before .before .before .before .e2 .given .1) at (c .before .before .before .before .before .before .before .pre) in
@@ -41,12 +17,6 @@ returns c = let p = rw (c .before .before .before .before .before .e2 .given .1)
     let h = c .before .before .before .before .before .before .before .args .self .registers .height in
     let g = c .before .before .before .before .before .e2 .given .0 .0 in
     λ m. λ s. λ l. rw (c .before .before .before .before .before .e2 .given .1, le-ltb (length s) (h - g + pushes (c .before .before .before .before .before .e2 .given .0 .1 .0)) (omega arith), le-ltb (c .before .before .before .before .before .e2 .given .0 .1 .1 .1 .0 .pc) (c .before .before .before .before .before .before .before .args .size) (c .before .if1 .taken), c .trapped2 .ensures)
-
-cast-arrived : tie.Need-cast-arrived
-cast-arrived c = search needs
-
-arrived-requires : tie.Need-arrived-requires
-arrived-requires c κs = search needs
 
 returns-2 : tie.Need-returns-2
 unfolding settledOf
@@ -69,17 +39,17 @@ pub went-spec : {M : Type 1} → statement M
 went-spec =
     tie.close
     (tie.spec
-    enum-known-e
-    trapped-requires
-    enum-told
-    finished-requires
-    enum-known-e-2
-    low-word-requires
-    cast-if1
-    trapped-requires-2
+    (λ c. search needs)
+    (λ c κs. search needs)
+    (λ c. search needs)
+    (λ c κs. search needs)
+    (λ c. search needs)
+    (λ c κs. search needs)
+    (λ c. search needs)
+    (λ c κs. search needs)
     returns
-    cast-arrived
-    arrived-requires
+    (λ c. search needs)
+    (λ c κs. search needs)
     returns-2
     returns-3
     returns-4)

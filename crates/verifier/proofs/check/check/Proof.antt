@@ -10,15 +10,9 @@ use Rattle.verifier.specs.Check.{checkOf}
 use Rattle.verifier.proofs.Borrowing.{room, small, lends}
 use Rattle.verifier.proofs.check.check.Tie as tie
 
-list-number-requires : tie.Need-list-number-requires
-list-number-requires c κs = search needs
-
 returns : tie.Need-returns
 unfolding checkOf
 returns c = rw (← c .before .list-number .ensures, ne-eqb (c .before .list-number .result) 0 (c .if1 .taken))
-
-code-of-requires : tie.Need-code-of-requires
-code-of-requires c κs = search needs
 
 mul-examine : tie.Need-mul-examine
 mul-examine c = let s = small (c .before .before .before .before .before .before .args .r .now) (c .before .before .before .before .before .before .args .results .now) (c .before .before .before .before .before .before .args .w .now) (sym (c .before .before .list-number .ensures) ∙ c .before .if1 .left) in record { fits = omega (arith, rw (← c .code-of .ensures) at s) }
@@ -32,9 +26,6 @@ slice-aggregate-examine c = let s = rw (← c .before .code-of .ensures) at (roo
 examine-requires : tie.Need-examine-requires
 examine-requires c κs = let s = rw (← c .before .code-of .ensures) at (small (c .before .before .before .before .before .before .before .args .r .now) (c .before .before .before .before .before .before .before .args .results .now) (c .before .before .before .before .before .before .before .args .w .now) (sym (c .before .before .before .list-number .ensures) ∙ c .before .before .if1 .left)) in omega (arith, s)
 
-same-length : tie.Need-same-length
-same-length c = search needs
-
 returns-2 : tie.Need-returns-2
 returns-2 c = rw (c .before .before .before .before .code-of .ensures) (lends (c .before .before .before .before .before .before .before .before .before .before .args .r .now) (c .before .before .before .before .before .before .before .before .before .before .args .results .now) (c .before .before .before .before .before .before .before .before .before .before .args .w .now) (sym (c .before .before .before .before .before .before .list-number .ensures) ∙ c .before .before .before .before .before .if1 .left) (λ k. c .before .before .before .before .before .before .before .before .before .shared-slice-known .given k .fits) (c .before .before .examine .result) (c .before .before .examine .last .1 .1 .0) (rw (c .before .before .before .before .code-of .ensures) at (c .before .before .examine .ensures)))
 
@@ -42,12 +33,12 @@ pub check-spec : {M : Type 1} → statement M
 check-spec =
     tie.close
     (tie.spec
-    list-number-requires
+    (λ c κs. search needs)
     returns
-    code-of-requires
+    (λ c κs. search needs)
     mul-examine
     slice-relend-prefix-examine
     slice-aggregate-examine
     examine-requires
-    same-length
+    (λ c. search needs)
     returns-2)

@@ -16,23 +16,11 @@ abbrev μ-loop : tie.MeasureT-loop
 loop-holds : tie.Need-loop-holds Inv-loop μ-loop
 loop-holds c = (zeroing-start, omega arith)
 
-mul-w : tie.Need-mul-w Inv-loop μ-loop
-mul-w c = search needs
-
 slice-write-w : tie.Need-slice-write-w Inv-loop μ-loop
 slice-write-w c = omega (arith, c .before .loop .inv .0 .kept, c .loop-test .taken)
 
-add-i : tie.Need-add-i Inv-loop μ-loop
-add-i c = search needs
-
-loop-less : tie.Need-loop-less Inv-loop μ-loop
-loop-less c = search needs
-
 loop-again : tie.Need-loop-again Inv-loop μ-loop
 loop-again c = (zeroing-next (c .before .loop .inv .0) (omega (arith, c .before .loop .inv .0 .kept, c .loop-test .taken)), omega (arith, c .loop-test .taken))
-
-same-length : tie.Need-same-length Inv-loop μ-loop
-same-length c = search needs
 
 returns : tie.Need-returns Inv-loop μ-loop
 returns c = zeroing-over (c .before .loop .inv .0) (omega (arith, c .before .loop .inv .0 .kept, c .before .loop .inv .1, c .loop-test .left))
@@ -44,10 +32,10 @@ clear-spec =
     Inv-loop
     μ-loop
     loop-holds
-    mul-w
+    (λ c. search needs)
     slice-write-w
-    add-i
-    loop-less
+    (λ c. search needs)
+    (λ c. search needs)
     loop-again
-    same-length
+    (λ c. search needs)
     returns)

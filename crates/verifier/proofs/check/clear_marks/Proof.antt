@@ -14,26 +14,8 @@ abbrev μ-loop : tie.MeasureT-loop
 loop-holds : tie.Need-loop-holds Inv-loop μ-loop
 loop-holds c = unmarking-start
 
-mul-set-half : tie.Need-mul-set-half Inv-loop μ-loop
-mul-set-half c = search needs
-
-add-set-half : tie.Need-add-set-half Inv-loop μ-loop
-add-set-half c = search needs
-
-set-half-requires : tie.Need-set-half-requires Inv-loop μ-loop
-set-half-requires c κs = search needs
-
-add-at : tie.Need-add-at Inv-loop μ-loop
-add-at c = search needs
-
-loop-less : tie.Need-loop-less Inv-loop μ-loop
-loop-less c = search needs
-
 loop-again : tie.Need-loop-again Inv-loop μ-loop
 loop-again c = unmarking-next (c .before .before .before .before .before .loop .inv) (c .before .before .before .before .loop-test .taken) (c .before .before .set-half .ensures)
-
-same-length : tie.Need-same-length Inv-loop μ-loop
-same-length c = search needs
 
 returns : tie.Need-returns Inv-loop μ-loop
 returns c = unmarking-over (c .before .loop .inv) (c .loop-test .left)
@@ -45,11 +27,11 @@ clear-marks-spec =
     Inv-loop
     μ-loop
     loop-holds
-    mul-set-half
-    add-set-half
-    set-half-requires
-    add-at
-    loop-less
+    (λ c. search needs)
+    (λ c. search needs)
+    (λ c κs. search needs)
+    (λ c. search needs)
+    (λ c. search needs)
     loop-again
-    same-length
+    (λ c. search needs)
     returns)

@@ -8,22 +8,13 @@ use Rattle.verifier.proofs.check.list_number.Statement.{statement}
 use Rattle.verifier.specs.Check.{listNumber}
 use Rattle.verifier.proofs.check.list_number.Tie as tie
 
-record-number-requires : tie.Need-record-number-requires
-record-number-requires c κs = search needs
-
 returns : tie.Need-returns
 unfolding listNumber
 returns c = rw (← c .before .record-number .ensures, ne-eqb (c .before .record-number .result) 0 (c .if1 .taken))
 
-code-of-requires : tie.Need-code-of-requires
-code-of-requires c κs = search needs
-
 returns-2 : tie.Need-returns-2
 unfolding listNumber
 returns-2 c = rw (← c .before .before .before .record-number .ensures, eq-eqb (c .before .before .before .record-number .result) 0 (c .before .before .if1 .left), ← c .before .code-of .ensures, lt-ltb (c .before .before .before .before .before .before .args .room) (4 * length (c .before .code-of .result .now)) (omega (arith, c .if2 .taken)))
-
-results-sound-requires : tie.Need-results-sound-requires
-results-sound-requires c κs = search needs
 
 returns-3 : tie.Need-returns-3
 unfolding listNumber
@@ -37,10 +28,10 @@ pub list-number-spec : {M : Type 1} → statement M
 list-number-spec =
     tie.close
     (tie.spec
-    record-number-requires
+    (λ c κs. search needs)
     returns
-    code-of-requires
+    (λ c κs. search needs)
     returns-2
-    results-sound-requires
+    (λ c κs. search needs)
     returns-3
     returns-4)

@@ -6,25 +6,13 @@ use Rattle.verifier.proofs.check.results_sound.Statement.{statement}
 use Rattle.verifier.specs.Check.{resultsSound}
 use Rattle.verifier.proofs.check.results_sound.Tie as tie
 
-entry-count-requires : tie.Need-entry-count-requires
-entry-count-requires c κs = search needs
-
-cast-if1 : tie.Need-cast-if1
-cast-if1 c = search needs
-
 returns : tie.Need-returns
 unfolding resultsSound
 returns c = rw (← c .before .entry-count .ensures, ne-eqb (length (c .before .before .before .before .args .results .now)) (c .before .entry-count .result) (c .if1 .taken))
 
-byte-at-requires : tie.Need-byte-at-requires
-byte-at-requires c κs = search needs
-
 returns-2 : tie.Need-returns-2
 unfolding resultsSound
 returns-2 c = rw (← c .before .before .before .entry-count .ensures, eq-eqb (length (c .before .before .before .before .before .before .args .results .now)) (c .before .before .before .entry-count .result) (c .before .before .if1 .left), ← c .before .byte-at .ensures, ne-eqb (c .before .byte-at .result) 0 (c .if2 .taken))
-
-all-at-most-requires : tie.Need-all-at-most-requires
-all-at-most-requires c κs = search needs
 
 returns-3 : tie.Need-returns-3
 unfolding resultsSound
@@ -34,10 +22,10 @@ pub results-sound-spec : {M : Type 1} → statement M
 results-sound-spec =
     tie.close
     (tie.spec
-    entry-count-requires
-    cast-if1
+    (λ c κs. search needs)
+    (λ c. search needs)
     returns
-    byte-at-requires
+    (λ c κs. search needs)
     returns-2
-    all-at-most-requires
+    (λ c κs. search needs)
     returns-3)

@@ -8,18 +8,9 @@ use Rattle.verifier.specs.Handing.{handedTop}
 use Rattle.verifier.proofs.Steps.{start-near}
 use Rattle.verifier.proofs.hand.hand.Tie as tie
 
-starts-in-requires : tie.Need-starts-in-requires
-starts-in-requires c κs = search needs
-
-same-length : tie.Need-same-length
-same-length c = search needs
-
 returns : tie.Need-returns
 unfolding handedTop
 returns c = rw (← c .before .starts-in .ensures, not-true (c .before .starts-in .result) (c .if1 .taken))
-
-same-length-2 : tie.Need-same-length-2
-same-length-2 c = search needs
 
 returns-2 : tie.Need-returns-2
 unfolding handedTop
@@ -27,9 +18,6 @@ returns-2 c = rw (← c .before .before .before .starts-in .ensures, not-false (
 
 take-requires : tie.Need-take-requires
 take-requires c κs = (let n = start-near (c .before .before .before .before .before .before .before .args .w .now) (c .before .before .before .before .before .before .before .args .size) (c .before .before .before .before .before .before .before .args .p) (c .before .before .before .before .before .before .before .args .way .place) (sym (c .before .before .before .before .starts-in .ensures) ∙ not-false (c .before .before .before .before .starts-in .result) (c .before .before .before .if1 .left)) in omega (arith, c .before .before .before .before .before .before .before .pre .0), c .before .if2 .left)
-
-same-length-3 : tie.Need-same-length-3
-same-length-3 c = search needs
 
 returns-3 : tie.Need-returns-3
 unfolding handedTop
@@ -39,11 +27,11 @@ pub hand-spec : {M : Type 1} → statement M
 hand-spec =
     tie.close
     (tie.spec
-    starts-in-requires
-    same-length
+    (λ c κs. search needs)
+    (λ c. search needs)
     returns
-    same-length-2
+    (λ c. search needs)
     returns-2
     take-requires
-    same-length-3
+    (λ c. search needs)
     returns-3)

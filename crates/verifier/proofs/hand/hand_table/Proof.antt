@@ -14,47 +14,17 @@ Inv-loop code w₀ p at table n t from size low₀ k₀ w low k = Branched code 
 abbrev μ-loop : tie.MeasureT-loop
 μ-loop code w₀ p at table n t from size low₀ k₀ w low k = size - k
 
-table-size-requires : tie.Need-table-size-requires Inv-loop μ-loop
-table-size-requires c κs = search needs
-
 loop-holds : tie.Need-loop-holds Inv-loop μ-loop
 loop-holds c = branched-start
 
 cast-table-target : tie.Need-cast-table-target Inv-loop μ-loop
 cast-table-target c = omega (arith, c .before .before .table-size .ensures, size-below (c .before .before .before .before .before .args .table) (c .before .before .before .before .before .args .n), c .before .before .before .before .before .fits .n, c .loop-test .taken)
 
-table-target-requires : tie.Need-table-target-requires Inv-loop μ-loop
-table-target-requires c κs = search needs
-
-way-toward-requires : tie.Need-way-toward-requires Inv-loop μ-loop
-way-toward-requires c κs = search needs
-
-hand-requires : tie.Need-hand-requires Inv-loop μ-loop
-hand-requires c κs = search needs
-
-enum-told : tie.Need-enum-told Inv-loop μ-loop
-enum-told c = search needs
-
-same-length : tie.Need-same-length Inv-loop μ-loop
-same-length c = search needs
-
 returns : tie.Need-returns Inv-loop μ-loop
 returns c = branched-turn (c .before .before .before .before .before .before .before .before .before .loop .inv) (rw (c .before .before .before .before .before .before .before .before .before .before .table-size .ensures) at (c .before .before .before .before .before .before .before .before .loop-test .taken)) (c .before .before .before .before .before .before .before .table-target .ensures) (rw (c .enum-told .given .1, c .before .before .before .before .before .way-toward .ensures) at (c .before .before .before .before .hand .ensures))
 
-enum-known-next : tie.Need-enum-known-next Inv-loop μ-loop
-enum-known-next c = search needs
-
-add-k : tie.Need-add-k Inv-loop μ-loop
-add-k c = search needs
-
-loop-less : tie.Need-loop-less Inv-loop μ-loop
-loop-less c = search needs
-
 loop-again : tie.Need-loop-again Inv-loop μ-loop
 loop-again c = branched-next (c .before .before .before .before .before .before .before .before .before .before .loop .inv) (rw (c .before .before .before .before .before .before .before .before .before .before .before .table-size .ensures) at (c .before .before .before .before .before .before .before .before .before .loop-test .taken)) (c .before .before .before .before .before .before .before .before .table-target .ensures) (rw (c .before .before .before .before .before .before .way-toward .ensures) at (c .before .before .before .before .before .hand .ensures)) (c .before .next .given .1) (c .before .before .before .before .before .hand .kept .1 .0)
-
-same-length-2 : tie.Need-same-length-2 Inv-loop μ-loop
-same-length-2 c = search needs
 
 returns-2 : tie.Need-returns-2 Inv-loop μ-loop
 returns-2 c = branched-over (c .before .loop .inv) (rw (c .before .before .table-size .ensures) at (c .loop-test .left))
@@ -65,18 +35,18 @@ hand-table-spec =
     (tie.spec
     Inv-loop
     μ-loop
-    table-size-requires
+    (λ c κs. search needs)
     loop-holds
     cast-table-target
-    table-target-requires
-    way-toward-requires
-    hand-requires
-    enum-told
-    same-length
+    (λ c κs. search needs)
+    (λ c κs. search needs)
+    (λ c κs. search needs)
+    (λ c. search needs)
+    (λ c. search needs)
     returns
-    enum-known-next
-    add-k
-    loop-less
+    (λ c. search needs)
+    (λ c. search needs)
+    (λ c. search needs)
     loop-again
-    same-length-2
+    (λ c. search needs)
     returns-2)

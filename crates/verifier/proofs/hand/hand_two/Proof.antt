@@ -4,27 +4,9 @@ use Rattle.verifier.proofs.hand.hand_two.Statement.{statement}
 use Rattle.verifier.specs.Handing.{handedTwo}
 use Rattle.verifier.proofs.hand.hand_two.Tie as tie
 
-hand-requires : tie.Need-hand-requires
-hand-requires c κs = search needs
-
-enum-told : tie.Need-enum-told
-enum-told c = search needs
-
-enum-known-low : tie.Need-enum-known-low
-enum-known-low c = search needs
-
-hand-requires-2 : tie.Need-hand-requires-2
-hand-requires-2 c κs = search needs
-
-same-length : tie.Need-same-length
-same-length c = search needs
-
 returns : tie.Need-returns
 unfolding handedTwo
 returns c = rw (← c .before .before .before .before .hand .ensures, c .enum-told .given .1)
-
-same-length-2 : tie.Need-same-length-2
-same-length-2 c = search needs
 
 returns-2 : tie.Need-returns-2
 unfolding handedTwo
@@ -34,11 +16,11 @@ pub hand-two-spec : {M : Type 1} → statement M
 hand-two-spec =
     tie.close
     (tie.spec
-    hand-requires
-    enum-told
-    enum-known-low
-    hand-requires-2
-    same-length
+    (λ c κs. search needs)
+    (λ c. search needs)
+    (λ c. search needs)
+    (λ c κs. search needs)
+    (λ c. search needs)
     returns
-    same-length-2
+    (λ c. search needs)
     returns-2)

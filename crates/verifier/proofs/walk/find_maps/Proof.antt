@@ -4,18 +4,9 @@ use Rattle.verifier.proofs.walk.find_maps.Statement.{statement}
 use Rattle.verifier.specs.Handing.{walkedTop}
 use Rattle.verifier.proofs.walk.find_maps.Tie as tie
 
-give-entries-requires : tie.Need-give-entries-requires
-give-entries-requires c κs = search needs
-
-walk-requires : tie.Need-walk-requires
-walk-requires c κs = search needs
-
-same-length : tie.Need-same-length
-same-length c = search needs
-
 returns : tie.Need-returns
 unfolding walkedTop
 returns c = rw (← c .before .before .before .before .before .before .give-entries .ensures) (c .before .before .walk .ensures)
 
 pub find-maps-spec : {M : Type 1} → statement M
-find-maps-spec = tie.close (tie.spec give-entries-requires walk-requires same-length returns)
+find-maps-spec = tie.close (tie.spec (λ c κs. search needs) (λ c κs. search needs) (λ c. search needs) returns)

@@ -13,29 +13,11 @@ Inv-loop code w₀ count p₀ w p = Entered code w₀ w p
 abbrev μ-loop : tie.MeasureT-loop
 μ-loop code w₀ count p₀ w p = count - p
 
-entry-count-requires : tie.Need-entry-count-requires Inv-loop μ-loop
-entry-count-requires c κs = search needs
-
 loop-holds : tie.Need-loop-holds Inv-loop μ-loop
 loop-holds c = entered-start
 
-give-entry-requires : tie.Need-give-entry-requires Inv-loop μ-loop
-give-entry-requires c κs = search needs
-
-add-p : tie.Need-add-p Inv-loop μ-loop
-add-p c = search needs
-
-loop-less : tie.Need-loop-less Inv-loop μ-loop
-loop-less c = search needs
-
 loop-again : tie.Need-loop-again Inv-loop μ-loop
 loop-again c = entered-next (c .before .before .before .before .before .loop .inv) (rw (c .before .before .before .before .before .before .entry-count .ensures) at (c .before .before .before .before .loop-test .taken)) (c .before .before .give-entry .ensures) (c .before .before .give-entry .kept .1 .0)
-
-give-entry-requires-2 : tie.Need-give-entry-requires-2 Inv-loop μ-loop
-give-entry-requires-2 c κs = search needs
-
-same-length : tie.Need-same-length Inv-loop μ-loop
-same-length c = search needs
 
 returns : tie.Need-returns Inv-loop μ-loop
 returns c = c .before .before .give-entry2 .ensures ∙ entered-last (c .before .before .before .before .before .loop .inv) (rw (c .before .before .before .before .before .before .entry-count .ensures) at (c .before .before .before .before .loop-test .left))
@@ -46,12 +28,12 @@ give-entries-spec =
     (tie.spec
     Inv-loop
     μ-loop
-    entry-count-requires
+    (λ c κs. search needs)
     loop-holds
-    give-entry-requires
-    add-p
-    loop-less
+    (λ c κs. search needs)
+    (λ c. search needs)
+    (λ c. search needs)
     loop-again
-    give-entry-requires-2
-    same-length
+    (λ c κs. search needs)
+    (λ c. search needs)
     returns)

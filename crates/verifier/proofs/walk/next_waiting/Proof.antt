@@ -19,23 +19,8 @@ abbrev μ-loop : tie.MeasureT-loop
 loop-holds : tie.Need-loop-holds Inv-loop μ-loop
 loop-holds c = refl
 
-mul-half-at : tie.Need-mul-half-at Inv-loop μ-loop
-mul-half-at c = search needs
-
-add-half-at : tie.Need-add-half-at Inv-loop μ-loop
-add-half-at c = search needs
-
-half-at-requires : tie.Need-half-at-requires Inv-loop μ-loop
-half-at-requires c κs = search needs
-
 returns : tie.Need-returns Inv-loop μ-loop
 returns c = rw (c .before .before .before .loop .inv, one-left (c .before .before .before .loop .at) (c .before .before .before .before .before .args .size) (c .before .before .loop-test .taken), ← c .before .half-at .ensures, ne-eqb (c .before .half-at .result) 0 (c .if1 .taken))
-
-add-at : tie.Need-add-at Inv-loop μ-loop
-add-at c = search needs
-
-loop-less : tie.Need-loop-less Inv-loop μ-loop
-loop-less c = search needs
 
 loop-again : tie.Need-loop-again Inv-loop μ-loop
 loop-again c = c .before .before .before .loop .inv ∙ rw (one-left (c .before .before .before .loop .at) (c .before .before .before .before .before .args .size) (c .before .before .loop-test .taken), ← c .before .half-at .ensures, eq-eqb (c .before .half-at .result) 0 (c .if1 .left))
@@ -50,11 +35,11 @@ next-waiting-spec =
     Inv-loop
     μ-loop
     loop-holds
-    mul-half-at
-    add-half-at
-    half-at-requires
+    (λ c. search needs)
+    (λ c. search needs)
+    (λ c κs. search needs)
     returns
-    add-at
-    loop-less
+    (λ c. search needs)
+    (λ c. search needs)
     loop-again
     returns-2)

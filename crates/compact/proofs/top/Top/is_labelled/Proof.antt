@@ -4,12 +4,9 @@ use Rattle.compact.proofs.top.Top.is_labelled.Statement.{statement}
 use Rattle.compact.specs.Tops.{labelled}
 use Rattle.compact.proofs.top.Top.is_labelled.Tie as tie
 
-label-height-requires : tie.Need-label-height-requires
-label-height-requires c κs = search needs
-
 returns : tie.Need-returns
 unfolding labelled
 returns c = rw (c .before .label-height .ensures)
 
 pub is-labelled-spec : {M : Type 1} → statement M
-is-labelled-spec = tie.close (tie.spec label-height-requires returns)
+is-labelled-spec = tie.close (tie.spec (λ c κs. search needs) returns)

@@ -18,12 +18,6 @@ loop-holds c = lowering-start (c .before .before .args .code .now) (c .before .b
 lowered-requires : tie.Need-lowered-requires Inv-loop μ-loop
 lowered-requires c κs = omega (arith, c .before .loop .inv .enough)
 
-add-counter : tie.Need-add-counter Inv-loop μ-loop
-add-counter c = search needs
-
-loop-less : tie.Need-loop-less Inv-loop μ-loop
-loop-less c = search needs
-
 loop-again : tie.Need-loop-again Inv-loop μ-loop
 loop-again c = lowering-next (c .before .before .before .before .before .args .code .now) (c .before .before .before .before .before .args .w .now) (c .before .before .before .before .before .args .n) (c .before .before .before .before .before .args .self) (c .before .before .loop .top) (c .before .before .loop .counter) (c .before .before .loop .inv) (c .lowered .result) (c .before .loop-test .taken) (c .lowered .ensures)
 
@@ -33,4 +27,4 @@ returns c = lowering-done (c .before .before .before .before .args .code .now) (
 pub lowered-by-spec : {M : Type 1} → statement M
 lowered-by-spec =
     tie.close
-    (tie.spec Inv-loop μ-loop loop-holds lowered-requires add-counter loop-less loop-again returns)
+    (tie.spec Inv-loop μ-loop loop-holds lowered-requires (λ c. search needs) (λ c. search needs) loop-again returns)
