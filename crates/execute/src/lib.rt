@@ -12,7 +12,7 @@ ghost use Prim.Native.Nat.{ℕ};
 ghost use Rattle.execute.specs.Execute.{execute};
 ghost use Rattle.execute.specs.Group.{groupOf};
 ghost use Rattle.registers.specs.Program.{Program, framesStart, program};
-ghost use Rattle.execute.specs.Depth.{topWords, storedEffect, iteratedEffect, repeatedEffect};
+ghost use Rattle.execute.specs.Depth.{topWords, deep, storedEffect, iteratedEffect, repeatedEffect};
 use effect::data;
 use effect::effect::Effect;
 use effect::effect::Push;
@@ -106,17 +106,11 @@ fn next_effect(areas: Areas, q: Registers, m: &[u32], s: &[u32], next: u32) -> E
     control::repeats(areas, q, m, next, a, last, step, label)
 }
 
-// The two words at the top of the stack.
-fn top_word(s: &[u32], q: Registers) -> u32
-    ensures { λ x. ⌜ x ≡ read (now (s .entry)) (q .height - 1) ⌝ }
+// The same of the stack that the registers tell.
+fn deep_word(s: &[u32], q: Registers, depth: u32) -> u32
+    ensures { λ x. ⌜ x ≡ deep q (now (s .entry)) depth ⌝ }
 {
-    stack_word(s, q.height, 1)
-}
-
-fn second_word(s: &[u32], q: Registers) -> u32
-    ensures { λ x. ⌜ x ≡ read (now (s .entry)) (q .height - 2) ⌝ }
-{
-    stack_word(s, q.height, 2)
+    stack_word(s, q.height, depth)
 }
 
 // What a step does for an instruction.
@@ -180,7 +174,7 @@ pub fn given_effect(q: Registers, m: &[u32], s: &[u32], next: u32, i: Instructio
             q,
             m,
             next,
-            top_word(s, q),
+            deep_word(s, q, 1),
             base,
             mode,
             offset,
@@ -189,13 +183,13 @@ pub fn given_effect(q: Registers, m: &[u32], s: &[u32], next: u32, i: Instructio
             q,
             m,
             next,
-            top_word(s, q),
+            deep_word(s, q, 1),
             base,
             offset,
         ),
         Instruction::Swap => Effect::Go(
             2,
-            Push::PushTwo(top_word(s, q), second_word(s, q)),
+            Push::PushTwo(deep_word(s, q, 1), deep_word(s, q, 2)),
             Write::NoWrite,
             q.moved(next),
         ),
@@ -203,31 +197,31 @@ pub fn given_effect(q: Registers, m: &[u32], s: &[u32], next: u32, i: Instructio
             q,
             next,
             2,
-            operate::arithmetic::signed_value(op, second_word(s, q), top_word(s, q)),
+            operate::arithmetic::signed_value(op, deep_word(s, q, 2), deep_word(s, q, 1)),
         ),
         Instruction::Unsigned(op) => data::valued(
             q,
             next,
             2,
-            operate::arithmetic::unsigned_value(op, second_word(s, q), top_word(s, q)),
+            operate::arithmetic::unsigned_value(op, deep_word(s, q, 2), deep_word(s, q, 1)),
         ),
         Instruction::Negate => data::valued(
             q,
             next,
             1,
-            operate::arithmetic::negated_value(top_word(s, q)),
+            operate::arithmetic::negated_value(deep_word(s, q, 1)),
         ),
         Instruction::Equal => data::given(
             q,
             next,
             2,
-            operate::truth(second_word(s, q) == top_word(s, q)),
+            operate::truth(deep_word(s, q, 2) == deep_word(s, q, 1)),
         ),
         Instruction::NotEqual => data::given(
             q,
             next,
             2,
-            operate::truth(second_word(s, q) != top_word(s, q)),
+            operate::truth(deep_word(s, q, 2) != deep_word(s, q, 1)),
         ),
         Instruction::CompareSigned(order) => {
             data::given(
@@ -236,8 +230,8 @@ pub fn given_effect(q: Registers, m: &[u32], s: &[u32], next: u32, i: Instructio
                 2,
                 operate::truth(operate::compare::signed_test(
                     order,
-                    second_word(s, q),
-                    top_word(s, q),
+                    deep_word(s, q, 2),
+                    deep_word(s, q, 1),
                 )),
             )
         }
@@ -248,8 +242,8 @@ pub fn given_effect(q: Registers, m: &[u32], s: &[u32], next: u32, i: Instructio
                 2,
                 operate::truth(operate::compare::unsigned_test(
                     order,
-                    second_word(s, q),
-                    top_word(s, q),
+                    deep_word(s, q, 2),
+                    deep_word(s, q, 1),
                 )),
             )
         }
@@ -257,9 +251,9 @@ pub fn given_effect(q: Registers, m: &[u32], s: &[u32], next: u32, i: Instructio
             q,
             next,
             2,
-            operate::sets::set_word(op, second_word(s, q), top_word(s, q)),
+            operate::sets::set_word(op, deep_word(s, q, 2), deep_word(s, q, 1)),
         ),
-        Instruction::Not => data::inverted(q, next, top_word(s, q)),
+        Instruction::Not => data::inverted(q, next, deep_word(s, q, 1)),
         _ => Effect::Finish,
     }
 }
@@ -273,22 +267,27 @@ pub fn gone_effect(q: Registers, s: &[u32], next: u32, i: Instruction) -> Effect
         Instruction::Pop(n) => control::jump_to(q, n, next),
         Instruction::Nop => control::jump_to(q, 0, next),
         Instruction::Jump(distance) => control::jumps(q, distance),
-        Instruction::JumpC(distance) => control::jumps_if_false(q, next, distance, top_word(s, q)),
+        Instruction::JumpC(distance) => control::jumps_if_false(
+            q,
+            next,
+            distance,
+            deep_word(s, q, 1),
+        ),
         Instruction::JumpT(distance) => control::jumps_keeping(
             q,
             next,
             1,
             distance,
-            top_word(s, q),
+            deep_word(s, q, 1),
         ),
         Instruction::JumpF(distance) => control::jumps_keeping(
             q,
             next,
             0,
             distance,
-            top_word(s, q),
+            deep_word(s, q, 1),
         ),
-        Instruction::Leave => control::jump_to(q, 1, top_word(s, q)),
+        Instruction::Leave => control::jump_to(q, 1, deep_word(s, q, 1)),
         _ => Effect::Finish,
     }
 }
@@ -338,12 +337,12 @@ pub fn other_effect(
     ensures { λ e. ⌜ e ≡ execute (program (now (code .entry)) areas) q (now (m .entry)) next (topWords (needed i) (q .height) (now (s .entry))) i ⌝ }
 {
     match i {
-        Instruction::Alloc => data::allocated(q, m, next, top_word(s, q)),
-        Instruction::Free => data::freed(q, next, top_word(s, q)),
+        Instruction::Alloc => data::allocated(q, m, next, deep_word(s, q, 1)),
+        Instruction::Free => data::freed(q, next, deep_word(s, q, 1)),
         Instruction::Iter(distance) => iter_effect(areas, q, m, s, next, distance),
         Instruction::Next => next_effect(areas, q, m, s, next),
-        Instruction::Switch(n) => control::switches(code, q, n, top_word(s, q)),
-        Instruction::SwitchX(n) => control::searches(code, q, n, top_word(s, q)),
+        Instruction::Switch(n) => control::switches(code, q, n, deep_word(s, q, 1)),
+        Instruction::SwitchX(n) => control::searches(code, q, n, deep_word(s, q, 1)),
         Instruction::Call(p) => control::calls(code, q, m, next, p),
         Instruction::Enter(parameters, words) => control::enters(q, m, next, parameters, words),
         Instruction::Rtn => control::returns(areas, q, m),

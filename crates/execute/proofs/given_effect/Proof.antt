@@ -17,61 +17,61 @@ returns c = λ P. rw (c .before .before .i .given .1, c .given .ensures)
 
 returns-2 : tie.Need-returns-2
 unfolding execute
-returns-2 c = λ P. rw (c .before .before .before .i2 .given .1, c .load-effect .ensures, c .before .top-word .ensures, base-found (c .before .before .before .before .before .before .before .args .q) (c .before .before .before .before .before .before .before .args .m .now) (c .before .before .before .before .before .before .before .args .s .now) _ (rw (c .before .before .before .i2 .given .1) at (c .before .before .before .before .before .before .before .pre .1)))
+returns-2 c = λ P. rw (c .before .before .before .i2 .given .1, c .load-effect .ensures, c .before .deep-word .ensures, base-found (c .before .before .before .before .before .before .before .args .q) (c .before .before .before .before .before .before .before .args .m .now) (c .before .before .before .before .before .before .before .args .s .now) _ (rw (c .before .before .before .i2 .given .1) at (c .before .before .before .before .before .before .before .pre .1)))
 
 returns-3 : tie.Need-returns-3
 unfolding execute
-returns-3 c = λ P. rw (c .before .before .before .i3 .given .1, c .address-effect .ensures, c .before .top-word2 .ensures, base-found (c .before .before .before .before .before .before .before .args .q) (c .before .before .before .before .before .before .before .args .m .now) (c .before .before .before .before .before .before .before .args .s .now) _ (rw (c .before .before .before .i3 .given .1) at (c .before .before .before .before .before .before .before .pre .1)))
+returns-3 c = λ P. rw (c .before .before .before .i3 .given .1, c .address-effect .ensures, c .before .deep-word2 .ensures, base-found (c .before .before .before .before .before .before .before .args .q) (c .before .before .before .before .before .before .before .args .m .now) (c .before .before .before .before .before .before .before .args .s .now) _ (rw (c .before .before .before .i3 .given .1) at (c .before .before .before .before .before .before .before .pre .1)))
 
 returns-4 : tie.Need-returns-4
 unfolding execute
 returns-4 c = let l : 2 ≤ c .before .before .before .before .before .before .before .args .q .height = rw (c .before .before .before .enum-told .given .1) at (c .before .before .before .before .before .before .before .pre .1) in
-    λ P. rw (c .before .before .before .enum-told .given .1, c .moved .ensures, c .before .second-word .ensures, c .before .before .top-word3 .ensures, found (c .before .before .before .before .before .before .before .args .s .now) (c .before .before .before .before .before .before .before .args .q .height) 2 0 l (omega arith), found (c .before .before .before .before .before .before .before .args .s .now) (c .before .before .before .before .before .before .before .args .q .height) 2 1 l (omega arith))
+    λ P. rw (c .before .before .before .enum-told .given .1, c .moved .ensures, c .before .deep-word4 .ensures, c .before .before .deep-word3 .ensures, found (c .before .before .before .before .before .before .before .args .s .now) (c .before .before .before .before .before .before .before .args .q .height) 2 0 l (omega arith), found (c .before .before .before .before .before .before .before .args .s .now) (c .before .before .before .before .before .before .before .args .q .height) 2 1 l (omega arith))
 
 returns-5 : tie.Need-returns-5
 unfolding execute
 returns-5 c = let l : 2 ≤ c .before .before .before .before .before .before .before .before .before .args .q .height = rw (c .before .before .before .before .before .i4 .given .1) at (c .before .before .before .before .before .before .before .before .before .pre .1) in
-    λ P. rw (c .before .before .before .before .before .i4 .given .1, c .valued .ensures, c .before .signed-value .ensures, c .before .before .before .second-word2 .ensures, c .before .before .top-word4 .ensures, found (c .before .before .before .before .before .before .before .before .before .args .s .now) (c .before .before .before .before .before .before .before .before .before .args .q .height) 2 0 l (omega arith), found (c .before .before .before .before .before .before .before .before .before .args .s .now) (c .before .before .before .before .before .before .before .before .before .args .q .height) 2 1 l (omega arith))
+    λ P. rw (c .before .before .before .before .before .i4 .given .1, c .valued .ensures, c .before .signed-value .ensures, c .before .before .before .deep-word5 .ensures, c .before .before .deep-word6 .ensures, found (c .before .before .before .before .before .before .before .before .before .args .s .now) (c .before .before .before .before .before .before .before .before .before .args .q .height) 2 0 l (omega arith), found (c .before .before .before .before .before .before .before .before .before .args .s .now) (c .before .before .before .before .before .before .before .before .before .args .q .height) 2 1 l (omega arith))
 
 returns-6 : tie.Need-returns-6
 unfolding execute
 returns-6 c = let l : 2 ≤ c .before .before .before .before .before .before .before .before .before .args .q .height = rw (c .before .before .before .before .before .i5 .given .1) at (c .before .before .before .before .before .before .before .before .before .pre .1) in
-    λ P. rw (c .before .before .before .before .before .i5 .given .1, c .valued2 .ensures, c .before .unsigned-value .ensures, c .before .before .before .second-word3 .ensures, c .before .before .top-word5 .ensures, found (c .before .before .before .before .before .before .before .before .before .args .s .now) (c .before .before .before .before .before .before .before .before .before .args .q .height) 2 0 l (omega arith), found (c .before .before .before .before .before .before .before .before .before .args .s .now) (c .before .before .before .before .before .before .before .before .before .args .q .height) 2 1 l (omega arith))
+    λ P. rw (c .before .before .before .before .before .i5 .given .1, c .valued2 .ensures, c .before .unsigned-value .ensures, c .before .before .before .deep-word7 .ensures, c .before .before .deep-word8 .ensures, found (c .before .before .before .before .before .before .before .before .before .args .s .now) (c .before .before .before .before .before .before .before .before .before .args .q .height) 2 0 l (omega arith), found (c .before .before .before .before .before .before .before .before .before .args .s .now) (c .before .before .before .before .before .before .before .before .before .args .q .height) 2 1 l (omega arith))
 
 returns-7 : tie.Need-returns-7
 unfolding execute
 returns-7 c = let l : 1 ≤ c .before .before .before .before .before .before .before .args .q .height = rw (c .before .before .before .enum-told2 .given .1) at (c .before .before .before .before .before .before .before .pre .1) in
-    λ P. rw (c .before .before .before .enum-told2 .given .1, c .valued3 .ensures, c .before .negated-value .ensures, c .before .before .top-word6 .ensures, found (c .before .before .before .before .before .before .before .args .s .now) (c .before .before .before .before .before .before .before .args .q .height) 1 0 l (omega arith))
+    λ P. rw (c .before .before .before .enum-told2 .given .1, c .valued3 .ensures, c .before .negated-value .ensures, c .before .before .deep-word9 .ensures, found (c .before .before .before .before .before .before .before .args .s .now) (c .before .before .before .before .before .before .before .args .q .height) 1 0 l (omega arith))
 
 returns-8 : tie.Need-returns-8
 unfolding execute
 returns-8 c = let l : 2 ≤ c .before .before .before .before .before .before .before .before .args .q .height = rw (c .before .before .before .before .enum-told3 .given .1) at (c .before .before .before .before .before .before .before .before .pre .1) in
-    λ P. rw (c .before .before .before .before .enum-told3 .given .1, c .given2 .ensures, c .before .truth .ensures, c .before .before .before .second-word4 .ensures, c .before .before .top-word7 .ensures, found (c .before .before .before .before .before .before .before .before .args .s .now) (c .before .before .before .before .before .before .before .before .args .q .height) 2 0 l (omega arith), found (c .before .before .before .before .before .before .before .before .args .s .now) (c .before .before .before .before .before .before .before .before .args .q .height) 2 1 l (omega arith))
+    λ P. rw (c .before .before .before .before .enum-told3 .given .1, c .given2 .ensures, c .before .truth .ensures, c .before .before .before .deep-word10 .ensures, c .before .before .deep-word11 .ensures, found (c .before .before .before .before .before .before .before .before .args .s .now) (c .before .before .before .before .before .before .before .before .args .q .height) 2 0 l (omega arith), found (c .before .before .before .before .before .before .before .before .args .s .now) (c .before .before .before .before .before .before .before .before .args .q .height) 2 1 l (omega arith))
 
 returns-9 : tie.Need-returns-9
 unfolding execute
 returns-9 c = let l : 2 ≤ c .before .before .before .before .before .before .before .before .args .q .height = rw (c .before .before .before .before .enum-told4 .given .1) at (c .before .before .before .before .before .before .before .before .pre .1) in
-    λ P. rw (c .before .before .before .before .enum-told4 .given .1, c .given3 .ensures, c .before .truth2 .ensures, c .before .before .before .second-word5 .ensures, c .before .before .top-word8 .ensures, found (c .before .before .before .before .before .before .before .before .args .s .now) (c .before .before .before .before .before .before .before .before .args .q .height) 2 0 l (omega arith), found (c .before .before .before .before .before .before .before .before .args .s .now) (c .before .before .before .before .before .before .before .before .args .q .height) 2 1 l (omega arith))
+    λ P. rw (c .before .before .before .before .enum-told4 .given .1, c .given3 .ensures, c .before .truth2 .ensures, c .before .before .before .deep-word12 .ensures, c .before .before .deep-word13 .ensures, found (c .before .before .before .before .before .before .before .before .args .s .now) (c .before .before .before .before .before .before .before .before .args .q .height) 2 0 l (omega arith), found (c .before .before .before .before .before .before .before .before .args .s .now) (c .before .before .before .before .before .before .before .before .args .q .height) 2 1 l (omega arith))
 
 returns-10 : tie.Need-returns-10
 unfolding execute
 returns-10 c = let l : 2 ≤ c .before .before .before .before .before .before .before .before .before .before .args .q .height = rw (c .before .before .before .before .before .before .i6 .given .1) at (c .before .before .before .before .before .before .before .before .before .before .pre .1) in
-    λ P. rw (c .before .before .before .before .before .before .i6 .given .1, c .given4 .ensures, c .before .truth3 .ensures, c .before .before .signed-test .ensures, c .before .before .before .before .second-word6 .ensures, c .before .before .before .top-word9 .ensures, found (c .before .before .before .before .before .before .before .before .before .before .args .s .now) (c .before .before .before .before .before .before .before .before .before .before .args .q .height) 2 0 l (omega arith), found (c .before .before .before .before .before .before .before .before .before .before .args .s .now) (c .before .before .before .before .before .before .before .before .before .before .args .q .height) 2 1 l (omega arith))
+    λ P. rw (c .before .before .before .before .before .before .i6 .given .1, c .given4 .ensures, c .before .truth3 .ensures, c .before .before .signed-test .ensures, c .before .before .before .before .deep-word14 .ensures, c .before .before .before .deep-word15 .ensures, found (c .before .before .before .before .before .before .before .before .before .before .args .s .now) (c .before .before .before .before .before .before .before .before .before .before .args .q .height) 2 0 l (omega arith), found (c .before .before .before .before .before .before .before .before .before .before .args .s .now) (c .before .before .before .before .before .before .before .before .before .before .args .q .height) 2 1 l (omega arith))
 
 returns-11 : tie.Need-returns-11
 unfolding execute
 returns-11 c = let l : 2 ≤ c .before .before .before .before .before .before .before .before .before .before .args .q .height = rw (c .before .before .before .before .before .before .i7 .given .1) at (c .before .before .before .before .before .before .before .before .before .before .pre .1) in
-    λ P. rw (c .before .before .before .before .before .before .i7 .given .1, c .given5 .ensures, c .before .truth4 .ensures, c .before .before .unsigned-test .ensures, c .before .before .before .before .second-word7 .ensures, c .before .before .before .top-word10 .ensures, found (c .before .before .before .before .before .before .before .before .before .before .args .s .now) (c .before .before .before .before .before .before .before .before .before .before .args .q .height) 2 0 l (omega arith), found (c .before .before .before .before .before .before .before .before .before .before .args .s .now) (c .before .before .before .before .before .before .before .before .before .before .args .q .height) 2 1 l (omega arith))
+    λ P. rw (c .before .before .before .before .before .before .i7 .given .1, c .given5 .ensures, c .before .truth4 .ensures, c .before .before .unsigned-test .ensures, c .before .before .before .before .deep-word16 .ensures, c .before .before .before .deep-word17 .ensures, found (c .before .before .before .before .before .before .before .before .before .before .args .s .now) (c .before .before .before .before .before .before .before .before .before .before .args .q .height) 2 0 l (omega arith), found (c .before .before .before .before .before .before .before .before .before .before .args .s .now) (c .before .before .before .before .before .before .before .before .before .before .args .q .height) 2 1 l (omega arith))
 
 returns-12 : tie.Need-returns-12
 unfolding execute
 returns-12 c = let l : 2 ≤ c .before .before .before .before .before .before .before .before .before .args .q .height = rw (c .before .before .before .before .before .i8 .given .1) at (c .before .before .before .before .before .before .before .before .before .pre .1) in
-    λ P. rw (c .before .before .before .before .before .i8 .given .1, c .given6 .ensures, c .before .set-word .ensures, c .before .before .before .second-word8 .ensures, c .before .before .top-word11 .ensures, found (c .before .before .before .before .before .before .before .before .before .args .s .now) (c .before .before .before .before .before .before .before .before .before .args .q .height) 2 0 l (omega arith), found (c .before .before .before .before .before .before .before .before .before .args .s .now) (c .before .before .before .before .before .before .before .before .before .args .q .height) 2 1 l (omega arith))
+    λ P. rw (c .before .before .before .before .before .i8 .given .1, c .given6 .ensures, c .before .set-word .ensures, c .before .before .before .deep-word18 .ensures, c .before .before .deep-word19 .ensures, found (c .before .before .before .before .before .before .before .before .before .args .s .now) (c .before .before .before .before .before .before .before .before .before .args .q .height) 2 0 l (omega arith), found (c .before .before .before .before .before .before .before .before .before .args .s .now) (c .before .before .before .before .before .before .before .before .before .args .q .height) 2 1 l (omega arith))
 
 returns-13 : tie.Need-returns-13
 unfolding execute
 returns-13 c = let l : 1 ≤ c .before .before .before .before .before .before .args .q .height = rw (c .before .before .enum-told5 .given .1) at (c .before .before .before .before .before .before .pre .1) in
-    λ P. rw (c .before .before .enum-told5 .given .1, c .inverted .ensures, c .before .top-word12 .ensures, found (c .before .before .before .before .before .before .args .s .now) (c .before .before .before .before .before .before .args .q .height) 1 0 l (omega arith))
+    λ P. rw (c .before .before .enum-told5 .given .1, c .inverted .ensures, c .before .deep-word20 .ensures, found (c .before .before .before .before .before .before .args .s .now) (c .before .before .before .before .before .before .args .q .height) 1 0 l (omega arith))
 
 returns-14 : tie.Need-returns-14
 returns-14 c = absurd (told Gives (3 ∷ 4 ∷ 6 ∷ 16 ∷ 17 ∷ 18 ∷ 19 ∷ 20 ∷ 21 ∷ 22 ∷ 23 ∷ 24 ∷ 25 ∷ 26 ∷ 27 ∷ 28 ∷ 29 ∷ []) refl (c .before .before .before .args .i) (c .match .keys14) (c .before .before .before .pre .0))

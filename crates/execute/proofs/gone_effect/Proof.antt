@@ -26,22 +26,22 @@ returns-3 c = λ P. λ m. rw (c .before .before .i2 .given .1, c .jumps .ensures
 returns-4 : tie.Need-returns-4
 unfolding execute
 returns-4 c = let l : 1 ≤ c .before .before .before .before .before .before .args .q .height = rw (c .before .before .before .i3 .given .1) at (c .before .before .before .before .before .before .pre .1) in
-    λ P. λ m. rw (c .before .before .before .i3 .given .1, c .jumps-if-false .ensures, c .before .top-word .ensures, found (c .before .before .before .before .before .before .args .s .now) (c .before .before .before .before .before .before .args .q .height) 1 0 l (omega arith))
+    λ P. λ m. rw (c .before .before .before .i3 .given .1, c .jumps-if-false .ensures, c .before .deep-word .ensures, found (c .before .before .before .before .before .before .args .s .now) (c .before .before .before .before .before .before .args .q .height) 1 0 l (omega arith))
 
 returns-5 : tie.Need-returns-5
 unfolding execute
 returns-5 c = let l : 1 ≤ c .before .before .before .before .before .before .args .q .height = rw (c .before .before .before .i4 .given .1) at (c .before .before .before .before .before .before .pre .1) in
-    λ P. λ m. rw (c .before .before .before .i4 .given .1, c .jumps-keeping .ensures, c .before .top-word2 .ensures, found (c .before .before .before .before .before .before .args .s .now) (c .before .before .before .before .before .before .args .q .height) 1 0 l (omega arith))
+    λ P. λ m. rw (c .before .before .before .i4 .given .1, c .jumps-keeping .ensures, c .before .deep-word2 .ensures, found (c .before .before .before .before .before .before .args .s .now) (c .before .before .before .before .before .before .args .q .height) 1 0 l (omega arith))
 
 returns-6 : tie.Need-returns-6
 unfolding execute
 returns-6 c = let l : 1 ≤ c .before .before .before .before .before .before .args .q .height = rw (c .before .before .before .i5 .given .1) at (c .before .before .before .before .before .before .pre .1) in
-    λ P. λ m. rw (c .before .before .before .i5 .given .1, c .jumps-keeping2 .ensures, c .before .top-word3 .ensures, found (c .before .before .before .before .before .before .args .s .now) (c .before .before .before .before .before .before .args .q .height) 1 0 l (omega arith))
+    λ P. λ m. rw (c .before .before .before .i5 .given .1, c .jumps-keeping2 .ensures, c .before .deep-word3 .ensures, found (c .before .before .before .before .before .before .args .s .now) (c .before .before .before .before .before .before .args .q .height) 1 0 l (omega arith))
 
 returns-7 : tie.Need-returns-7
 unfolding execute
 returns-7 c = let l : 1 ≤ c .before .before .before .before .before .args .q .height = rw (c .before .before .enum-told2 .given .1) at (c .before .before .before .before .before .pre .1) in
-    λ P. λ m. rw (c .before .before .enum-told2 .given .1, c .jump-to3 .ensures, c .before .top-word4 .ensures, found (c .before .before .before .before .before .args .s .now) (c .before .before .before .before .before .args .q .height) 1 0 l (omega arith))
+    λ P. λ m. rw (c .before .before .enum-told2 .given .1, c .jump-to3 .ensures, c .before .deep-word4 .ensures, found (c .before .before .before .before .before .args .s .now) (c .before .before .before .before .before .args .q .height) 1 0 l (omega arith))
 
 returns-8 : tie.Need-returns-8
 returns-8 c = absurd (told Goes (0 ∷ 1 ∷ 2 ∷ 3 ∷ 5 ∷ 7 ∷ 8 ∷ 9 ∷ 10 ∷ 11 ∷ 12 ∷ 13 ∷ 14 ∷ 15 ∷ 16 ∷ 17 ∷ 22 ∷ 23 ∷ 24 ∷ 25 ∷ 27 ∷ 28 ∷ 29 ∷ []) refl (c .before .before .args .i) (c .match .keys8) (c .before .before .pre .0))

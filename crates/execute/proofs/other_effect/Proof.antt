@@ -15,12 +15,12 @@ use Rattle.execute.proofs.other_effect.Tie as tie
 returns : tie.Need-returns
 unfolding execute
 returns c = let l : 1 ≤ c .before .before .before .before .before .before .before .args .q .height = rw (c .before .before .enum-told .given .1) at (c .before .before .before .before .before .before .before .pre .1 .1 .1 .1) in
-    rw (c .before .before .enum-told .given .1, c .allocated .ensures, c .before .top-word .ensures, found (c .before .before .before .before .before .before .before .args .s .now) (c .before .before .before .before .before .before .before .args .q .height) 1 0 l (omega arith))
+    rw (c .before .before .enum-told .given .1, c .allocated .ensures, c .before .deep-word .ensures, found (c .before .before .before .before .before .before .before .args .s .now) (c .before .before .before .before .before .before .before .args .q .height) 1 0 l (omega arith))
 
 returns-2 : tie.Need-returns-2
 unfolding execute
 returns-2 c = let l : 1 ≤ c .before .before .before .before .before .before .before .args .q .height = rw (c .before .before .enum-told2 .given .1) at (c .before .before .before .before .before .before .before .pre .1 .1 .1 .1) in
-    rw (c .before .before .enum-told2 .given .1, c .freed .ensures, c .before .top-word2 .ensures, found (c .before .before .before .before .before .before .before .args .s .now) (c .before .before .before .before .before .before .before .args .q .height) 1 0 l (omega arith))
+    rw (c .before .before .enum-told2 .given .1, c .freed .ensures, c .before .deep-word2 .ensures, found (c .before .before .before .before .before .before .before .args .s .now) (c .before .before .before .before .before .before .before .args .q .height) 1 0 l (omega arith))
 
 returns-3 : tie.Need-returns-3
 returns-3 c = rw (c .before .before .i .given .1, c .iter-effect .ensures) (sym (iter-found (program (c .before .before .before .before .before .before .before .args .code .now) (c .before .before .before .before .before .before .before .args .areas)) (c .before .before .before .before .before .before .before .args .q) (c .before .before .before .before .before .before .before .args .m .now) (c .before .before .before .before .before .before .before .args .s .now) (c .before .before .before .before .before .before .before .args .next) _ (rw (c .before .before .i .given .1) at (c .before .before .before .before .before .before .before .pre .1 .1 .1 .1))))
@@ -31,12 +31,12 @@ returns-4 c = rw (c .before .enum-told3 .given .1, c .next-effect .ensures) (sym
 returns-5 : tie.Need-returns-5
 unfolding execute
 returns-5 c = let l : 1 ≤ c .before .before .before .before .before .before .before .before .args .q .height = rw (c .before .before .before .i2 .given .1) at (c .before .before .before .before .before .before .before .before .pre .1 .1 .1 .1) in
-    rw (c .before .before .before .i2 .given .1, c .switches .ensures, c .before .top-word3 .ensures, found (c .before .before .before .before .before .before .before .before .args .s .now) (c .before .before .before .before .before .before .before .before .args .q .height) 1 0 l (omega arith))
+    rw (c .before .before .before .i2 .given .1, c .switches .ensures, c .before .deep-word3 .ensures, found (c .before .before .before .before .before .before .before .before .args .s .now) (c .before .before .before .before .before .before .before .before .args .q .height) 1 0 l (omega arith))
 
 returns-6 : tie.Need-returns-6
 unfolding execute
 returns-6 c = let l : 1 ≤ c .before .before .before .before .before .before .before .before .args .q .height = rw (c .before .before .before .i3 .given .1) at (c .before .before .before .before .before .before .before .before .pre .1 .1 .1 .1) in
-    rw (c .before .before .before .i3 .given .1, c .searches .ensures, c .before .top-word4 .ensures, found (c .before .before .before .before .before .before .before .before .args .s .now) (c .before .before .before .before .before .before .before .before .args .q .height) 1 0 l (omega arith))
+    rw (c .before .before .before .i3 .given .1, c .searches .ensures, c .before .deep-word4 .ensures, found (c .before .before .before .before .before .before .before .before .args .s .now) (c .before .before .before .before .before .before .before .before .args .q .height) 1 0 l (omega arith))
 
 returns-7 : tie.Need-returns-7
 unfolding execute
