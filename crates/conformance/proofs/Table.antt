@@ -32,6 +32,6 @@ use Rattle.machine.specs.Run.{runNumber, runOf}
 use Rattle.step.specs.Step.{settled, performed, stepOf}
 use Rattle.conformance.specs.Cases.{recordFor, checked, played, table, Stands}
 
-pub stands : Stands table
+pub stands : Stands
 unfolding halfwordAt wordAt entryAt entryCount countSound entriesInOrder entriesSound regionEnd headerOf sizesFit codeAt constantsAt relocationAt versionsAt sourcesAt recordLength codeOf recordNumber readingOf lineOf sourceOffsets sourceSound lineAt issueAt versionSound instructionAt decodeIn decodeAt lengthIn lengthAt extended exitDistance elseDistance branchDistance rangeDistance rangeHolds searchDistance rowOf modZ signedValue unsignedValue negatedValue setWord signedWord unsignedWord loadFrom addressOf storeTo inverted allocated freed live protects jumps jumpsIfFalse jumpsKeeping iterates nextSum repeats switches searches calls enters returns execute sizesTaken headerKept registersFit fits constantWords initialData loadedMemory startOf loadNumber loadOf runNumber runOf settled performed stepOf recordFor played table shapeOf cutOf selectTargets strays misplaced uncallable anywhere codeNumber ways waysAt visited walkOf resultsSound listNumber verdictOf checkOf checked
 stands = (refl, refl)

@@ -88,6 +88,7 @@ table =
     ∷ []
 
 -- Each case of the table has the number and the outcome that stand beside it.
-abbrev pub Stands : List Row → Type 0
-Stands rows =
-    (map (λ r. checked (r .given)) rows ≡ map (λ r. r .number) rows) × (map (λ r. played (r .given)) rows ≡ map (λ r. r .outcome) rows)
+abbrev pub Stands : Type 0
+Stands =
+    (map (λ r. checked (r .given)) table ≡ map (λ r. r .number) table)
+    × (map (λ r. played (r .given)) table ≡ map (λ r. r .outcome) table)

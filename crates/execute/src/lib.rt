@@ -306,16 +306,9 @@ pub fn stored_effect(
     ensures { λ e. ⌜ ((code : List ℕ) → e ≡ execute (program code areas) q (now (m .entry)) next (topWords (needed i) (q .height) (now (s .entry))) i) ⌝ }
 {
     match i {
-        Instruction::Store(base, mode, offset) => store_effect(
-            areas,
-            q,
-            m,
-            s,
-            next,
-            base,
-            mode,
-            offset,
-        ),
+        Instruction::Store(base, mode, offset) => {
+            store_effect(areas, q, m, s, next, base, mode, offset)
+        }
         _ => Effect::Finish,
     }
 }

@@ -41,9 +41,8 @@ impl Registers {
     pub fn sized(mut self, place: u32, mp: u32) -> Registers
         ensures { λ q. ⌜ q ≡ sized self place mp ⌝ }
     {
-        self.pc = place;
         self.mp = mp;
-        self
+        self.moved(place)
     }
 
     pub fn raised(mut self, height: u32) -> Registers

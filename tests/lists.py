@@ -1,0 +1,120 @@
+#!/usr/bin/env python3
+"""lists.py: lists that stand in two places say the same. Prints what differs, and exits with 1 where anything does.
+
+  docs/OPCODES.md         what the program opcode_table prints, from the proved decoder
+  docs/NUMBERS.md         the messages of the console and of the listing
+  docs/ARCHITECTURE.md    the crates of crates.txt, in its order and layers
+  crates.txt              the crates that each crate's files name
+"""
+
+import re
+import sys
+from pathlib import Path
+
+ROOT = Path(__file__).resolve().parent.parent
+KIT = {"std", "check", "io", "libc", "os", "bytes"}
+
+
+def text(name):
+    return (ROOT / name).read_text()
+
+
+def rows(name, heading=None):
+    """The rows of the tables of a document, or of one chapter of it, as lists of cells."""
+    body = text(name)
+    if heading:
+        body = body.split(f"\n## {heading}\n", 1)[1].split("\n## ", 1)[0]
+    found = [[cell.strip() for cell in line.strip().strip("|").split("|")] for line in body.splitlines() if line.startswith("|")]
+    return [row for at, row in enumerate(found) if set(row[0]) != {"-"} and (at + 1 == len(found) or set(found[at + 1][0]) != {"-"})]
+
+
+def differences(what, one, other):
+    """Says where two lists differ, each a name for its place."""
+    for key in sorted({*one, *other}):
+        if one.get(key) != other.get(key):
+            yield f"{what}: {key}: {one.get(key, 'missing')} / {other.get(key, 'missing')}"
+
+
+def opcodes():
+    """Code, mnemonic, length and modes."""
+    written = {}
+    for code, mnemonic, _, length, modes, *_ in rows("docs/OPCODES.md"):
+        written[code.lower()] = f"{mnemonic} {length} {modes.strip('-')}".strip() if modes else "-"
+    printed = dict(line.split(" ", 1) for line in text("crates/opcode_table/stdout").splitlines())
+    yield from differences("docs/OPCODES.md / opcode_table", written, printed)
+
+
+def console_messages():
+    return {int(number): words for number, words in re.findall(r'\[(\d+)\] = "(.*)",', text("console/messages.c"))}
+
+
+def listing_messages():
+    found = re.findall(r'(\d+) => \{?\s*"((?:[^"\\]|\\\s*)*)"', text("tools/src/meaning.rs"))
+    return {int(number): re.sub(r"\\\s*", "", words) for number, words in found}
+
+
+def numbers():
+    """A message is a row of its number; the console has one for every number."""
+    meanings = {}
+    for number, meaning, *_ in rows("docs/NUMBERS.md"):
+        meanings.setdefault(int(number), []).append(meaning)
+    for name, messages in (("console", console_messages()), ("listing", listing_messages())):
+        if not messages:
+            yield f"docs/NUMBERS.md: no message of the {name} was found"
+        for number, words in messages.items():
+            if words not in meanings.get(number, []):
+                yield f"docs/NUMBERS.md: {number}: the {name} says: {words}"
+    for number in sorted({*meanings} - {*console_messages()}):
+        yield f"docs/NUMBERS.md: {number}: the console has no message"
+
+
+def listed():
+    """The crates of crates.txt with their layers, and what each depends on."""
+    layers, depends, layer = {}, {}, ""
+    for line in text("crates.txt").splitlines():
+        if line.startswith("# ") and line.endswith("."):
+            continue
+        if line.startswith("# "):
+            layer = line[2:].split(":")[0]
+        elif line.strip():
+            name, _, others = line.partition(":")
+            layers[name], depends[name] = layer, others.split()
+    return layers, depends
+
+
+def architecture():
+    layers, _ = listed()
+    named = {row[0].strip("`"): row[1] for row in rows("docs/ARCHITECTURE.md", "The crates")}
+    yield from differences("docs/ARCHITECTURE.md / crates.txt", named, layers)
+    if not named.keys() ^ layers.keys() and list(named) != list(layers):
+        yield "docs/ARCHITECTURE.md / crates.txt: the crates stand in another order"
+
+
+def names_in(crate, others):
+    """The crates that the files of a crate name."""
+    found = set()
+    for path in (ROOT / "crates" / crate).rglob("*"):
+        if path.suffix == ".antt":
+            found |= set(re.findall(r"Rattle·(\w+)\.", path.read_text()))
+        elif path.suffix == ".rt":
+            code = re.sub(r"//.*", "", path.read_text())
+            found |= set(re.findall(r"Rattle·(\w+)\.", code)) | {name for name in re.findall(r"(?<![:\w])(\w+)::", code) if name in others | KIT}
+    return found - {crate, "std"}
+
+
+def dependencies():
+    _, depends = listed()
+    for crate, others in depends.items():
+        named = names_in(crate, set(depends))
+        for name in sorted(named ^ set(others)):
+            yield f"crates.txt: {crate}: {name} is {'named, not listed' if name in named else 'listed, not named'}"
+
+
+def main():
+    faults = [fault for check in (opcodes, numbers, architecture, dependencies) for fault in check()]
+    print(*faults, sep="\n", end="\n" if faults else "")
+    return 1 if faults else 0
+
+
+if __name__ == "__main__":
+    sys.exit(main())
