@@ -3,8 +3,8 @@ use mathlib.Core.Path.{refl}
 use Rattle.words.specs.Bytes.{halfwordAt, wordAt}
 use Rattle.entries.specs.Entries.{entryAt, entryCount, countSound, entriesInOrder, entriesSound, regionEnd}
 use Rattle.header.specs.Header.{headerOf, sizesFit, codeAt, constantsAt, relocationAt, versionsAt, sourcesAt, recordLength, codeOf}
-use Rattle.record.specs.Number.{recordNumber, readingOf, lineOf}
-use Rattle.source.specs.Source.{sourceOffsets, sourceSound, lineAt}
+use Rattle.record.specs.Number.{recordNumber, readingOf}
+use Rattle.source.specs.Source.{sourceOffsets, sourceSound}
 use Rattle.version.specs.Version.{issueAt, versionSound}
 use Rattle.opcode.specs.Decode.{instructionAt, decodeIn, decodeAt}
 use Rattle.opcode.specs.Length.{lengthIn, lengthAt}
@@ -33,5 +33,5 @@ use Rattle.step.specs.Step.{settled, performed, stepOf}
 use Rattle.conformance.specs.Cases.{recordFor, checked, played, table, Stands}
 
 pub stands : Stands
-unfolding halfwordAt wordAt entryAt entryCount countSound entriesInOrder entriesSound regionEnd headerOf sizesFit codeAt constantsAt relocationAt versionsAt sourcesAt recordLength codeOf recordNumber readingOf lineOf sourceOffsets sourceSound lineAt issueAt versionSound instructionAt decodeIn decodeAt lengthIn lengthAt extended exitDistance elseDistance branchDistance rangeDistance rangeHolds searchDistance rowOf modZ signedValue unsignedValue negatedValue setWord signedWord unsignedWord loadFrom addressOf storeTo inverted allocated freed live protects jumps jumpsIfFalse jumpsKeeping iterates nextSum repeats switches searches calls enters returns execute sizesTaken headerKept registersFit fits constantWords initialData loadedMemory startOf loadNumber loadOf runNumber runOf settled performed stepOf recordFor played table shapeOf cutOf selectTargets strays misplaced uncallable anywhere codeNumber ways waysAt visited walkOf resultsSound listNumber verdictOf checkOf checked
+unfolding halfwordAt wordAt entryAt entryCount countSound entriesInOrder entriesSound regionEnd headerOf sizesFit codeAt constantsAt relocationAt versionsAt sourcesAt recordLength codeOf recordNumber readingOf sourceOffsets sourceSound issueAt versionSound instructionAt decodeIn decodeAt lengthIn lengthAt extended exitDistance elseDistance branchDistance rangeDistance rangeHolds searchDistance rowOf modZ signedValue unsignedValue negatedValue setWord signedWord unsignedWord loadFrom addressOf storeTo inverted allocated freed live protects jumps jumpsIfFalse jumpsKeeping iterates nextSum repeats switches searches calls enters returns execute sizesTaken headerKept registersFit fits constantWords initialData loadedMemory startOf loadNumber loadOf runNumber runOf settled performed stepOf recordFor played table shapeOf cutOf selectTargets strays misplaced uncallable anywhere codeNumber ways waysAt visited walkOf resultsSound listNumber verdictOf checkOf checked
 stands = (refl, refl)

@@ -1,9 +1,11 @@
 -- Answers as numbers, for C.
 use mathlib.Core.Bool.{cond}
-use mathlib.Core.List.{List, [], _∷_}
+use mathlib.Core.List.{List, [], _∷_, _++_}
 use Prim.Native.Nat.{ℕ, _*_, _-_}
-use lib.Dec.{eqb}
-use lib.ListN.{length}
+use lib.Dec.{eqb, ltb}
+use lib.ListN.{length, drop}
+use Rattle.source.specs.declared.Lookup.{Lookup}
+use Rattle.source.specs.Span.{lookupLine, lookupValues}
 use Rattle.record.specs.declared.Line.{Line}
 use Rattle.record.specs.declared.Line.the-variants.{Refused}
 use Rattle.record.specs.declared.Line.the-variants as line
@@ -16,7 +18,16 @@ use Rattle.mnemonic.specs.Mnemonic.{partsOf}
 -- The number that refuses the record in the upper 32 bits; or 0 there, and the line in the lower ones.
 abbrev pub lineCode : Line → ℕ
 lineCode (Refused n) = n * 0x1_0000_0000
-lineCode (line.At n) = n
+lineCode (line.At a) = lookupLine a
+
+-- The values of a lookup in the first four words, which have to be there: else 8.
+unfoldable pub lookupReply : Lookup → List ℕ → Output
+lookupReply a out = cond (ltb (length out) 4) (output 8 out) (output 0 (lookupValues a ++ drop 4 out))
+
+-- The number that refuses the record; then 8, or 0 and the values.
+abbrev pub spanReply : Line → List ℕ → Output
+spanReply (Refused n) out = output n out
+spanReply (line.At a) out = lookupReply a out
 
 -- 10 for an unserved instruction, 11 for one that runs past the limit; or 0, and the number of its mnemonic, its mode, its operands,
 -- and its length in bytes, a prefix counted in.

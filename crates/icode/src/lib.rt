@@ -1,16 +1,21 @@
 // The C interface, as include/icode.h declares it.
+ghost use mathlib.Core.List.{_∷_};
 ghost use mathlib.Core.Path.{_≡_};
-ghost use Rattle.record.specs.Number.{recordNumber, lineOf};
+ghost use Prim.Native.Nat.{_≤_};
+ghost use lib.ListN.{length, drop};
+ghost use Rattle.record.specs.Number.{recordNumber, lineSpan};
+ghost use Rattle.source.specs.Span.{lookupLine};
 ghost use Rattle.opcode.specs.Decode.{decodeAt};
 ghost use Rattle.verifier.specs.Check.{checkOf};
 ghost use Rattle.workspace.specs.Checking.{checking};
 ghost use Rattle.report.specs.Report.{output, printed, textOf};
-ghost use Rattle.icode.specs.Interface.{lineCode, decodeReply};
+ghost use Rattle.icode.specs.Interface.{lineCode, lookupReply, spanReply, decodeReply};
 
 pub mod bench;
 
 use opcode::Decoded;
 use record::Line;
+use source::Lookup;
 
 #[no_mangle]
 pub extern "C" fn icode_record_number(bytes: &[u8]) -> u32
@@ -19,14 +24,58 @@ pub extern "C" fn icode_record_number(bytes: &[u8]) -> u32
     record::record_number(bytes)
 }
 
+// The line of a lookup, 0 outside the code.
+fn line_in(lookup: Lookup) -> u32
+    ensures { λ n. ⌜ n ≡ lookupLine lookup ⌝ }
+{
+    match lookup {
+        Lookup::Found(span) => span.line,
+        Lookup::Outside => 0,
+    }
+}
+
 #[no_mangle]
 pub extern "C" fn icode_line(bytes: &[u8], offset: u32) -> u64
-    ensures { λ n. ⌜ n ≡ lineCode (lineOf (now (bytes .entry)) offset) ⌝ }
+    ensures { λ n. ⌜ n ≡ lineCode (lineSpan (now (bytes .entry)) offset) ⌝ }
 {
-    let answer = record::line_of(bytes, offset);
+    let answer = record::line_span(bytes, offset);
     match answer {
         Line::Refused(number) => (number as u64) * 0x1_0000_0000,
-        Line::At(line) => line as u64,
+        Line::At(lookup) => line_in(lookup) as u64,
+    }
+}
+
+fn write_span(out: &mut [u32], outside: u32, first: u32, last: u32, line: u32)
+    requires { ⌜ 4 ≤ length (now out) ⌝ }
+    ensures { λ _. ⌜ now (out .exit) ≡ outside ∷ first ∷ last ∷ line ∷ drop 4 (now (out .entry)) ⌝ }
+{
+    out[0] = outside;
+    out[1] = first;
+    out[2] = last;
+    out[3] = line;
+}
+
+fn write_lookup(out: &mut [u32], lookup: Lookup) -> u32
+    ensures { λ n. ⌜ output n (now (out .exit)) ≡ lookupReply lookup (now (out .entry)) ⌝ }
+{
+    if out.len() < 4 {
+        return 8;
+    }
+    match lookup {
+        Lookup::Found(span) => write_span(out, 0, span.first, span.last, span.line),
+        Lookup::Outside => write_span(out, 1, 0, 0, 0),
+    }
+    0
+}
+
+#[no_mangle]
+pub extern "C" fn icode_line_span(bytes: &[u8], offset: u32, span: &mut [u32]) -> u32
+    ensures { λ n. ⌜ output n (now (span .exit)) ≡ spanReply (lineSpan (now (bytes .entry)) offset) (now (span .entry)) ⌝ }
+{
+    let answer = record::line_span(bytes, offset);
+    match answer {
+        Line::Refused(number) => number,
+        Line::At(lookup) => write_lookup(span, lookup),
     }
 }
 

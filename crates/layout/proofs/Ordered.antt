@@ -9,6 +9,7 @@ use borrow.Author.Tests.{ltb-true, leb-true, lt-ltb, le-ltb, ne-eqb}
 use lib.Dec.{eqb, ltb, leb}
 use lib.ListN.{length}
 use Rattle.words.specs.Order.{risingFrom}
+use Rattle.words.proofs.Order.{rising-first}
 use Rattle.entries.specs.Entries.{entryAt, entryCount, countSound, entriesFrom, entriesInOrder, entriesSound, regionEnd}
 use Rattle.layout.proofs.Updates.{at-or-after}
 
@@ -23,22 +24,16 @@ pub record Rises (code : List ℕ) (p n least : ℕ) : Type 0 where
   pub to : p + n ≡ entryCount code
   pub rising : risingFrom (length code) least (entriesFrom code p n ++ (entryAt code 0 ∷ [])) ≡ true
 
-first : (limit least x : ℕ) (rest : Bool) → (leb least x && (ltb x limit && rest)) ≡ true → (least ≤ x) × (x < limit) × (rest ≡ true)
-first limit least x rest e =
-    let a = and-eq-true-iff (leb least x) (ltb x limit && rest) .0 e in
-    let b = and-eq-true-iff (ltb x limit) rest .0 (a .1) in
-    (leb-true least x (a .0), ltb-true x limit (b .0), b .1)
-
 module _ (code : List ℕ) where
   pub rises-first : (p n least : ℕ) → Rises code p n least → (least ≤ firstOf code p n) × (firstOf code p n < length code)
-  rises-first p zero least r = let f = first (length code) least (entryAt code 0) true (r .rising) in (f .0, f .1)
-  rises-first p (suc n) least r = let f = first (length code) least (entryAt code p) _ (r .rising) in (f .0, f .1)
+  rises-first p zero least r = let f = rising-first (length code) least (entryAt code 0) true (r .rising) in (f .0, f .1)
+  rises-first p (suc n) least r = let f = rising-first (length code) least (entryAt code p) _ (r .rising) in (f .0, f .1)
 
   pub rises-rest : (p n least : ℕ) → Rises code p (suc n) least → Rises code (p + 1) n (entryAt code p + 1)
   rises-rest p n least r = record {
     from = omega (arith, r .from);
     to = omega (arith, r .to);
-    rising = first (length code) least (entryAt code p) _ (r .rising) .2;
+    rising = rising-first (length code) least (entryAt code p) _ (r .rising) .2;
   }
 
   -- A region ends where the next one begins.

@@ -7,7 +7,8 @@ use lib.ListN.{length}
 use Rattle.words.specs.Refusal.{Test, refusal, _when_}
 use Rattle.header.specs.Header.{headerOf, sizesFit, recordLength, codeOf}
 use Rattle.version.specs.Version.{versionSound}
-use Rattle.source.specs.Source.{sourceSound, lineAt}
+use Rattle.source.specs.Source.{sourceSound}
+use Rattle.source.specs.Span.{lookupAt, lookupValues}
 use Rattle.entries.specs.Entries.{entriesSound}
 use Rattle.record.specs.declared.Reading.{Reading}
 use Rattle.record.specs.declared.Reading.the-variants.{Refused, Sound}
@@ -43,7 +44,16 @@ abbrev pub readingNumber : Reading → ℕ
 readingNumber (Refused n) = n
 readingNumber (Sound h) = 0
 
--- 01: "the line lookup [makes tests] 1 to 7"; then the line.
-unfoldable pub lineOf : List ℕ → ℕ → Line
-lineOf r offset =
-    cond (eqb (recordNumber r) 0) (At (lineAt r (headerOf r) offset)) (NoLine (recordNumber r))
+-- 01: "the line lookup [makes tests] 1 to 7"; then the span of the line (02, K4).
+unfoldable pub lineSpan : List ℕ → ℕ → Line
+lineSpan r offset =
+    cond (eqb (recordNumber r) 0) (At (lookupAt r (headerOf r) offset)) (NoLine (recordNumber r))
+
+-- The number and the values of an answer; with a number there are no values.
+abbrev pub lineNumber : Line → ℕ
+lineNumber (NoLine n) = n
+lineNumber (At a) = 0
+
+abbrev pub lineValues : Line → List ℕ
+lineValues (NoLine n) = []
+lineValues (At a) = lookupValues a

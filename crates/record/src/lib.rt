@@ -1,7 +1,8 @@
 // The record of 5.1: which number refuses it, and which source line an offset belongs to.
 ghost use mathlib.Core.Path.{_≡_};
-ghost use Rattle.record.specs.Number.{recordNumber, readingOf, lineOf};
+ghost use Rattle.record.specs.Number.{recordNumber, readingOf, lineSpan};
 use header::Header;
+use source::Lookup;
 
 // What reading a record answers: the number that refuses it, or its header.
 pub enum Reading {
@@ -12,7 +13,7 @@ pub enum Reading {
 // What the line lookup answers.
 pub enum Line {
     Refused(u32),
-    At(u32),
+    At(Lookup),
 }
 
 // 0, or the lowest of the numbers 1 to 7 that refuses the record.
@@ -57,13 +58,13 @@ pub fn read(r: &[u8]) -> Reading
     Reading::Refused(number)
 }
 
-// The source line of an offset: 0 before the first pair and outside the code.
-pub fn line_of(r: &[u8], offset: u32) -> Line
-    ensures { λ a. ⌜ a ≡ lineOf (now (r .entry)) offset ⌝ }
+// The line lookup: the span of the source line that an offset of the code belongs to.
+pub fn line_span(r: &[u8], offset: u32) -> Line
+    ensures { λ a. ⌜ a ≡ lineSpan (now (r .entry)) offset ⌝ }
 {
     let number = record_number(r);
     if number == 0 {
-        return Line::At(source::line_at(r, header::header_of(r), offset));
+        return Line::At(source::span_at(r, header::header_of(r), offset));
     }
     Line::Refused(number)
 }

@@ -2,12 +2,15 @@
 ghost use mathlib.Core.Path.{_≡_};
 ghost use Prim.Native.Nat.{_≤_, _<_};
 ghost use lib.ListN.{length, take, drop};
+ghost use Rattle.source.specs.Source.{lineAt};
 ghost use Rattle.text.specs.Text.{checkLine, Wrote};
 ghost use Rattle.run_file.specs.RunFile.{memoryWords, stackWords};
 ghost use Rattle.report.specs.Report.{endedText, answerText, output, printed};
 ghost use Rattle.report.specs.Buffers.{orEight, ranPage, partPage, leaving, delivered, reportOf};
+use header::Header;
 use machine::run::Answer;
 use machine::run::Ended;
+use source::Lookup;
 
 // At most `n` words from `at` on: those that there are.
 fn part(s: &[u32], at: usize, n: usize) -> &[u32]
@@ -22,6 +25,17 @@ fn part(s: &[u32], at: usize, n: usize) -> &[u32]
     &s[at..at + n]
 }
 
+// The source line of an offset, 0 outside the code.
+fn line_at(r: &[u8], h: Header, offset: u32) -> u32
+    ensures { λ n. ⌜ n ≡ lineAt (now (r .entry)) h offset ⌝ }
+{
+    let lookup = source::span_at(r, h, offset);
+    let Lookup::Found(span) = lookup else {
+        return 0;
+    };
+    span.line
+}
+
 // The page of a run that ended.
 fn put_ended(out: &mut [u8], r: &[u8], e: Ended, memory: &[u32], stack: &[u32]) -> usize
     requires { ⌜ length (now memory) ≤ 65536 ⌝ }
@@ -32,7 +46,7 @@ fn put_ended(out: &mut [u8], r: &[u8], e: Ended, memory: &[u32], stack: &[u32]) 
     let registers = e.registers;
     let how = e.ending;
     let ending = machine::run::end_number(how);
-    let line = source::line_at(r, h, registers.pc);
+    let line = line_at(r, h, registers.pc);
     let end_at = text::put_check(out, 0, 0);
     let stack_at = text::put_end(out, end_at, ending, registers.pc, line, e.steps);
     let globals_at = text::put_list(

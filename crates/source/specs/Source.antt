@@ -1,10 +1,12 @@
--- The source table and the line of an offset.
+-- The source table, which pair covers an offset, and the line of an offset.
 use mathlib.Core.Bool.{Bool, cond, _&&_}
 use mathlib.Core.List.{List, [], _∷_}
 use Prim.Native.Nat.{ℕ, zero, suc, _+_, _*_, _/_, _%_}
 use lib.Dec.{leb, ltb, eqb}
 use Rattle.words.specs.Series.{series}
 use Rattle.words.specs.Bytes.{wordAt}
+use Rattle.cursor.specs.declared.Pair.{Pair}
+use Rattle.cursor.specs.Cursor.{pairAt}
 use Rattle.header.specs.declared.Header.{Header}
 use Rattle.header.specs.Header.{sourcesAt}
 use Rattle.words.specs.Order.{rising}
@@ -26,12 +28,13 @@ abbrev pub covering : ℕ → List ℕ → ℕ
 covering offset [] = 0
 covering offset (x ∷ xs) = cond (leb x offset) (suc (covering offset xs)) 0
 
--- The line of the k-th pair, counted from 1; 0 for none (01: "before the first pair .. the line is 0").
-abbrev pub pairLine : List ℕ → Header → ℕ → ℕ
-pairLine r h zero = 0
-pairLine r h (suc k) = wordAt r (sourcesAt h + 8 * k + 4)
+-- The k-th pair, counted from 1. Before the first one it is as if a pair (0, 0) stood there. 01: "before the first pair ..
+-- the line is 0"; 02, K4: "before the first pair it answers from 0 .., line 0".
+abbrev pub pairOf : List ℕ → Header → ℕ → Pair
+pairOf r h zero = record { first = 0; second = 0 }
+pairOf r h (suc k) = pairAt r (sourcesAt h + 8 * k)
 
 -- 01: "A line reaches to the next pair, the last one to the end of code; before the first pair or outside the code the line
 -- is 0."
 unfoldable pub lineAt : List ℕ → Header → ℕ → ℕ
-lineAt r h offset = cond (ltb offset (h .code)) (pairLine r h (covering offset (sourceOffsets r h))) 0
+lineAt r h offset = cond (ltb offset (h .code)) (pairOf r h (covering offset (sourceOffsets r h)) .second) 0

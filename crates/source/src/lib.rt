@@ -1,7 +1,22 @@
-// The source table: pairs of an offset and a line.
+// The source table: pairs of an offset and a line; the span of a line.
 ghost use mathlib.Core.Path.{_≡_};
-ghost use Rattle.source.specs.Source.{sourceOffsets, sourceSound, covering, pairLine, lineAt};
+ghost use Rattle.source.specs.Source.{sourceOffsets, sourceSound, covering, pairOf};
+ghost use Rattle.source.specs.Span.{endOf, lookupAt};
+use cursor::Pair;
 use header::Header;
+
+// The offsets that belong to a source line: from `first` to `last`.
+pub struct Span {
+    pub first: u32,
+    pub last: u32,
+    pub line: u32,
+}
+
+// What the line lookup answers for an offset.
+pub enum Lookup {
+    Found(Span),
+    Outside,
+}
 
 pub fn source_sound(r: &[u8], h: Header) -> bool
     ensures { λ b. ⌜ b ≡ sourceSound (now (r .entry)) h ⌝ }
@@ -42,21 +57,41 @@ pub fn pairs_covering(r: &[u8], h: Header, offset: u32) -> u32
     pairs
 }
 
-// The line of the `k`-th pair, counted from 1; 0 for none.
-pub fn pair_line(r: &[u8], h: Header, k: u32) -> u32
-    ensures { λ n. ⌜ n ≡ pairLine (now (r .entry)) h k ⌝ }
+// The `k`-th pair, counted from 1; 0 and 0 for none.
+pub fn pair_of(r: &[u8], h: Header, k: u32) -> Pair
+    ensures { λ p. ⌜ p ≡ pairOf (now (r .entry)) h k ⌝ }
 {
     if k == 0 {
-        return 0;
+        return Pair {
+            first: 0,
+            second: 0,
+        };
     }
-    cursor::pair_at(r, header::sources_at(h) + 8 * ((k - 1) as usize)).second
+    cursor::pair_at(r, header::sources_at(h) + 8 * ((k - 1) as usize))
 }
 
-pub fn line_at(r: &[u8], h: Header, offset: u32) -> u32
-    ensures { λ n. ⌜ n ≡ lineAt (now (r .entry)) h offset ⌝ }
+// Where the line of the `k`-th pair ends: the place after its last byte.
+pub fn end_of(r: &[u8], h: Header, k: u32) -> u32
+    ensures { λ n. ⌜ n ≡ endOf (now (r .entry)) h k ⌝ }
+{
+    if k < h.sources / 2 {
+        return pair_of(r, h, k + 1).first;
+    }
+    h.code
+}
+
+pub fn span_at(r: &[u8], h: Header, offset: u32) -> Lookup
+    ensures { λ a. ⌜ a ≡ lookupAt (now (r .entry)) h offset ⌝ }
 {
     if h.code <= offset {
-        return 0;
+        return Lookup::Outside;
     }
-    pair_line(r, h, pairs_covering(r, h, offset))
+    let k = pairs_covering(r, h, offset);
+    let pair = pair_of(r, h, k);
+    let end = end_of(r, h, k);
+    Lookup::Found(Span {
+        first: pair.first,
+        last: end - 1,
+        line: pair.second,
+    })
 }

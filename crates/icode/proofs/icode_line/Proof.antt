@@ -4,10 +4,12 @@ use Rattle.icode.proofs.icode_line.Statement.{statement}
 use Rattle.icode.proofs.icode_line.Tie as tie
 
 returns : tie.Need-returns
-returns c = rw (← c .before .before .before .line-of .ensures, c .before .answer .given .1)
+returns c = rw (← c .before .before .before .line-span .ensures, c .before .answer .given .1)
 
 returns-2 : tie.Need-returns-2
-returns-2 c = rw (← c .before .before .before .line-of .ensures, c .before .answer2 .given .1)
+returns-2 c =
+    let told = c .before .before in
+    rw (← told .before .before .line-span .ensures, told .answer2 .given .1, c .line-in .ensures)
 
 pub icode-line-spec : {M : Type 1} → statement M
 icode-line-spec =
@@ -18,6 +20,7 @@ icode-line-spec =
     (λ c. search needs)
     (λ c. search needs)
     (λ c. search needs)
+    (λ c κs. search needs)
     (λ c. search needs)
     returns
     returns-2)
