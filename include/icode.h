@@ -17,6 +17,18 @@ uint32_t icode_record_number(const uint8_t *record, size_t record_len);
  * 0. The line is also 0 before the first pair of the source table and outside the code. */
 uint64_t icode_line(const uint8_t *record, size_t record_len, uint32_t offset);
 
+/* The whole source line of a code offset. Answers the first of these that holds:
+ *   1 to 7  as icode_record_number,
+ *   8       span_len is under 4,
+ *   0       the offset is looked up.
+ * Only 0 writes, and then just four words; what lies past them is not written:
+ *   span[0]  1 where the offset is outside the code, else 0,
+ *   span[1]  the first code offset of the line: that of its pair in the source table,
+ *   span[2]  the last one: that before the next pair, or of the last code byte where there is none,
+ *   span[3]  the number of the line, as icode_line gives it.
+ * Before the first pair the line is 0 and begins at offset 0. Outside the code the last three words are 0. */
+uint32_t icode_line_span(const uint8_t *record, size_t record_len, uint32_t offset, uint32_t *span, size_t span_len);
+
 /* Checks a record before it runs. results has one byte for each procedure, from 0 on: how many result words it leaves, 0 to 2, and 0
  * for procedure 0. Answers 0 where the record is accepted, else the lowest number that refuses it:
  *   1 to 7    as above,

@@ -4,6 +4,13 @@
 extern "C" {
     fn icode_record_number(record: *const u8, record_len: usize) -> u32;
     fn icode_line(record: *const u8, record_len: usize, offset: u32) -> u64;
+    fn icode_line_span(
+        record: *const u8,
+        record_len: usize,
+        offset: u32,
+        span: *mut u32,
+        span_len: usize,
+    ) -> u32;
     fn icode_check(
         record: *const u8,
         record_len: usize,
@@ -62,6 +69,10 @@ pub fn record_number(record: &[u8]) -> u32 {
 
 pub fn line(record: &[u8], offset: u32) -> u64 {
     unsafe { icode_line(record.as_ptr(), record.len(), offset) }
+}
+
+pub fn line_span(record: &[u8], offset: u32, span: &mut [u32]) -> u32 {
+    unsafe { icode_line_span(record.as_ptr(), record.len(), offset, span.as_mut_ptr(), span.len()) }
 }
 
 pub fn check(record: &[u8], results: &[u8], workspace: &mut [u16]) -> u32 {

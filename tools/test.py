@@ -4,8 +4,9 @@
     tools/test.py LISTING OPCODE_TABLE VECTORS EXAMPLES
 
 OPCODE_TABLE is what the program opcode_table prints (crates/opcode_table/stdout): the listing has to show the same names and lengths.
-VECTORS is the folder of the stored cases: heights and labels have to be those of the stored workspaces. The README of EXAMPLES has to
-show each example's listing as it is. Prints what fails, and exits with 1 then.
+VECTORS is the folder of the stored cases: heights and labels have to be those of the stored workspaces, and a run file whose stored page
+ends in a trap has that source line marked. The README of EXAMPLES has to show each example's listing as it is. Prints what fails, and
+exits with 1 then.
 """
 
 import os
@@ -14,7 +15,9 @@ import subprocess
 import sys
 from pathlib import Path
 
-ROW = re.compile(r" *(\d+) +(\d+) +(\d+|-) +(\d+|-)  (\S.*?) {2,}([0-9a-f ]+)$")
+ROW = re.compile(r"[ >*] *(\d+) +(\d+) +(\d+|-) +(\d+|-)  (\S.*?) {2,}([0-9a-f ]+)$")
+CODE_ROW = re.compile(r"([ >*]) *(\d+) ")  # of an instruction or of a switch's table
+END = re.compile(r"check 0\nend (\d+) at (\d+) line (\d+) ")
 ROOM = 16  # code bytes behind a tried instruction, enough for the longest
 
 
@@ -37,14 +40,44 @@ class Tests:
             print(f"FAILED: {name}: {seen}")
 
 
+def word_bytes(numbers):
+    return b"".join(number.to_bytes(4, "big") for number in numbers)
+
+
+def words_in(content):
+    return [int.from_bytes(content[at:at + 4], "big") for at in range(0, len(content), 4)]
+
+
 def record_of(code, version=b"", source=b"", sizes=None):
     sizes = sizes or [0, len(code), 0, 0, 0, len(version) // 4, len(source) // 4]
-    return b"".join(size.to_bytes(4, "big") for size in sizes) + code + version + source
+    return word_bytes(sizes) + code + version + source
+
+
+def run_file_of(record, budget=100):
+    """A run file of one procedure, without parameters, with 64 words of memory and 16 of stack."""
+    return b"TRK\0\1\1\0\0" + word_bytes([budget, 64 << 16 | 16]) + record
+
+
+def split_run_file(file):
+    """The results list and the record of a run file."""
+    results = file[6:6 + file[5]]
+    rest = file[6 + len(results):]
+    return results, rest[1 + 4 * rest[0] + 8:]
 
 
 def rows_of(text):
     """The instructions of a listing: offset, line, height, label, instruction, bytes."""
     return [match.groups() for match in map(ROW.match, text.splitlines()) if match]
+
+
+def marks_of(text):
+    """The marks of a listing: the offset of each row of code, with its mark."""
+    return {int(match[2]): match[1] for match in map(CODE_ROW.match, text.splitlines()) if match}
+
+
+def marked(text):
+    """The rows that have a mark, in one line."""
+    return " ".join(f"{mark}{at}" for at, mark in marks_of(text).items() if mark != " ")
 
 
 def try_code(tests, prefix, code, name, length):
@@ -116,7 +149,7 @@ def test_workspaces(tests, folder):
 
 
 def test_lines(tests):
-    source = b"".join(n.to_bytes(4, "big") for n in (3, 7, 4, 4294967295))
+    source = word_bytes([3, 7, 4, 4294967295])
     _, out, _ = tests.run("-", input=record_of(bytes([0, 2, 0xFF, 0xFF, 0xFF, 0xE9]), b" 3/-", source))
     tests.expect("lines", [row[1] for row in rows_of(out)] == ["0", "7", "4294967295", "4294967295"], out)
     tests.expect("version", '" 3/-"  20 33 2f 2d' in out, out)
@@ -135,6 +168,60 @@ def test_switches(tests):
     shown = [" ".join(line.split()[1:-2]) for line in out.splitlines() if ".." in line and "->" in line]
     good = any(line.startswith("-2 .. 5 -> else") for line in shown) and any("6 .. 2147483647 -> 31" in line for line in shown)
     tests.expect("SWITCH_X", good and "exit -> 31" in out and "else -> 30" in out, out)
+
+
+def test_marks(tests):
+    """The source line of a trap has a mark before each row that begins in it, and a star at the trap. One pair is one line, whatever its
+    number; it may begin inside an instruction."""
+    division = bytes([0, 2, 0x83, 0, 7, 0x00, 0xA3, 0x9E, 1, 0xE9])  # LOAD_C.h, LOAD_C.0, DIV_I at 6, POP, RTN
+    for pairs, line, rows in (([], "0 from 0 to 9", ">2 >5 *6 >7 >9"), ([7, 5], "0 from 0 to 6", ">2 >5 *6"),
+                              ([3, 4], "4 from 3 to 9", ">5 *6 >7 >9"), ([2, 1, 6, 2, 7, 3], "2 from 6 to 6", "*6"),
+                              ([2, 1, 5, 1, 8, 1], "1 from 5 to 7", ">5 *6 >7")):
+        record = record_of(division, source=word_bytes(pairs))
+        status, out, err = tests.run("-", input=run_file_of(record))
+        good = status == 0 and f"\ncheck 0: accepted\ntrap 30 at 6, in line {line}: zero divisor\n" in out and marked(out) == rows
+        tests.expect(f"line of {pairs}", good, (status, out, err))
+        for name, content in (("no run", record), ("spent", run_file_of(record, budget=2))):
+            status, out, err = tests.run("-", input=content)
+            tests.expect(f"{name} of {pairs}", status == 0 and "trap" not in out and marked(out) == "", (status, out, err))
+    switch = bytes([0, 2, 0x00, 0xE2, 0, 0, 0, 15, 0, 9, 0, 9])  # LOAD_C.0, SWITCH at 3 with its table from 6 on
+    branch = bytes([0x00, 0x00, 0xA3, 0x9E, 1, 0xE4, 0xE9])  # LOAD_C.0 twice, DIV_I at 14, POP, LEAVE, RTN
+    status, out, err = tests.run("-", input=run_file_of(record_of(switch + branch, source=word_bytes([3, 5, 15, 6]))))
+    tests.expect("line with a switch", status == 0 and marked(out) == ">3 >6 >8 >10 >12 >13 *14", (status, out, err))
+    status, out, err = tests.run("--results", "1", "-", input=run_file_of(record_of(division)))
+    good = status == 1 and "check 9: " in out and marked(out) == ">2 >5 *6 >7 >9"
+    tests.expect("run as the file stands", good, (status, out, err))
+
+
+def line_marks(record, at, offsets):
+    """The marks of a trap at an offset of the code, and the first and last offset of its line."""
+    sizes = words_in(record[:28])
+    starts = words_in(record[len(record) - 4 * sizes[6]:])[::2]
+    first = max((start for start in starts if start <= at), default=0)
+    last = min((start for start in starts if start > at), default=sizes[1]) - 1
+    marks = {offset: "*" if offset == at else ">" if first <= offset <= last else " " for offset in offsets}
+    return marks, first, last
+
+
+def test_pages(tests, folder):
+    """Behind its head, a run file is listed as its record alone. Where its page ends in a trap, there are that and the marks besides."""
+    for page in sorted(folder.glob("*.run")):
+        report = page.with_suffix(".out").read_text()
+        if report == "check 16\n":  # not taken apart
+            continue
+        results, record = split_run_file(page.read_bytes())
+        # A list that no digits give is refused with 9, as an empty one is.
+        _, alone, _ = tests.run("--results", digits_of(results.hex()) or "", "-", input=record)
+        status, out, err = tests.run(page)
+        end = END.match(report)
+        if end and int(end[1]) >= 20:
+            marks, first, last = line_marks(record, int(end[2]), marks_of(alone))
+            trap = f"\ntrap {end[1]} at {end[2]}, in line {end[3]} from {first} to {last}: "
+            good = trap in out and marks_of(out) == marks and "without a meaning" not in out
+            out = re.sub("^[>*]", " ", re.sub("^trap .*\n", "", out, flags=re.MULTILINE), flags=re.MULTILINE)
+        else:
+            good = True
+        tests.expect(page.name, good and out.endswith(alone) and err == "", (status, out, err))
 
 
 def test_refusals(tests):
@@ -211,6 +298,9 @@ def main():
     test_workspaces(tests, Path(vectors))
     test_lines(tests)
     test_switches(tests)
+    test_marks(tests)
+    for folder in (Path(vectors) / "pages", Path(examples)):
+        test_pages(tests, folder)
     test_refusals(tests)
     test_usage(tests, Path(examples).resolve() / "page-twelve.run")
     test_examples(tests, Path(examples))

@@ -1,6 +1,7 @@
 //! The text of cases and answers (vectors/FORMAT.md).
 
 use crate::cases::{Answer, Case, State, Words};
+use crate::record::Span;
 use std::fmt::{self, Display, Formatter};
 use std::str::FromStr;
 
@@ -21,6 +22,7 @@ impl FromStr for Case {
             },
             "run" => Case::Run { record, budget: tokens.number()?, machine: tokens.machine()? },
             "line" => Case::Line { record, offset: tokens.number()? },
+            "span" => Case::Span { record, offset: tokens.number()? },
             _ => return Err(format!("unknown verb {verb}")),
         };
         match tokens.0.next() {
@@ -41,7 +43,7 @@ impl Display for Case {
                 write!(f, "{} {} {}", List(parameters), List(memory), List(stack))
             }
             Case::Run { budget, machine, .. } => write!(f, "{budget} {machine}"),
-            Case::Line { offset, .. } => write!(f, "{offset}"),
+            Case::Line { offset, .. } | Case::Span { offset, .. } => write!(f, "{offset}"),
         }
     }
 }
@@ -59,6 +61,11 @@ impl Display for Answer {
             }
             Answer::Line(Ok(line)) => write!(f, "line {line}"),
             Answer::Line(Err(number)) => write!(f, "line refused {number}"),
+            Answer::Span(Ok(Span::Found { first, last, line })) => {
+                write!(f, "span {first} {last} {line}")
+            }
+            Answer::Span(Ok(Span::Outside)) => write!(f, "span outside"),
+            Answer::Span(Err(number)) => write!(f, "span refused {number}"),
         }
     }
 }
@@ -163,11 +170,14 @@ mod tests {
             "load - 0 3 3*7 2 1 2",
             "run 0f 4294967295 2 3 4 5 6 7 0 1 9",
             "line ff 12",
+            "span - 4294967295",
         ];
         for line in lines {
             assert_eq!(line.parse::<Case>().map(|case| case.to_string()).as_deref(), Ok(line));
         }
-        for line in ["", "check", "load - 0 3 4*7 0", "line ff 12 13", "line f 1", "run"] {
+        let malformed =
+            ["", "check", "load - 0 3 4*7 0", "line ff 12 13", "line f 1", "span 00", "run"];
+        for line in malformed {
             assert!(line.parse::<Case>().is_err(), "{line}");
         }
     }

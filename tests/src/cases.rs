@@ -1,7 +1,8 @@
 //! One call of the interface as data: the case, and the answer with all words as they are
 //! afterwards. `case_text` gives both their text form.
 
-use crate::interface::{Interface, OUTCOME_WORDS, STATE_WORDS};
+use crate::interface::{Interface, OUTCOME_WORDS, SPAN_WORDS, STATE_WORDS};
+use crate::record::Span;
 
 pub type State = [u32; STATE_WORDS];
 pub type Outcome = [u32; OUTCOME_WORDS];
@@ -12,6 +13,7 @@ pub enum Case {
     Load { record: Vec<u8>, parameters: Vec<u32>, memory: Vec<u32>, stack: Vec<u32> },
     Run { record: Vec<u8>, budget: u32, machine: Words },
     Line { record: Vec<u8>, offset: u32 },
+    Span { record: Vec<u8>, offset: u32 },
 }
 
 /// What a machine keeps between runs.
@@ -40,6 +42,8 @@ pub enum Answer {
     },
     /// The line, or the refusal.
     Line(Result<u32, u32>),
+    /// The span, or the refusal.
+    Span(Result<Span, u32>),
 }
 
 impl Case {
@@ -49,6 +53,7 @@ impl Case {
             Case::Load { .. } => "load",
             Case::Run { .. } => "run",
             Case::Line { .. } => "line",
+            Case::Span { .. } => "span",
         }
     }
 
@@ -57,7 +62,8 @@ impl Case {
             Case::Check { record, .. }
             | Case::Load { record, .. }
             | Case::Run { record, .. }
-            | Case::Line { record, .. } => record,
+            | Case::Line { record, .. }
+            | Case::Span { record, .. } => record,
         }
     }
 
@@ -96,6 +102,17 @@ impl Case {
                     number => Err(number),
                 })
             }
+            Case::Span { record, offset } => {
+                let mut words = [u32::MAX; SPAN_WORDS];
+                let number = (library.span)(record, *offset, &mut words);
+                Answer::Span(match (number, words) {
+                    (0, [0, first, last, line]) => Ok(Span::Found { first, last, line }),
+                    (0, [1, 0, 0, 0]) => Ok(Span::Outside),
+                    // A refused lookup leaves the words as they were.
+                    (1.., [u32::MAX, u32::MAX, u32::MAX, u32::MAX]) => Err(number),
+                    _ => panic!("answered {number}, and wrote span {words:?}"),
+                })
+            }
         }
     }
 }
@@ -105,8 +122,10 @@ impl Answer {
     pub fn number(&self) -> u32 {
         match *self {
             Answer::Check { number, .. } | Answer::Load { number, .. } => number,
-            Answer::Run { ended: Err(number), .. } | Answer::Line(Err(number)) => number,
-            Answer::Run { ended: Ok(_), .. } | Answer::Line(Ok(_)) => 0,
+            Answer::Run { ended: Err(number), .. }
+            | Answer::Line(Err(number))
+            | Answer::Span(Err(number)) => number,
+            Answer::Run { ended: Ok(_), .. } | Answer::Line(Ok(_)) | Answer::Span(Ok(_)) => 0,
         }
     }
 }

@@ -8,6 +8,7 @@ mod archive;
 pub const PROVED: Interface = Interface {
     number: archive::record_number,
     line: archive::line,
+    span: archive::line_span,
     check: archive::check,
     report: archive::report,
     decode: archive::decode,

@@ -4,12 +4,14 @@
 use crate::instruction::{self, Fault};
 use crate::machine::{self, Registers};
 use crate::parts::{parts, PARTS};
-use crate::record::Record;
+use crate::record::{Record, Span};
 use crate::{check, record, report};
 
-/// Words of a state (pc, fp, mp, gp, height, calls) and of an outcome (end, at, steps).
+/// Words of a state (pc, fp, mp, gp, height, calls), of an outcome (end, at, steps), and of a span
+/// (1 outside the code or 0, first, last, line).
 pub const STATE_WORDS: usize = 6;
 pub const OUTCOME_WORDS: usize = 3;
+pub const SPAN_WORDS: usize = 4;
 
 /// The calls of one implementation.
 #[derive(Clone, Copy)]
@@ -17,6 +19,7 @@ pub struct Interface {
     pub number: fn(record: &[u8]) -> u32,
     /// number * 2^32 + line
     pub line: fn(record: &[u8], offset: u32) -> u64,
+    pub span: fn(record: &[u8], offset: u32, span: &mut [u32]) -> u32,
     pub check: fn(record: &[u8], results: &[u8], workspace: &mut [u16]) -> u32,
     pub report: fn(run_file: &[u8], out: &mut [u8]) -> usize,
     pub decode: fn(code: &[u8], limit: usize, at: usize, out: &mut [u32]) -> u32,
@@ -44,6 +47,7 @@ type Run = fn(
 pub const REFERENCE: Interface = Interface {
     number: record::number,
     line,
+    span,
     check: check::check,
     report: report::report,
     decode,
@@ -53,9 +57,22 @@ pub const REFERENCE: Interface = Interface {
 
 fn line(record: &[u8], offset: u32) -> u64 {
     match Record::read(record) {
-        Ok(record) => u64::from(record.line(offset)),
+        Ok(record) => u64::from(record.span(offset).line()),
         Err(number) => u64::from(number) << 32,
     }
+}
+
+fn span(record: &[u8], offset: u32, span: &mut [u32]) -> u32 {
+    let record = match Record::read(record) {
+        Ok(record) => record,
+        Err(number) => return number,
+    };
+    let Some(span) = span.first_chunk_mut::<SPAN_WORDS>() else { return 8 };
+    *span = match record.span(offset) {
+        Span::Found { first, last, line } => [0, first, last, line],
+        Span::Outside => [1, 0, 0, 0],
+    };
+    0
 }
 
 /// Length of a SWITCH_X with 65,535 ranges.

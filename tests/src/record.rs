@@ -32,6 +32,25 @@ pub struct Region {
     pub end: usize,
 }
 
+/// The whole source line of a code offset (02, K4).
+#[derive(Clone, Copy, Debug, PartialEq, Eq)]
+pub enum Span {
+    /// The line's first and last code offset, and its number.
+    Found { first: u32, last: u32, line: u32 },
+    /// The offset is outside the code.
+    Outside,
+}
+
+impl Span {
+    /// The line's number alone, 0 outside the code.
+    pub fn line(self) -> u32 {
+        match self {
+            Span::Found { line, .. } => line,
+            Span::Outside => 0,
+        }
+    }
+}
+
 impl<'a> Record<'a> {
     /// The record's parts, or the lowest number of 1 to 7 that applies.
     pub fn read(bytes: &'a [u8]) -> Result<Record<'a>, u32> {
@@ -93,18 +112,22 @@ impl<'a> Record<'a> {
         self.constants_at() + self.constants.len() as u32 / 4
     }
 
-    /// Offset of one source pair.
-    pub fn source_offset(&self, pair: usize) -> Option<u32> {
-        self.source.chunks_exact(8).nth(pair).map(|pair| word(pair, 0))
+    /// Offsets of the source pairs.
+    pub fn source_offsets(&self) -> impl DoubleEndedIterator<Item = u32> + Clone + 'a {
+        self.source.chunks_exact(8).map(|pair| word(pair, 0))
     }
 
-    /// Source line of a code offset; 0 before the first pair and outside the code.
-    pub fn line(&self, offset: u32) -> u32 {
-        if offset as usize >= self.code.len() {
-            return 0;
+    /// Source line of a code offset: "A line reaches to the next pair, the last one to the end of
+    /// code". What lies before the first pair is line 0, and begins at offset 0.
+    pub fn span(&self, offset: u32) -> Span {
+        let size = self.code.len() as u32;
+        if offset >= size {
+            return Span::Outside;
         }
         let covering = self.source.chunks_exact(8).rfind(|pair| word(pair, 0) <= offset);
-        covering.map_or(0, |pair| word(pair, 4))
+        let (first, line) = covering.map_or((0, 0), |pair| (word(pair, 0), word(pair, 4)));
+        let next = self.source_offsets().find(|&start| start > offset).unwrap_or(size);
+        Span::Found { first, last: next - 1, line }
     }
 }
 
@@ -157,4 +180,33 @@ fn count_procedures(code: &[u8]) -> Option<u32> {
     let mut order = (1..count).chain([0]).map(entry);
     let rising = order.clone().is_sorted_by(|one, next| one < next);
     (rising && order.all(inside)).then_some(count)
+}
+
+#[cfg(test)]
+mod tests {
+    use super::{Record, Span};
+    use crate::generate::record::Parts;
+
+    /// The spans of each offset of five code bytes and of the one behind them.
+    fn spans(source: &[u32]) -> Vec<Option<[u32; 3]>> {
+        let code = vec![0, 2, 0xff, 0xff, 0xe9];
+        let bytes = Parts { code, source: source.to_vec(), ..Parts::default() }.assemble();
+        let record = Record::read(&bytes).expect("a sound record");
+        let words = |span| match span {
+            Span::Found { first, last, line } => Some([first, last, line]),
+            Span::Outside => None,
+        };
+        (0..6).map(|offset| words(record.span(offset))).collect()
+    }
+
+    #[test]
+    fn spans_are_those_of_request_k4() {
+        let [whole, before] = [[0, 4, 0], [0, 1, 0]].map(Some);
+        assert_eq!(spans(&[]), [whole, whole, whole, whole, whole, None]);
+        let [one, last] = [[2, 3, 7], [4, 4, 9]].map(Some);
+        assert_eq!(spans(&[2, 7, 4, 9]), [before, before, one, one, last, None]);
+        // Nothing lies before a pair at 0, and neighbours of one line stay two spans.
+        let [one, two] = [[0, 2, 7], [3, 4, 7]].map(Some);
+        assert_eq!(spans(&[0, 7, 3, 7]), [one, one, one, two, two, None]);
+    }
 }

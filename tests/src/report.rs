@@ -72,7 +72,7 @@ fn run_file(file: &RunFile) -> Result<String, u32> {
         "check 0\nend {} at {} line {} steps {}\n{}{}",
         outcome.end,
         outcome.at,
-        record.line(outcome.at),
+        record.span(outcome.at).line(),
         outcome.steps,
         list("s", &stack[..registers.height as usize]),
         list("g", &memory[GLOBALS_AT as usize..record.constants_at() as usize]),

@@ -68,8 +68,12 @@ fn run(folder: &Path, library: &Interface) -> Result<bool, String> {
         let found = finding.err().unwrap_or(AGREES.to_string());
         findings.note("worked", name, AGREES, &found);
     }
-    run_calls(folder, library, &mut findings)?;
-    run_pages(folder, library, &mut findings)?;
+    for cases in stored(folder, "cases")? {
+        run_calls(&cases, library, &mut findings)?;
+    }
+    for page in stored(&folder.join("pages"), "run")? {
+        run_page(&page, library, &mut findings)?;
+    }
     for (verb, counts) in &findings.counts {
         let Counts { passed, different } = counts;
         println!("{verb}: {passed} passed, {different} different");
@@ -77,14 +81,29 @@ fn run(folder: &Path, library: &Interface) -> Result<bool, String> {
     Ok(findings.differences == 0)
 }
 
-fn run_calls(folder: &Path, library: &Interface, findings: &mut Findings) -> Result<(), String> {
-    let cases = read_text(&folder.join("calls.cases"))?;
-    let answers = read_text(&folder.join("calls.answers"))?;
+/// The files of a folder with this extension, by name; an error where there are none.
+fn stored(folder: &Path, extension: &str) -> Result<Vec<PathBuf>, String> {
+    let mut paths: Vec<PathBuf> = fs::read_dir(folder)
+        .map_err(|error| format!("{}: {error}", folder.display()))?
+        .filter_map(|entry| Some(entry.ok()?.path()))
+        .filter(|path| path.extension().is_some_and(|found| found == extension))
+        .collect();
+    paths.sort();
+    if paths.is_empty() {
+        return Err(format!("{}: no files .{extension}", folder.display()));
+    }
+    Ok(paths)
+}
+
+/// Holds each line of a file NAME.cases to its line in NAME.answers.
+fn run_calls(path: &Path, library: &Interface, findings: &mut Findings) -> Result<(), String> {
+    let cases = read_text(path)?;
+    let answers = read_text(&path.with_extension("answers"))?;
     if cases.lines().count() != answers.lines().count() {
-        return Err("calls.cases and calls.answers differ in length".to_string());
+        return Err(format!("{} and its answers differ in length", path.display()));
     }
     for (index, (case, expected)) in cases.lines().zip(answers.lines()).enumerate() {
-        let name = format!("line {}", index + 1);
+        let name = format!("{} line {}", path.display(), index + 1);
         let case: Case = case.parse().map_err(|error| format!("{name}: {error}"))?;
         findings.note(case.verb(), &name, expected, &case.answer(library).to_string());
         note_record(case.record(), expected, &name, library, findings);
@@ -92,24 +111,17 @@ fn run_calls(folder: &Path, library: &Interface, findings: &mut Findings) -> Res
     Ok(())
 }
 
-fn run_pages(folder: &Path, library: &Interface, findings: &mut Findings) -> Result<(), String> {
-    let mut paths: Vec<PathBuf> = fs::read_dir(folder.join("pages"))
-        .map_err(|error| format!("pages: {error}"))?
-        .filter_map(|entry| Some(entry.ok()?.path()))
-        .filter(|path| path.extension().is_some_and(|extension| extension == "run"))
-        .collect();
-    paths.sort();
-    for path in paths {
-        let name = path.display().to_string();
-        let file = fs::read(&path).map_err(|error| format!("{name}: {error}"))?;
-        let expected = read_text(&path.with_extension("out"))?;
-        let mut out = vec![0; PAGE_BYTES];
-        let written = (library.report)(&file, &mut out);
-        let found = String::from_utf8_lossy(&out[..written]);
-        findings.note("page", &name, &expected, &found);
-        if let Some(file) = RunFile::read(&file) {
-            note_record(file.record, &expected, &name, library, findings);
-        }
+/// Holds a run file's page to the stored one.
+fn run_page(path: &Path, library: &Interface, findings: &mut Findings) -> Result<(), String> {
+    let name = path.display().to_string();
+    let file = fs::read(path).map_err(|error| format!("{name}: {error}"))?;
+    let expected = read_text(&path.with_extension("out"))?;
+    let mut out = vec![0; PAGE_BYTES];
+    let written = (library.report)(&file, &mut out);
+    let found = String::from_utf8_lossy(&out[..written]);
+    findings.note("page", &name, &expected, &found);
+    if let Some(file) = RunFile::read(&file) {
+        note_record(file.record, &expected, &name, library, findings);
     }
     Ok(())
 }
@@ -124,7 +136,7 @@ fn note_record(
 ) {
     let words: Vec<&str> = answer.split_whitespace().collect();
     let number = match words[..] {
-        ["run" | "line", "refused", number, ..] | ["check" | "load", number, ..] => number,
+        ["run" | "line" | "span", "refused", number, ..] | ["check" | "load", number, ..] => number,
         _ => "0",
     };
     let expected = if ["1", "2", "3", "4", "5", "6", "7"].contains(&number) { number } else { "0" };

@@ -18,6 +18,9 @@ Lists a record or a run file (- is standard input): its parts, then its code. Fo
   height  words and labels that its procedure has on the stack before it, - where it is not reached
   label   offset of the ITER or SWITCH that pushed the topmost label, - where there is none
 
+A run file is run as it stands. Where that ends in a trap, * stands before the trapped instruction
+and > before all else of its source line.
+
   --results DIGITS  how many result words each procedure leaves, from procedure 0 on, such as 001;
                     else the run file's list, or 0 for each
 

@@ -5,6 +5,7 @@ use crate::instruction::Instruction;
 use crate::library;
 use crate::meaning::meaning;
 use crate::switch_table::{SwitchTable, HEAD_BYTES};
+use crate::trap::{mark, Trap};
 use std::io::{self, Write};
 use std::ops::Range;
 
@@ -37,6 +38,7 @@ pub struct Listing<'a> {
     pub code: &'a [u8],
     /// As the check left it: all 0 where it refused.
     pub workspace: &'a [u16],
+    pub trap: Option<&'a Trap>,
 }
 
 impl Listing<'_> {
@@ -82,15 +84,16 @@ impl Listing<'_> {
         at: usize,
         instruction: &Instruction,
     ) -> io::Result<()> {
+        let mark = mark(self.trap, at);
         let line = library::line(self.record, at as u32);
         let height = workspace_text(self.workspace[4 * at]);
         let label = workspace_text(self.workspace[4 * at + 1]);
         let text = instruction.describe(at);
         let len = if instruction.is_switch() { HEAD_BYTES } else { instruction.len };
         let bytes = hex(&self.code[at..at + len]);
-        writeln!(out, "{at:6} {line:10} {height:>6} {label:>6}  {text:<26}  {bytes}")?;
+        writeln!(out, "{mark}{at:5} {line:10} {height:>6} {label:>6}  {text:<26}  {bytes}")?;
         if instruction.is_switch() {
-            SwitchTable { code: self.code, at }.print(out, instruction)?;
+            SwitchTable { code: self.code, at, trap: self.trap }.print(out, instruction)?;
         }
         Ok(())
     }

@@ -1,7 +1,8 @@
 //! Lists a record or a run file: its parts, and its code with offsets, source lines, mnemonics and
 //! bytes. Beside each instruction stand the height of its procedure's part of the stack and the
-//! topmost label, as the check's workspace shows them. The proved library decodes the instructions,
-//! looks up the lines and checks the record.
+//! topmost label, as the check's workspace shows them. Where the run of a run file traps, the
+//! instructions of that source line are marked. The proved library decodes the instructions, looks
+//! up the lines, checks the record and runs the file.
 
 #![deny(unsafe_code)]
 
@@ -15,6 +16,7 @@ mod meaning;
 mod record;
 mod run_file;
 mod switch_table;
+mod trap;
 
 use arguments::{parse_results, Request, HELP, USAGE};
 use failure::Failure;
@@ -24,6 +26,7 @@ use std::ffi::OsStr;
 use std::fs::File;
 use std::io::{self, BufWriter, Read, Write};
 use std::process::ExitCode;
+use trap::Trap;
 
 fn main() -> ExitCode {
     match run() {
@@ -61,13 +64,14 @@ fn list_file(out: &mut impl Write, name: &OsStr, results: Option<&[u8]>) -> Resu
     }
     // No sound record begins so: it would have too many imports.
     if !bytes.starts_with(b"TRK") {
-        return record::list(out, &bytes, results).map_err(Failure::Unwritable);
+        return record::list(out, &bytes, results, None).map_err(Failure::Unwritable);
     }
     let file =
         RunFile::split(&bytes).map_err(|fault| Failure::Malformed(name.to_owned(), fault))?;
     file.print_head(out, bytes.len()).map_err(Failure::Unwritable)?;
     let results = results.unwrap_or(file.results);
-    record::list(out, file.record, Some(results)).map_err(Failure::Unwritable)
+    let trap = Trap::find(&bytes, file.record);
+    record::list(out, file.record, Some(results), trap.as_ref()).map_err(Failure::Unwritable)
 }
 
 /// Reads a file, or standard input where the name is "-"; at most a byte more than can be listed,

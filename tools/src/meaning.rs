@@ -1,7 +1,8 @@
-//! The numbers that refuse a record or a run file.
+//! The numbers that refuse a record or a run file, and those of the traps.
 
 /// The meaning of a number, in the words of 01's table ("Numbers handed back"); 6 and 7 say what
-/// its "as above" stands for. 8 does not arise: the check is lent enough workspace.
+/// its "as above" stands for. 8 does not arise: the check is lent enough workspace. Nor do the code
+/// traps, 20 to 23: only accepted code runs.
 pub fn meaning(number: u32) -> &'static str {
     match number {
         1 => "record under 28 bytes",
@@ -25,6 +26,15 @@ pub fn meaning(number: u32) -> &'static str {
         14 => "callee 0 or not in the entries",
         15 => "some region has no picture",
         16 => "run file malformed or too long",
+        30 => "zero divisor",
+        31 => "number does not fit",
+        32 => "not live",
+        33 => "protected",
+        34 => "not a boolean",
+        35 => "memory full",
+        36 => "stack full",
+        37 => "64 calls",
+        38 => "FREE below FP",
         _ => "a number without a meaning",
     }
 }

@@ -4,6 +4,7 @@ use crate::bytes::{hex, print_words, spaced, word};
 use crate::code::{entries, print_bytes, Listing};
 use crate::library;
 use crate::meaning::meaning;
+use crate::trap::Trap;
 use std::io::{self, Write};
 
 const HEADER_BYTES: usize = 28;
@@ -39,8 +40,13 @@ const KINDS: [Kind; 7] = [
     Kind { name: "source", unit: "words", max: 2048, unit_bytes: 4 },
 ];
 
-/// Lists a record as far as it can be read, and answers the check's number.
-pub fn list(out: &mut impl Write, record: &[u8], results: Option<&[u8]>) -> io::Result<u32> {
+/// Lists a record as far as it can be read, and answers the check's number. A trap is marked.
+pub fn list(
+    out: &mut impl Write,
+    record: &[u8],
+    results: Option<&[u8]>,
+    trap: Option<&Trap>,
+) -> io::Result<u32> {
     let number = library::record_number(record);
     // 1 to 3: the sizes do not say where the parts stand.
     let parts_fit = !(1..=3).contains(&number);
@@ -49,7 +55,7 @@ pub fn list(out: &mut impl Write, record: &[u8], results: Option<&[u8]>) -> io::
         print_tables(out, record)?;
     }
     if number == 0 {
-        return list_sound(out, record, results);
+        return list_sound(out, record, results, trap);
     }
     print_check(out, number)?;
     if parts_fit {
@@ -62,7 +68,12 @@ pub fn list(out: &mut impl Write, record: &[u8], results: Option<&[u8]>) -> io::
 
 /// Checks a sound record and lists its code, also where the check refuses it: without heights and
 /// labels then.
-fn list_sound(out: &mut impl Write, record: &[u8], results: Option<&[u8]>) -> io::Result<u32> {
+fn list_sound(
+    out: &mut impl Write,
+    record: &[u8],
+    results: Option<&[u8]>,
+    trap: Option<&Trap>,
+) -> io::Result<u32> {
     let code = find(record, Part::Code);
     let entries = entries(code);
     writeln!(out, "  entries   {}", spaced(&entries))?;
@@ -73,7 +84,10 @@ fn list_sound(out: &mut impl Write, record: &[u8], results: Option<&[u8]>) -> io
     let mut workspace = vec![0; 4 * code.len()];
     let number = library::check(record, results.unwrap_or(&zeros), &mut workspace);
     print_check(out, number)?;
-    Listing { record, code, workspace: &workspace }.print(out)?;
+    if let Some(trap) = trap {
+        trap.print(out)?;
+    }
+    Listing { record, code, workspace: &workspace, trap }.print(out)?;
     Ok(number)
 }
 

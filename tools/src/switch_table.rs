@@ -2,6 +2,7 @@
 
 use crate::bytes::{halfword, hex, word};
 use crate::instruction::Instruction;
+use crate::trap::{mark, Trap};
 use std::io::{self, Write};
 
 /// Bytes of the opcode and the operand; the table stands behind them.
@@ -13,6 +14,7 @@ pub struct SwitchTable<'a> {
     pub code: &'a [u8],
     /// Offset of the switch.
     pub at: usize,
+    pub trap: Option<&'a Trap>,
 }
 
 impl SwitchTable<'_> {
@@ -52,6 +54,7 @@ impl SwitchTable<'_> {
 
     /// In the columns of an instruction's row; line, height and label stay empty.
     fn print_row(&self, out: &mut impl Write, at: usize, len: usize, text: &str) -> io::Result<()> {
-        writeln!(out, "{at:6} {:24}    {text:<24}  {}", "", hex(&self.code[at..at + len]))
+        let mark = mark(self.trap, at);
+        writeln!(out, "{mark}{at:5} {:24}    {text:<24}  {}", "", hex(&self.code[at..at + len]))
     }
 }

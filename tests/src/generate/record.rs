@@ -240,6 +240,20 @@ pub fn any(random: &mut Random) -> Vec<u8> {
     bytes
 }
 
+/// A sound record with source pairs at any share of its code bytes, up to all. Neighbours often have
+/// the same line.
+pub fn with_lines(random: &mut Random) -> Vec<u8> {
+    let mut parts = sound(random);
+    let share = random.pick(&[2, 10, 50, 90, 100]);
+    parts.source.clear();
+    for offset in 0..parts.code.len() as u32 {
+        if random.percent(share) {
+            parts.source.extend([offset, random.within(0..=3) as u32]);
+        }
+    }
+    parts.assemble()
+}
+
 /// A sound record with every size at its largest.
 pub fn largest(random: &mut Random) -> Vec<u8> {
     let mut code = code_of_any_bytes(random);
