@@ -1,7 +1,7 @@
 #!/usr/bin/env python3
 """The must-fail edits: wrong edits of code and definitions that the checker has to refuse, each for the fact that it spoils.
 
-  edits.py lint               before a check: every batch applies, every public function has two edits of its code, every statement one
+  edits.py lint               before a check: every batch applies, every public function has two edits of its body, every statement one
                               that falsifies it, and docs/PROMISES.md names just these edits
   edits.py logs               after `rt ci`: reads the batches' logs; each function or theorem that an edit names is refused for a
                               fact of its own
@@ -16,7 +16,8 @@ A batch is a file crates/CRATE/must-fail/BATCH.edit; `rt` applies all of it to a
   old: text that stands there once
   new: text in its place
 
-with one or more pairs of old and new. A batch changes code or definitions, not both, and breaks a function or a theorem once.
+with one or more pairs of old and new. A batch changes the bodies of functions, or contracts, or definitions, and only one of these: what
+is changed in a contract or a definition may break more than the edit names. It breaks a function or a theorem once.
 """
 
 import re
@@ -54,9 +55,6 @@ class Batch:
     def name(self):
         return f"{self.crate}/{self.label}"
 
-    def in_code(self):
-        return all(file.startswith("src/") for edit in self.edits for file, _, _ in edit.pairs)
-
 
 def parse(crate, label, text):
     """Reads a batch as `rt` reads it: a file holds for the pairs after it."""
@@ -91,6 +89,44 @@ def batches(root=ROOT):
 # ---- before the check
 
 
+def functions(root=ROOT):
+    """The functions of the library crates: (crate, name, whether it is public, file, where its body begins and ends)."""
+    for path in sorted(root.glob("crates/*/src/**/*.rt")):
+        crate = path.relative_to(root / "crates").parts[0]
+        file = path.relative_to(root / "crates" / crate).as_posix()
+        module = "::".join(Path(file).with_suffix("").parts[1:])
+        if module == "main":
+            continue
+        text, owner = path.read_text(), ""
+        for line in re.finditer(r"^impl (\w+)|^( *)(#\[.*\] )?(pub )?(const )?(extern \"C\" )?fn (\w+)", text, re.M):
+            if line.group(1):
+                owner = line.group(1)
+                continue
+            indent = line.group(2)
+            begin = re.compile(r"\{$", re.M).search(text, line.end()).start()
+            end = text.index(f"\n{indent}}}", begin)
+            parts = [module if module != "lib" else "", owner if indent else "", line.group(7)]
+            yield crate, "::".join(part for part in parts if part), line.group(4) is not None, file, begin, end
+
+
+def bodies(root=ROOT):
+    """Where the bodies of functions stand: (crate, file) -> (begin, end, function)."""
+    found = {}
+    for crate, name, _, file, begin, end in functions(root):
+        found.setdefault((crate, file), []).append((begin, end, name))
+    return found
+
+
+def place(crate, pair, root, found):
+    """What a pair changes: a definition, the body of a function, or a contract; and the function."""
+    file, old, _ = pair
+    if not file.startswith("src/"):
+        return file.split("/")[0], ""
+    at = (root / "crates" / crate / file).read_text().find(old)
+    inside = [name for begin, end, name in found.get((crate, file), []) if begin <= at and at + len(old) <= end]
+    return ("bodies", inside[0]) if inside else ("contracts", "")
+
+
 def applied(batch, root=ROOT):
     """Says what keeps a batch from being applied: each old text stands once in its file when its turn comes."""
     texts = {}
@@ -104,54 +140,39 @@ def applied(batch, root=ROOT):
             if not old or text.count(old) != 1:
                 yield f"{batch.name}: {edit.name}: its old text stands {text.count(old or ' ')} times in {file}: {old}"
                 continue
+            if old.split() == new.split():
+                yield f"{batch.name}: {edit.name}: its new text is the old one"
             texts[file] = text.replace(old, new)
 
 
-def well_formed(batch, root=ROOT):
+def well_formed(batch, root, found):
     if not batch.edits:
         yield f"{batch.name}: it has no edit"
     for edit in batch.edits:
         if not edit.pairs or not edit.breaks:
             yield f"{batch.name}: {edit.name}: it has no pair, or names neither a function nor a theorem"
-        elif len({file.split("/")[0] for file, _, _ in edit.pairs}) > 1:
-            yield f"{batch.name}: {edit.name}: it changes code and definitions"
-    if len({edit.pairs[0][0].split("/")[0] for edit in batch.edits if edit.pairs}) > 1:
-        yield f"{batch.name}: it changes code and definitions: make two batches"
+        if any(not file.startswith(("src/", "specs/")) for file, _, _ in edit.pairs):
+            yield f"{batch.name}: {edit.name}: it changes neither code nor a definition"
+        if edit.kind == "theorem" and any(not file.startswith("specs/") for file, _, _ in edit.pairs):
+            yield f"{batch.name}: {edit.name}: it names a theorem and does not change a definition"
+    faults = list(applied(batch, root))
+    yield from faults
+    changed = set() if faults else {place(batch.crate, pair, root, found)[0] for edit in batch.edits for pair in edit.pairs}
+    if len(changed) > 1:
+        yield f"{batch.name}: it changes {' and '.join(sorted(changed))}: make a batch of each"
     for breaks, times in Counter(edit.breaks for edit in batch.edits).items():
         if times > 1:
             yield f"{batch.name}: {breaks} is broken {times} times in one batch"
-    yield from applied(batch, root)
-
-
-def functions(root=ROOT):
-    """The functions of the library crates: (crate, name, whether it is public, file, where it begins and ends in the file)."""
-    for path in sorted(root.glob("crates/*/src/*.rt")):
-        crate, module = path.parent.parent.name, "" if path.stem == "lib" else path.stem + "::"
-        if path.stem == "main":
-            continue
-        text, owner, found = path.read_text(), "", []
-        for line in re.finditer(r"^impl (\w+)|^(\s*)(pub )?(?:extern \"C\" )?fn (\w+)", text, re.M):
-            if line.group(1):
-                owner = line.group(1) + "::"
-            else:
-                method = owner if line.group(2).strip("\n") else ""
-                found.append((module + method + line.group(4), line.group(3) is not None, line.start()))
-        ends = [begin for _, _, begin in found[1:]] + [len(text)]
-        for (name, public, begin), end in zip(found, ends):
-            yield crate, name, public, path.relative_to(root / "crates" / crate).as_posix(), begin, end
 
 
 def edits_of_code(root=ROOT):
-    """How many edits change the body of each function and name it as what they break."""
-    counts, bodies = Counter(), {}
-    for crate, name, _, file, begin, end in functions(root):
-        bodies[crate, name] = (file, (root / "crates" / crate / file).read_text()[begin:end])
+    """How many different edits change the body of each function and name it as what they break."""
+    found, seen = bodies(root), {}
     for batch in batches(root):
         for edit in batch.edits:
-            file, body = bodies.get((batch.crate, edit.breaks), ("", ""))
-            if edit.kind == "function" and edit.pairs and all(f == file and old in body for f, old, _ in edit.pairs):
-                counts[batch.crate, edit.breaks] += 1
-    return counts
+            if edit.kind == "function" and all(place(batch.crate, pair, root, found)[1] == edit.breaks for pair in edit.pairs):
+                seen.setdefault((batch.crate, edit.breaks), set()).add(tuple(edit.pairs))
+    return Counter({key: len(pairs) for key, pairs in seen.items()})
 
 
 def statements(root=ROOT):
@@ -181,7 +202,7 @@ def uncovered(root=ROOT):
     counts = edits_of_code(root)
     for crate, name, public, *_ in functions(root):
         if public and counts[crate, name] < EDITS_OF_A_FUNCTION:
-            yield f"{crate}: {name} has {counts[crate, name]} edits of its code, not {EDITS_OF_A_FUNCTION}"
+            yield f"{crate}: {name} has {counts[crate, name]} edits of its body, not {EDITS_OF_A_FUNCTION}"
     falsified = {(batch.crate, edit.breaks) for batch in batches(root) for edit in batch.edits if edit.kind == "theorem"}
     proved = theorems(root)
     for crate, statement in statements(root):
@@ -220,7 +241,8 @@ def unpromised(root=ROOT):
 
 
 def lint(root=ROOT):
-    faults = [fault for batch in batches(root) for fault in well_formed(batch, root)]
+    found = bodies(root)
+    faults = [fault for batch in batches(root) for fault in well_formed(batch, root, found)]
     return faults + list(uncovered(root)) + list(unpromised(root))
 
 
@@ -265,12 +287,10 @@ def refusal(edit, crate, log):
     return f"it has no error of its own ({verdict[:120]})"
 
 
-def read_logs(root=ROOT, logs=None, only=None):
+def read_logs(root=ROOT):
     """Goes through every edit: (batch/edit, what is wrong or nothing)."""
     for batch in batches(root):
-        if only and not only(batch):
-            continue
-        path = (logs or root / "target/must-fail") / batch.crate / batch.label / ".log"
+        path = root / "target/must-fail" / batch.crate / batch.label / ".log"
         log = path.read_text(errors="replace") if path.is_file() else None
         for edit in batch.edits:
             wrong = "there is no log" if log is None else refusal(edit, batch.crate, log)

@@ -9,6 +9,7 @@ import edits
 
 CODE = """// A crate.
 pub fn low(x: u32) -> u32
+    ensures { r is above x }
 {
     x + 1
 }
@@ -83,11 +84,11 @@ class Before(unittest.TestCase):
         self.assertEqual(self.faults(), "")
 
     def test_edit_taken_out(self):
-        self.assertIn("low has 1 edits of its code", self.faults(code_2=AGAIN[AGAIN.index("edit: high") :]))
+        self.assertIn("low has 1 edits of its body", self.faults(code_2=AGAIN[AGAIN.index("edit: high") :]))
 
     def test_edit_of_another_body(self):
         elsewhere = BATCH.replace("old: x + 1\nnew: x + 2", "old: self.a + 3\nnew: self.a + 5").split("\n\n", maxsplit=1)[0]
-        self.assertIn("low has 1 edits of its code", self.faults(code_1=elsewhere))
+        self.assertIn("low has 1 edits of its body", self.faults(code_1=elsewhere))
 
     def test_edit_that_does_not_apply(self):
         self.assertIn("stands 0 times", self.faults(code_1=BATCH.replace("old: x + 1", "old: x + 9")))
@@ -98,7 +99,26 @@ class Before(unittest.TestCase):
         self.assertIn("low is broken 2 times", self.faults(code_1=twice))
 
     def test_code_and_definitions_in_one_batch(self):
-        self.assertIn("make two batches", self.faults(code_1=BATCH + "\n" + FALSE))
+        self.assertIn("it changes bodies and specs", self.faults(code_1=BATCH + "\n" + FALSE))
+        contract = "\nedit: low_is_below\nfunction: hidden\nfile: src/lib.rt\nold: is above\nnew: is below\n"
+        self.assertIn("it changes bodies and contracts", self.faults(code_1=BATCH + contract))
+
+    def test_edit_of_a_contract_does_not_count(self):
+        contract = "edit: low_is_below\nfunction: low\nfile: src/lib.rt\nold: is above\nnew: is below\n"
+        self.assertIn("low has 1 edits of its body", self.faults(code_1=contract))
+
+    def test_same_edit_twice(self):
+        self.assertIn("low has 1 edits of its body", self.faults(code_2=AGAIN.replace("x + 0", "x + 2")))
+
+    def test_edit_that_changes_nothing(self):
+        self.assertIn("is the old one", self.faults(code_1=BATCH.replace("new: x + 2", "new: x  + 1")))
+
+    def test_edit_of_a_proof(self):
+        proof = FALSE.replace("specs/", "proofs/").replace("n < suc n", "omega arith").replace("suc n < n", "refl")
+        self.assertIn("neither code nor a definition", self.faults(definitions_1=proof))
+
+    def test_theorem_named_by_an_edit_of_code(self):
+        self.assertIn("names a theorem", self.faults(code_1=BATCH.replace("function: low", "theorem: Order.rises")))
 
     def test_edit_without_a_name(self):
         with self.assertRaises(edits.Fault):

@@ -5,11 +5,16 @@
   docs/NUMBERS.md         the messages of the console and of the listing
   docs/ARCHITECTURE.md    the crates of crates.txt, in its order and layers
   crates.txt              the crates that each crate's files name
+  docs/PROMISES.md        the public functions of each crate, and the theorems that its specs/ state
+  docs/RULES.md, README   names of functions, definitions and laws that there are
+  include/icode.h, .rs    the exported functions
 """
 
 import re
 import sys
 from pathlib import Path
+
+import edits
 
 ROOT = Path(__file__).resolve().parent.parent
 KIT = {"std", "check", "io", "libc", "os", "bytes"}
@@ -110,8 +115,61 @@ def dependencies():
             yield f"crates.txt: {crate}: {name} is {'named, not listed' if name in named else 'listed, not named'}"
 
 
+def promises():
+    """A row for each public function and for each theorem that is stated in specs/."""
+    named, crate = set(), ""
+    for line in text("docs/PROMISES.md").splitlines():
+        crate = line[3:].strip() if line.startswith("## ") else crate
+        row = re.match(r"\| `([\w:.-]+)` \|", line)
+        if row:
+            named.add((crate, row.group(1)))
+    public = {(crate, name) for crate, name, is_public, *_ in edits.functions() if is_public}
+    stated = {name for _, name in edits.statements()}
+    proved = {theorem for statement, theorem in edits.theorems().items() if statement in stated}
+    for crate, name in sorted((public | proved) - named):
+        yield f"docs/PROMISES.md: {crate}: {name} has no row"
+    laws = {(path.parent.parent.name, f"{path.stem}.{law}") for path in ROOT.glob("crates/*/proofs/*.antt") for law in declared(path)}
+    for crate, name in sorted(named - public - laws):
+        yield f"docs/PROMISES.md: {crate}: there is no {name}"
+
+
+def declared(path):
+    return re.findall(r"^\s*(?:pub )?([\w'-]+) :", path.read_text(), re.M)
+
+
+def known_words():
+    """All words of the code, and the names of files."""
+    found = set()
+    for path in [*ROOT.glob("crates/**/*.rt"), *ROOT.glob("crates/**/*.antt"), *ROOT.glob("tests/src/**/*.rs"), *ROOT.glob("include/*")]:
+        found |= set(re.findall(r"[\w'-]+", path.read_text())) | {path.stem, path.name}
+    files = [path for folder in ("crates", "tests", "console", "tools", "docs", "examples") for path in (ROOT / folder).rglob("*")]
+    return found | {path.name for path in files} | {path.stem for path in files}
+
+
+def names_in_documents():
+    """What a document sets in code type, by its parts, is a word of the code or a file."""
+    known = known_words() | {"00-letter.md", "01-scope.md", "02-change-requests.md"}
+    for document in ("docs/RULES.md", "docs/PROMISES.md"):
+        for quoted in sorted(set(re.findall(r"`([\w:.'-]+)`", text(document)))):
+            parts = [part for part in re.split(r"::|\.(?=[a-zA-Z])", quoted) if part]
+            if quoted not in known and not all(part in known for part in parts):
+                yield f"{document}: nothing is named {quoted}"
+
+
+def exports():
+    """The functions that C calls, as the crate exports and both declarations name them."""
+    exported = {name.split("::")[-1] for crate, name, *_ in edits.functions() if name.split("::")[-1].startswith("icode_")}
+    for file in ("include/icode.h", "include/icode.rs"):
+        there = set(re.findall(r"\bicode_\w+(?=\()", re.sub(r"/\*.*?\*/", "", text(file), flags=re.S)))
+        for name in sorted(exported ^ there):
+            yield f"{file}: {name} is {'not declared' if name in exported else 'not exported'}"
+
+
+CHECKS = (opcodes, numbers, architecture, dependencies, promises, names_in_documents, exports)
+
+
 def main():
-    faults = [fault for check in (opcodes, numbers, architecture, dependencies) for fault in check()]
+    faults = [fault for check in CHECKS for fault in check()]
     print(*faults, sep="\n", end="\n" if faults else "")
     return 1 if faults else 0
 

@@ -1,4 +1,4 @@
--- What the numbers 1 to 7 being absent says, the sizes of the record and its entries; and how large numbers are. A refusal of 0 passes
+-- What the numbers 1 to 7 being absent says, the sizes of the record, its source table and its entries; and how large numbers are. A refusal of 0 passes
 -- each of its tests.
 use mathlib.Core.Bool.{Bool, true, false, _&&_, and-eq-true-iff}
 use mathlib.Core.List.{List}
@@ -13,12 +13,15 @@ use Rattle.words.proofs.Refusal.{Clear, positive, within, cleared, most}
 use Rattle.words.proofs.Tests.{either, by-test}
 use Rattle.header.specs.Header.{headerOf, sizesFit, codeAt, codeOf}
 use Rattle.header.specs.declared.Header.{Header}
+use Rattle.source.specs.Source.{sourceSound}
 use Rattle.entries.specs.Entries.{entriesSound}
 use Rattle.record.specs.Number.{recordTests, recordNumber, afterRecord, readingOf, readingNumber}
+use Rattle.record.specs.Sound.{SourcesSound}
 use Rattle.record.specs.declared.Reading.{Reading}
 
 pub record Numberless (r : List ℕ) : Type 0 where
   pub sizes : sizesFit (headerOf r) ≡ true
+  pub sources : sourceSound r (headerOf r) ≡ true
   pub entries : entriesSound (codeOf r) ≡ true
 
 pub numberless : (r : List ℕ) → recordNumber r ≡ 0 → Numberless r
@@ -27,8 +30,12 @@ numberless r e =
     let c = cleared (recordTests r) refl e in
     record {
       sizes = not-false (sizesFit (headerOf r)) (c .1 .0);
+      sources = not-false (sourceSound r (headerOf r)) (c .1 .1 .1 .1 .1 .0);
       entries = not-false (entriesSound (codeOf r)) (c .1 .1 .1 .1 .1 .1 .0);
     }
+
+pub sources-sound : SourcesSound
+sources-sound r e = numberless r e .sources
 
 -- A reading has the record's number.
 pub reading-number : (r : List ℕ) → readingNumber (readingOf r) ≡ recordNumber r

@@ -1,4 +1,4 @@
--- The numbers 1 to 7, and what reading a record answers.
+-- The numbers 1 to 7, what reading a record answers, and the line lookup.
 use mathlib.Core.Bool.{cond, not, _&&_}
 use mathlib.Core.List.{List, [], _∷_}
 use Prim.Native.Nat.{ℕ}
@@ -8,7 +8,7 @@ use Rattle.words.specs.Refusal.{Test, refusal, _when_}
 use Rattle.header.specs.Header.{headerOf, sizesFit, recordLength, codeOf}
 use Rattle.version.specs.Version.{versionSound}
 use Rattle.source.specs.Source.{sourceSound}
-use Rattle.source.specs.Span.{lookupAt, lookupValues}
+use Rattle.source.specs.Span.{lookupAt}
 use Rattle.entries.specs.Entries.{entriesSound}
 use Rattle.record.specs.declared.Reading.{Reading}
 use Rattle.record.specs.declared.Reading.the-variants.{Refused, Sound}
@@ -48,12 +48,3 @@ readingNumber (Sound h) = 0
 unfoldable pub lineSpan : List ℕ → ℕ → Line
 lineSpan r offset =
     cond (eqb (recordNumber r) 0) (At (lookupAt r (headerOf r) offset)) (NoLine (recordNumber r))
-
--- The number and the values of an answer; with a number there are no values.
-abbrev pub lineNumber : Line → ℕ
-lineNumber (NoLine n) = n
-lineNumber (At a) = 0
-
-abbrev pub lineValues : Line → List ℕ
-lineValues (NoLine n) = []
-lineValues (At a) = lookupValues a

@@ -10,7 +10,7 @@ pub enum Reading {
     Sound(Header),
 }
 
-// What the line lookup answers.
+// What the line lookup answers: the number that refuses the record, or the lookup.
 pub enum Line {
     Refused(u32),
     At(Lookup),
@@ -64,7 +64,7 @@ pub fn line_span(r: &[u8], offset: u32) -> Line
 {
     let number = record_number(r);
     if number == 0 {
-        return Line::At(source::span_at(r, header::header_of(r), offset));
+        return Line::At(source::lookup_at(r, header::header_of(r), offset));
     }
     Line::Refused(number)
 }

@@ -29,7 +29,7 @@ fn part(s: &[u32], at: usize, n: usize) -> &[u32]
 fn line_at(r: &[u8], h: Header, offset: u32) -> u32
     ensures { λ n. ⌜ n ≡ lineAt (now (r .entry)) h offset ⌝ }
 {
-    let lookup = source::span_at(r, h, offset);
+    let lookup = source::lookup_at(r, h, offset);
     let Lookup::Found(span) = lookup else {
         return 0;
     };

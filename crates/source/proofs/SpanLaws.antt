@@ -3,7 +3,7 @@
 use mathlib.Core.Bool.{Bool, true, false, cond, and-eq-true-iff}
 use mathlib.Core.List.{List}
 use mathlib.Core.Path.{_≡_, refl}
-use Prim.Native.Nat.{ℕ, _≤_, _<_, _/_, _%_, zero-le}
+use Prim.Native.Nat.{ℕ, _≤_, _<_, _-_, _/_, _%_, zero-le}
 use native.Mathlib.Omega.{arith}
 use lib.Dec.{eqb, ltb}
 use borrow.Author.Tests.{ltb-true, lt-ltb, le-ltb}
@@ -13,7 +13,8 @@ use Rattle.source.specs.declared.Span.{Span}
 use Rattle.source.specs.declared.Lookup.the-variants.{Found, Outside}
 use Rattle.source.specs.Source.{sourceOffsets, sourceSound, covering, pairOf, lineAt}
 use Rattle.source.specs.Span.{endOf, spanOf, lookupAt, lookupLine}
-use Rattle.source.specs.Spans.{In, SpanHolds, SpanIsOne, SpansCover, OutsideHasNone, SpansApart, LineStays}
+use Rattle.source.specs.Spans.{In, SpanHolds, SameSpan, SpansCover, OutsideHasNone, SpansApart, LineAgrees}
+use Rattle.source.specs.Spans.{LastLineEnds, BeforeFirstPair, WithoutPairs}
 use Rattle.source.proofs.Pairs.{pairs-length, pair-first, pair-end}
 use Rattle.source.proofs.Covering.{covering-most, covering-from, covering-next, rising-limit, covering-only}
 
@@ -64,9 +65,9 @@ span-holds r h offset s sound e =
     let within = ends-within r h sound (coverer r h offset) in
     rw (← f .1) (record { from-first = begins r h offset; to-last = omega arith }, omega arith)
 
-pub span-is-one : SpanIsOne
+pub same-span : SameSpan
 unfolding lookupAt
-span-is-one r h offset other s sound e i =
+same-span r h offset other s sound e i =
     let f = found r h offset s e in
     let k = coverer r h offset in
     let j : In (spanOf r h k) other = rw (← f .1) at i in
@@ -87,14 +88,34 @@ outside-has-none r h offset out = rw (le-ltb offset (h .code) out)
 
 pub spans-apart : SpansApart
 spans-apart r h one other offset s t sound e f i j =
-    let a = span-is-one r h one offset s sound e i in
-    let b = span-is-one r h other offset t sound f j in
+    let a = same-span r h one offset s sound e i in
+    let b = same-span r h other offset t sound f j in
     cc
 
 both-lines : (b : Bool) (s : Span) → lookupLine (cond b (Found s) Outside) ≡ cond b (s .line) 0
 both-lines true s = refl
 both-lines false s = refl
 
-pub line-stays : LineStays
+pub line-agrees : LineAgrees
 unfolding lookupAt lineAt
-line-stays r h offset = both-lines (ltb offset (h .code)) (spanOf r h (coverer r h offset))
+line-agrees r h offset = both-lines (ltb offset (h .code)) (spanOf r h (coverer r h offset))
+
+pub last-line-ends : LastLineEnds
+last-line-ends r h s sound e = let held = span-holds r h (h .code - 1) s sound e in omega (arith, held .0 .to-last, held .1)
+
+-- No pair covers the offset: the span is the one before the first pair, which ends at a place.
+first-span : (r : List ℕ) (h : Header) (offset end : ℕ) → offset < h .code → coverer r h offset ≡ 0 → endOf r h 0 ≡ end
+    → lookupAt r h offset ≡ Found (record { first = 0; last = end - 1; line = 0 })
+unfolding lookupAt
+first-span r h offset end within none e = rw (lt-ltb offset (h .code) within, none, e)
+
+pub before-first-pair : BeforeFirstPair
+before-first-pair r h offset sound some before =
+    let e : endOf r h 0 ≡ pairOf r h 1 .first = rw (lt-ltb 0 (h .sources / 2) some) in
+    let to : offset < endOf r h 0 = rw e before in
+    first-span r h offset (pairOf r h 1 .first) (omega (arith, to, ends-within r h sound 0)) (only r h sound offset 0 zero-le zero-le to) e
+
+pub without-pairs : WithoutPairs
+without-pairs r h offset none within =
+    let e : endOf r h 0 ≡ h .code = rw (le-ltb 0 (h .sources / 2) (omega (arith, none))) in
+    first-span r h offset (h .code) within (omega (arith, there r h offset, none)) e

@@ -9,12 +9,11 @@ use Rattle.source.specs.declared.Lookup.{Lookup}
 use Rattle.source.specs.declared.Lookup.the-variants.{Found, Outside}
 use Rattle.source.specs.Source.{sourceOffsets, covering, pairOf}
 
--- Where the line of the k-th pair ends: at the next pair; "the last line ends at the last code byte"; "with no pairs, the whole
--- code".
+-- The place after the line of the k-th pair: 01, "A line reaches to the next pair, the last one to the end of code".
 abbrev pub endOf : List ℕ → Header → ℕ → ℕ
 endOf r h k = cond (ltb k (h .sources / 2)) (pairOf r h (suc k) .first) (h .code)
 
--- The span of the k-th pair.
+-- The span of the k-th pair: "the last line ends at the last code byte", and "with no pairs, the whole code" is one.
 abbrev pub spanOf : List ℕ → Header → ℕ → Span
 spanOf r h k = record { first = pairOf r h k .first; last = endOf r h k - 1; line = pairOf r h k .second }
 

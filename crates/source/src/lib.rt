@@ -80,7 +80,7 @@ pub fn end_of(r: &[u8], h: Header, k: u32) -> u32
     h.code
 }
 
-pub fn span_at(r: &[u8], h: Header, offset: u32) -> Lookup
+pub fn lookup_at(r: &[u8], h: Header, offset: u32) -> Lookup
     ensures { λ a. ⌜ a ≡ lookupAt (now (r .entry)) h offset ⌝ }
 {
     if h.code <= offset {

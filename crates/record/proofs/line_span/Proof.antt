@@ -10,7 +10,7 @@ unfolding lineSpan
 returns c = rw (
   ← c .before .before .before .record-number .ensures,
   eq-eqb _ 0 (c .before .before .if1 .taken),
-  c .span-at .ensures,
+  c .lookup-at .ensures,
   c .before .header-of .ensures,
 )
 

@@ -1,12 +1,12 @@
--- `source::span_at` meets its contract: outside the code no span, else that of the pair that covers the offset.
+-- `source::lookup_at` meets its contract: outside the code no span, else that of the pair that covers the offset.
 use Prim.Native.Nat.{_≤_}
 use native.Mathlib.Omega.{arith}
 use borrow.Author.Needs.{needs}
 use borrow.Author.Tests.{le-ltb, lt-ltb}
-use Rattle.source.proofs.span_at.Statement.{statement}
+use Rattle.source.proofs.lookup_at.Statement.{statement}
 use Rattle.source.specs.Span.{lookupAt}
 use Rattle.source.proofs.SpanLaws.{ends-behind}
-use Rattle.source.proofs.span_at.Tie as tie
+use Rattle.source.proofs.lookup_at.Tie as tie
 
 returns : tie.Need-returns
 unfolding lookupAt
@@ -32,7 +32,7 @@ returns-2 c =
       covered .pairs-covering .ensures,
     )
 
-pub span-at-spec : {M : Type 1} → statement M
-span-at-spec =
+pub lookup-at-spec : {M : Type 1} → statement M
+lookup-at-spec =
     tie.close
     (tie.spec returns (λ c κs. search needs) (λ c κs. search needs) (λ c κs. search needs) some-byte returns-2)
