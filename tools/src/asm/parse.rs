@@ -1,0 +1,168 @@
+//! Reading an assembler text, line by line.
+
+use super::program::{Item, Lined, Operand, Procedure, Program, Statement, TextFault};
+use super::tokens::{is_name, number, tokens, Reader, Token};
+use crate::sheet::{Operands, Sheet};
+use crate::switch_table::Key;
+
+/// The text taken apart, or what is wrong with its lines.
+pub fn parse(text: &str) -> Result<Program, Vec<TextFault>> {
+    let mut parser = Parser { program: Program::default(), line: 0 };
+    let mut faults = Vec::new();
+    for line in text.lines() {
+        parser.line += 1;
+        if let Err(text) = tokens(line).and_then(|tokens| parser.read_line(&tokens)) {
+            faults.push(TextFault { line: parser.line, text });
+        }
+    }
+    if faults.is_empty() {
+        Ok(parser.program)
+    } else {
+        Err(faults)
+    }
+}
+
+pub struct Parser {
+    pub program: Program,
+    /// The present line, counted from 1.
+    pub line: usize,
+}
+
+impl Parser {
+    /// A label, a directive, an instruction or the row of a switch; a label may stand before an
+    /// instruction.
+    fn read_line(&mut self, tokens: &[Token]) -> Result<(), String> {
+        let mut reader = Reader { rest: tokens };
+        if let [Token::Word(name), Token::Colon, rest @ ..] = tokens {
+            self.add_label(name)?;
+            reader = Reader { rest };
+        }
+        match reader.rest.first() {
+            None => return Ok(()),
+            Some(_) if reader.rest.contains(&Token::Arrow) => self.read_row(&mut reader)?,
+            Some(Token::Word(word)) if word.starts_with('.') => self.read_directive(&mut reader)?,
+            Some(_) => self.read_instruction(&mut reader)?,
+        }
+        reader.end()
+    }
+
+    /// The procedure that the present line belongs to.
+    fn procedure(&mut self) -> Result<&mut Procedure, String> {
+        let missing = "expected .procedure N before the first label or instruction";
+        self.program.procedures.last_mut().ok_or_else(|| missing.to_string())
+    }
+
+    pub fn add(&mut self, item: Item) -> Result<(), String> {
+        let line = self.line;
+        self.procedure()?.items.push(Lined { line, item });
+        Ok(())
+    }
+
+    fn add_label(&mut self, name: &str) -> Result<(), String> {
+        if !is_name(name) {
+            let rule = "letters, digits and _ that do not begin with a digit, \
+                        and not exit, else or at";
+            return Err(format!("expected a label, {rule}, found '{}'", name.escape_debug()));
+        }
+        self.add(Item::Label(name.to_string()))
+    }
+
+    fn read_instruction(&mut self, reader: &mut Reader) -> Result<(), String> {
+        let sheet = Sheet::get();
+        let double = reader.takes(&Token::Word(sheet.prefix.1.to_string()));
+        let what = if double { "an instruction that has this prefix" } else { "an instruction" };
+        let unknown = reader.expected(what);
+        let word = reader.word(what)?;
+        let form = sheet.with_name(word).filter(|form| form.double || !double);
+        let form = form.ok_or_else(|| format!("{unknown}{}", hint(word, double)))?;
+        let operands = match form.operands() {
+            Operands::Absent => Vec::new(),
+            Operands::Number | Operands::Two => {
+                let first = read_number(reader)?;
+                match form.operands() {
+                    Operands::Two => {
+                        reader.expect(&Token::Comma)?;
+                        vec![first, read_number(reader)?]
+                    }
+                    _ => vec![first],
+                }
+            }
+            Operands::Distance => vec![read_target(reader, "a label or a distance")?],
+            Operands::Procedure => vec![read_target(reader, "a procedure")?],
+            // How many rows it has may be left to be counted.
+            Operands::Table if reader.rest.is_empty() => Vec::new(),
+            Operands::Table => vec![read_number(reader)?],
+        };
+        self.add(Item::Statement(Statement { form, double, operands, rows: Vec::new() }))
+    }
+
+    /// A row of the switch before it: what it is for, -> and where it leads.
+    fn read_row(&mut self, reader: &mut Reader) -> Result<(), String> {
+        let line = self.line;
+        let last = self.procedure()?.items.last_mut();
+        let switch = last.and_then(|last| match &mut last.item {
+            Item::Statement(statement) if statement.form.operands() == Operands::Table => {
+                Some(statement)
+            }
+            _ => None,
+        });
+        let lost = "expected SWITCH or SWITCH_X before a row with ->";
+        let switch = switch.ok_or_else(|| lost.to_string())?;
+        let key = read_key(reader)?;
+        reader.expect(&Token::Arrow)?;
+        let target = match key {
+            Key::Range(..) if reader.takes(&Token::Word("else".to_string())) => Operand::Else,
+            _ => read_target(reader, "a label or a distance")?,
+        };
+        switch.rows.push(Lined { line, item: (key, target) });
+        Ok(())
+    }
+}
+
+/// What a row is for: exit, else, a value, or a range.
+fn read_key(reader: &mut Reader) -> Result<Key, String> {
+    let what = "exit, else, a value or a range LOW .. HIGH";
+    let fault = reader.expected(what);
+    match reader.word(what)? {
+        "exit" => Ok(Key::Exit),
+        "else" => Ok(Key::Else),
+        word => {
+            let low = number(word).ok_or(fault)?;
+            if !reader.takes(&Token::Dots) {
+                return u32::try_from(low).map(Key::Value).map_err(|_| reader.expected("'..'"));
+            }
+            let bounds = i64::from(i32::MIN)..=i64::from(i32::MAX);
+            let high = reader.number(bounds)?;
+            let outside = || format!("expected a signed word before '..', found {low}");
+            let low = i32::try_from(low).map_err(|_| outside())?;
+            Ok(Key::Range(low, high as i32))
+        }
+    }
+}
+
+fn read_number(reader: &mut Reader) -> Result<Operand, String> {
+    let words = i64::from(i32::MIN)..=i64::from(u32::MAX);
+    reader.number(words).map(Operand::Number)
+}
+
+/// A name, or a number with or without a sign.
+fn read_target(reader: &mut Reader, what: &str) -> Result<Operand, String> {
+    let fault = reader.expected(what);
+    let word = reader.word(what)?;
+    match number(word) {
+        Some(number) => Ok(Operand::Number(number)),
+        None if is_name(word) => Ok(Operand::Name(word.to_string())),
+        None => Err(fault),
+    }
+}
+
+/// The instructions that may have been meant.
+fn hint(word: &str, double: bool) -> String {
+    let names = Sheet::get().names_like(word);
+    match &names[..] {
+        _ if double => String::new(),
+        [] => String::new(),
+        [one] => format!("; there is {one}"),
+        [first, .., last] => format!("; there are {first} to {last}"),
+    }
+}

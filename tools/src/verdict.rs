@@ -1,0 +1,117 @@
+//! What check and load say of a record, and the places behind it.
+
+use crate::code::{procedures, Procedure};
+use crate::failure::Status;
+use crate::faults::{self, Fault};
+use crate::machine::Machine;
+use crate::meaning::meaning;
+use crate::pictures::{self, NO_PICTURE};
+use crate::record::Record;
+use crate::run_file::RunFile;
+use crate::{library, record_faults};
+
+pub struct Verdict {
+    /// 0 where it is accepted, else the number that refuses it.
+    pub number: u32,
+    /// As the check left it: all 0 where it refused, and empty for a record that is not sound.
+    pub workspace: Vec<u16>,
+    /// What is behind the number, where it is no instruction.
+    cause: String,
+    /// The instructions behind 10 to 14, the procedures behind 15.
+    faults: Vec<Fault>,
+}
+
+impl Verdict {
+    /// Checks a record; with a run file, loads it too. Without results all procedures have none.
+    pub fn of(bytes: &[u8], results: Option<&[u8]>, file: Option<&RunFile>) -> Verdict {
+        let unsound =
+            |number, cause| Verdict { number, workspace: Vec::new(), cause, faults: Vec::new() };
+        match Record::split(bytes) {
+            Err(number) => unsound(number, record_faults::of_sizes(bytes)),
+            Ok(record) if record.number > 0 => {
+                unsound(record.number, record_faults::of_parts(&record))
+            }
+            Ok(record) => Verdict::of_sound(&record, results, file),
+        }
+    }
+
+    fn of_sound(record: &Record, results: Option<&[u8]>, file: Option<&RunFile>) -> Verdict {
+        let procedures = procedures(record);
+        let zeros = vec![0; procedures.len()];
+        let results = results.unwrap_or(&zeros);
+        let mut workspace = vec![0; 4 * record.code.len()];
+        let mut number = library::check(record.bytes, results, &mut workspace);
+        let mut cause = String::new();
+        if number == 9 {
+            cause = record_faults::of_results(results, procedures.len());
+        } else if let (0, Some(file)) = (number, file) {
+            number = Machine::load(file).err().unwrap_or(0);
+            cause = record_faults::of_load(record, file);
+        }
+        let faults = find_faults(number, record, &procedures, results);
+        Verdict { number, workspace, cause, faults }
+    }
+
+    pub fn is_accepted(&self) -> bool {
+        self.number == 0
+    }
+
+    pub fn status(&self) -> Status {
+        if self.is_accepted() {
+            Status::Done
+        } else {
+            Status::NotDone
+        }
+    }
+
+    /// What is behind the number, with its place; nothing where the record is accepted.
+    pub fn reason(&self, record: &[u8]) -> String {
+        let Some(fault) = self.faults.first() else { return self.cause.clone() };
+        let place = match Record::split(record) {
+            Ok(record) if self.number != NO_PICTURE => {
+                format!("{}: ", record.place(fault.place.start))
+            }
+            _ => String::new(),
+        };
+        match self.faults.len() - 1 {
+            0 => format!("{place}{}", fault.text),
+            more => format!("{place}{}; and {more} more", fault.text),
+        }
+    }
+
+    /// The whole of a refusal in words.
+    pub fn refusal(&self, record: &[u8]) -> String {
+        refusal(self.number, &self.reason(record))
+    }
+
+    /// The code offset that is behind the number.
+    pub fn place(&self) -> Option<usize> {
+        self.faults.first().map(|fault| fault.place.start)
+    }
+
+    /// Whether a row of a listing is behind the number, by its offset.
+    pub fn blames(&self, offset: usize) -> bool {
+        self.faults.iter().any(|fault| fault.holds(offset))
+    }
+}
+
+/// A refusal with its reason.
+pub fn refusal(number: u32, reason: &str) -> String {
+    format!("refused with {number}: {}: {reason}", meaning(number))
+}
+
+fn find_faults(
+    number: u32,
+    record: &Record,
+    procedures: &[Procedure],
+    results: &[u8],
+) -> Vec<Fault> {
+    match number {
+        10 | 11 => faults::undecoded(record.code, procedures),
+        12 => faults::successors(record.code, procedures),
+        13 => faults::enters(procedures),
+        14 => faults::callees(procedures),
+        NO_PICTURE => pictures::missing(record.code, procedures, results),
+        _ => Vec::new(),
+    }
+}
