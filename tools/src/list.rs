@@ -143,7 +143,11 @@ impl<'a> Listed<'a> {
             return writeln!(out, "check 0: accepted");
         }
         writeln!(out, "check {number}: {}", meaning(number))?;
-        writeln!(out, "  {}", self.verdict.reason(self.record))
+        writeln!(out, "  {}", self.verdict.reason(self.record))?;
+        if self.file.is_none() && Record::split(self.record).is_err() {
+            writeln!(out, "  it is no run file: it does not begin with TRK")?;
+        }
+        Ok(())
     }
 }
 

@@ -140,9 +140,10 @@ fn read_key(reader: &mut Reader) -> Result<Key, String> {
     }
 }
 
+/// A number; whether it fits is seen when it is encoded.
 fn read_number(reader: &mut Reader) -> Result<Operand, String> {
-    let words = i64::from(i32::MIN)..=i64::from(u32::MAX);
-    reader.number(words).map(Operand::Number)
+    let fault = reader.expected("a number");
+    number(reader.word("a number")?).map(Operand::Number).ok_or(fault)
 }
 
 /// A name, or a number with or without a sign.
@@ -156,13 +157,19 @@ fn read_target(reader: &mut Reader, what: &str) -> Result<Operand, String> {
     }
 }
 
-/// The instructions that may have been meant.
+/// The instructions that may have been meant: those with the same name up to the dot.
 fn hint(word: &str, double: bool) -> String {
     let names = Sheet::get().names_like(word);
-    match &names[..] {
-        _ if double => String::new(),
-        [] => String::new(),
-        [one] => format!("; there is {one}"),
-        [first, .., last] => format!("; there are {first} to {last}"),
+    let ends_in_digit = |name: &&&str| name.ends_with(|last: char| last.is_ascii_digit());
+    let (implied, others): (Vec<&str>, Vec<&str>) = names.iter().partition(ends_in_digit);
+    let implied = match implied[..] {
+        [first, .., last] => Some(format!("{first} to {last}")),
+        _ => None,
+    };
+    let all: Vec<String> =
+        implied.into_iter().chain(others.iter().map(|name| name.to_string())).collect();
+    if double || all.is_empty() {
+        return String::new();
     }
+    format!("; there is {}", all.join(", "))
 }

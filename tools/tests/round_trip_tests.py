@@ -1,0 +1,39 @@
+"""icode list --asm and icode asm: every record that is accepted, and every other sound one, comes back byte for byte."""
+
+from harness import *
+
+
+def round_trip(tests, name, content, options=(), accepted=None):
+    """The text of a file makes the same file. Where it is refused, asm says so with the same number, and takes it with --no-check."""
+    status, text, err = tests.list(content, "--asm", *options)
+    if err:  # not sound, so that it has no text
+        tests.expect(f"{name}: no text", (status, text) == (1, "") and "refused with " in err and not accepted, (status, text, err))
+        return
+    if accepted is None:
+        accepted = status == 0
+    made, out, err = tests.run_bytes("asm", "-", input=text.encode())
+    if status == 0:
+        good = (made, out, err) == (0, content, "")
+    else:
+        number = text.split(":")[0].removeprefix("; check ")
+        good = (status, made, out) == (1, 1, b"") and f"refused with {number}: " in err
+        good = good and tests.run_bytes("asm", "--no-check", "-", input=text.encode()) == (0, content, "")
+    tests.expect(f"{name}: {content[:40].hex()}", good and accepted == (status == 0), (status, made, out.hex(), content.hex(), err, text))
+
+
+def test(tests):
+    seen = set()
+    for case, answer in cases():
+        record, results = case[1], from_hex(case[2]) if case[0] == "check" else None
+        digits = digits_of(results) if results is not None else None
+        if (record, digits) in seen:
+            continue
+        seen.add((record, digits))
+        options = ("--results", digits) if digits is not None else ()
+        number = int(answer[1]) if digits is not None else 8
+        round_trip(tests, case[0], from_hex(record), options, None if number == 8 else number == 0)
+    for page, report in pages():
+        round_trip(tests, page.name, page.read_bytes(), (), report.startswith("check 0\n"))
+    for text in sorted(EXAMPLES.glob("*.icode")):
+        made, out, err = tests.run_bytes("asm", text)
+        tests.expect(text.name, (made, out, err) == (0, text.with_suffix(".run").read_bytes(), ""), (made, out, err))
