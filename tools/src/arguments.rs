@@ -1,5 +1,6 @@
 //! Options and files of a command.
 
+use crate::failure::escaped;
 use std::ffi::{OsStr, OsString};
 use std::os::unix::ffi::OsStrExt;
 
@@ -57,7 +58,8 @@ impl Arguments {
     pub fn number(&self, name: &str) -> Result<Option<u32>, String> {
         let Some(value) = self.value(name) else { return Ok(None) };
         let number = value.to_str().and_then(|text| text.parse().ok());
-        let fault = || format!("{name} takes a number from 0 to {}, not {value:?}", u32::MAX);
+        let fault =
+            || format!("{name} takes a number from 0 to {}, not '{}'", u32::MAX, escaped(value));
         number.map(Some).ok_or_else(fault)
     }
 
@@ -81,7 +83,7 @@ fn read_option(
     let (name, behind) = bytes.split_at(end);
     let behind = behind.get(1..).map(|value| OsStr::from_bytes(value).to_owned());
     let Some(flag) = flags.iter().find(|flag| flag.name.as_bytes() == name) else {
-        return Err(format!("unknown option {argument:?}"));
+        return Err(format!("unknown option '{}'", escaped(argument)));
     };
     match (flag.value, behind) {
         (None, None) => Ok((flag.name, OsString::new())),

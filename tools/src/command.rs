@@ -1,7 +1,7 @@
 //! A command of the program, and how the arguments choose one.
 
 use crate::arguments::{Arguments, Flag};
-use crate::failure::{Failure, Status, PROGRAM};
+use crate::failure::{escaped, Failure, Status, PROGRAM};
 use crate::output::Output;
 use std::ffi::OsString;
 use std::io::Write;
@@ -43,7 +43,8 @@ pub fn run_program(
             let known = commands.iter().find(|command| Some(command.name) == name);
             let names: Vec<&str> = commands.iter().map(|command| command.name).collect();
             let names = names.join(", ");
-            let unknown = || usage(format!("unknown command {first:?}; there are {names}"));
+            let first = escaped(&first);
+            let unknown = || usage(format!("unknown command '{first}'; there are {names}"));
             return run_command(known.ok_or_else(unknown)?, arguments, out);
         }
     }

@@ -67,12 +67,18 @@ pub fn about(name: &OsStr, message: &str) -> String {
     format!("{PROGRAM}: {}: {message}", shown(name))
 }
 
-/// How a file is called: control bytes, and bytes that are no text, are escaped, so that no name can
-/// look like a line of ours.
+/// How a file is called.
 pub fn shown(name: &OsStr) -> String {
     if name == "-" {
-        return "standard input".to_string();
+        "standard input".to_string()
+    } else {
+        escaped(name)
     }
+}
+
+/// A name in which control bytes, and bytes that are no text, are escaped, so that it cannot look
+/// like a line of ours.
+pub fn escaped(name: &OsStr) -> String {
     let quoted = format!("{name:?}");
     quoted[1..quoted.len() - 1].to_string()
 }

@@ -10,7 +10,7 @@ mod text;
 
 use crate::arguments::{Arguments, Flag};
 use crate::command::Command;
-use crate::failure::{Failure, Status};
+use crate::failure::{escaped, Failure, Status};
 use crate::meaning::meaning;
 use crate::outcome::{Ended, Page};
 use crate::output::Output;
@@ -90,7 +90,7 @@ fn parse_results(digits: &OsStr) -> Result<Vec<u8>, String> {
     let bytes = digits.as_encoded_bytes();
     if bytes.len() > MAX_PROCEDURES || !bytes.iter().all(u8::is_ascii_digit) {
         let fault = "is no list of digits, one for each of at most 256 procedures";
-        return Err(format!("{digits:?} {fault}"));
+        return Err(format!("'{}' {fault}", escaped(digits)));
     }
     Ok(bytes.iter().map(|digit| digit - b'0').collect())
 }

@@ -36,7 +36,7 @@ mod page;
 mod trace;
 
 use command::{run_program, Command};
-use output::Output;
+use output::{complain, Output};
 use std::env;
 use std::io::Write;
 use std::process::ExitCode;
@@ -50,7 +50,7 @@ fn main() -> ExitCode {
     let status = match done.and_then(|status| Ok(flushed.map(|()| status)?)) {
         Ok(status) => status,
         Err(failure) => {
-            let _ = out.say(&failure.message());
+            complain(&failure.message());
             failure.status()
         }
     };

@@ -24,13 +24,17 @@ impl Output {
         }
     }
 
-    /// Writes a message to standard error, behind what standard output has had so far. Where
-    /// standard error takes nothing, the exit status has to do.
+    /// Writes a message to standard error, behind what standard output has had so far.
     pub fn say(&mut self, message: &str) -> io::Result<()> {
         self.flush()?;
-        let _ = io::stderr().write_all(format!("{message}\n").as_bytes());
+        complain(message);
         Ok(())
     }
+}
+
+/// Writes a message to standard error. Where that takes nothing, the exit status has to do.
+pub fn complain(message: &str) {
+    let _ = io::stderr().write_all(format!("{message}\n").as_bytes());
 }
 
 impl Write for Output {

@@ -68,16 +68,14 @@ fn of_entries(code: &[u8]) -> String {
     };
     let mut last = None;
     for i in (1..count).chain([0]) {
-        match (entry(i), last) {
-            (None, _) => return format!("the code ends before entry {i} of {count}"),
-            (Some(here), _) if usize::from(here) >= code.len() => {
-                return format!("entry {i} is {here}, not below {}", code.len());
-            }
-            (Some(here), Some(last)) if here <= last => {
-                return format!("entry {i} is {here}, not above {last}");
-            }
-            (here, _) => last = here,
+        let Some(here) = entry(i) else { break };
+        if usize::from(here) >= code.len() {
+            return format!("entry {i} is {here}, not below {}", code.len());
         }
+        if let Some(last) = last.filter(|&last| here <= last) {
+            return format!("entry {i} is {here}, not above {last}");
+        }
+        last = Some(here);
     }
     String::new()
 }
