@@ -15,8 +15,7 @@ use crate::failure::{shown, Failure, Status};
 use crate::input;
 use crate::output::Output;
 use crate::pictures::NO_PICTURE;
-use crate::run_file::RunFile;
-use crate::verdict::{refusal, Verdict};
+use crate::verdict::{split_run_file, Verdict};
 use build::Built;
 use program::TextFault;
 use std::ffi::OsStr;
@@ -128,9 +127,8 @@ fn describe(name: &OsStr, mut faults: Vec<TextFault>) -> Vec<String> {
 
 /// Refuses what check and load refuse, at the line of the text that is behind it.
 fn check(name: &OsStr, built: &Built) -> Result<(), Failure> {
-    let refused = |why| Failure::Refused(name.to_owned(), why);
     let file = match built.is_run_file {
-        true => Some(RunFile::split(&built.bytes).map_err(|rule| refused(refusal(16, rule)))?),
+        true => Some(split_run_file(name, &built.bytes)?),
         false => None,
     };
     let record = file.as_ref().map_or(&built.bytes[..], |file| file.record);
@@ -138,11 +136,11 @@ fn check(name: &OsStr, built: &Built) -> Result<(), Failure> {
     if verdict.is_accepted() {
         return Ok(());
     }
-    let text = verdict.refusal(record);
+    let text = verdict.refusal();
     let lines = if verdict.number == NO_PICTURE { &built.procedure_lines } else { &built.lines };
     let behind = verdict.place().and_then(|at| lines.range(..=at).next_back());
     Err(match behind {
         Some((_, &line)) => Failure::Text(describe(name, vec![TextFault { line, text }])),
-        None => refused(text),
+        None => Failure::Refused(name.to_owned(), text),
     })
 }

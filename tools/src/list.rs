@@ -16,7 +16,7 @@ use crate::outcome::{Ended, Page};
 use crate::output::Output;
 use crate::record::{self, Record};
 use crate::run_file::{is_run_file, RunFile};
-use crate::verdict::{refusal, Verdict};
+use crate::verdict::{split_run_file, Verdict};
 use crate::{input, library};
 use marks::Marks;
 use rows::Listing;
@@ -72,13 +72,13 @@ fn run(arguments: &Arguments, out: &mut Output) -> Result<Status, Failure> {
         return Err(refused("longer than any record or run file".to_string()));
     }
     let file = match is_run_file(&bytes) {
-        true => Some(RunFile::split(&bytes).map_err(|rule| refused(refusal(16, rule)))?),
+        true => Some(split_run_file(name, &bytes)?),
         false => None,
     };
     let listed = Listed::of(&bytes, file, digits);
     if arguments.has("--asm") {
         let record = Record::split(listed.record).ok().filter(|record| record.number == 0);
-        let no_text = || refused(listed.verdict.refusal(listed.record));
+        let no_text = || refused(listed.verdict.refusal());
         text::print(out, &listed, &record.ok_or_else(no_text)?)?;
         return Ok(listed.verdict.status());
     }
@@ -133,8 +133,8 @@ impl<'a> Listed<'a> {
             Ok(record) => rows::print_uncut(out, record.code)?,
             Err(_) => {}
         }
-        let finished = ended.is_none_or(|ended| ended.end == crate::machine::FINISHED);
-        Ok(if finished { self.verdict.status() } else { Status::NotDone })
+        let run = ended.map_or(Status::Done, |ended| ended.status());
+        Ok(self.verdict.status().max(run))
     }
 
     fn print_verdict(&self, out: &mut Output) -> io::Result<()> {
@@ -143,7 +143,7 @@ impl<'a> Listed<'a> {
             return writeln!(out, "check 0: accepted");
         }
         writeln!(out, "check {number}: {}", meaning(number))?;
-        writeln!(out, "  {}", self.verdict.reason(self.record))?;
+        writeln!(out, "  {}", self.verdict.reason)?;
         if self.file.is_none() && Record::split(self.record).is_err() {
             writeln!(out, "  it is no run file: it does not begin with TRK")?;
         }

@@ -1,6 +1,7 @@
 //! A page read back, and what it says in a sentence for people.
 
 use crate::bytes::{counted, WordForm};
+use crate::failure::Status;
 use crate::instruction::Instruction;
 use crate::machine::{words_found, FINISHED, SPENT};
 use crate::meaning::meaning;
@@ -49,6 +50,18 @@ fn numbers(line: &str) -> Vec<u32> {
 impl Ended {
     pub fn is_trap(&self) -> bool {
         !matches!(self.end, FINISHED | SPENT)
+    }
+
+    pub fn is_finished(&self) -> bool {
+        self.end == FINISHED
+    }
+
+    pub fn status(&self) -> Status {
+        if self.is_finished() {
+            Status::Done
+        } else {
+            Status::NotDone
+        }
     }
 
     /// The page's line about the end.

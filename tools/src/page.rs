@@ -5,12 +5,10 @@ use crate::bytes::WordForm;
 use crate::command::Command;
 use crate::failure::{about, shown, Failure, Status};
 use crate::library;
-use crate::machine::FINISHED;
-use crate::meaning::meaning;
 use crate::outcome::Page;
 use crate::output::Output;
 use crate::run_file::RunFile;
-use crate::verdict::{self, Verdict};
+use crate::verdict::{refusal, Verdict};
 use crate::{input, record};
 use std::ffi::OsStr;
 use std::io::Write;
@@ -83,32 +81,16 @@ fn print_page(
         _ => out.write_all(in_form(&page, form).as_bytes())?,
     }
     let (status, sentence) = match (Page::read(&page), RunFile::split(bytes)) {
-        (Some(Page::Ended(ended)), Ok(file)) => {
-            let status = if ended.end == FINISHED { Status::Done } else { Status::NotDone };
-            (status, ended.sentence(&file, form))
+        (Some(Page::Ended(ended)), Ok(file)) => (ended.status(), ended.sentence(&file, form)),
+        (Some(Page::Refused(number)), Ok(file)) => {
+            let verdict = Verdict::of(file.record, Some(file.results), Some(&file));
+            (Status::NotDone, refusal(number, &verdict.reason))
         }
-        (Some(Page::Refused(number)), split) => {
-            (Status::NotDone, explain_refusal(number, split.as_ref()))
-        }
+        (Some(Page::Refused(number)), Err(rule)) => (Status::NotDone, refusal(number, rule)),
         _ => (Status::Trouble, "the library gave no page".to_string()),
     };
     out.say(&about(name, &sentence))?;
     Ok(status)
-}
-
-/// A refusal with its meaning, and with the reason behind it.
-fn explain_refusal(number: u32, split: Result<&RunFile, &&'static str>) -> String {
-    match split {
-        Err(rule) => verdict::refusal(number, rule),
-        Ok(file) => {
-            let verdict = Verdict::of(file.record, Some(file.results), Some(file));
-            if verdict.number == number {
-                verdict.refusal(file.record)
-            } else {
-                format!("refused with {number}: {}", meaning(number))
-            }
-        }
-    }
 }
 
 /// A page with the words of its lists in another form.

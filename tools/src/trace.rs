@@ -8,12 +8,12 @@ use crate::bytes::WordForm;
 use crate::command::Command;
 use crate::failure::{about, Failure, Status};
 use crate::library;
-use crate::machine::{Machine, Outcome, FINISHED, SPENT};
+use crate::machine::{Machine, Outcome, SPENT};
 use crate::outcome::Ended;
 use crate::output::Output;
 use crate::record::Record;
 use crate::run_file::RunFile;
-use crate::verdict::{refusal, Verdict};
+use crate::verdict::{split_run_file, Verdict};
 use crate::{input, record};
 use rows::Rows;
 use std::ffi::OsStr;
@@ -66,11 +66,10 @@ fn run(arguments: &Arguments, out: &mut Output) -> Result<Status, Failure> {
         (false, false) => WordForm::Unsigned,
     };
     let bytes = input::read(name, record::MAX_BYTES)?;
-    let refused = |why| Failure::Refused(name.to_owned(), why);
-    let file = RunFile::split(&bytes).map_err(|rule| refused(refusal(16, rule)))?;
+    let file = split_run_file(name, &bytes)?;
     let verdict = Verdict::of(file.record, Some(file.results), Some(&file));
     if !verdict.is_accepted() {
-        return Err(refused(verdict.refusal(file.record)));
+        return Err(Failure::Refused(name.to_owned(), verdict.refusal()));
     }
     let trace = Trace { name, file: &file, form, from, last: from.saturating_add(steps) - 1 };
     match (Record::split(file.record), Machine::load(&file)) {
@@ -92,12 +91,12 @@ impl Trace<'_> {
     fn run(&self, out: &mut Output, record: &Record, machine: Machine) -> Result<Status, Failure> {
         let mut rows = Rows { record, machine, form: self.form };
         let budget = self.file.budget;
-        let skipped = rows.machine.run(budget.min(self.from - 1)).map_err(|n| self.broken(n))?;
-        let mut outcome = skipped;
+        let skipped = budget.min(self.from - 1);
+        let mut outcome = rows.machine.run(skipped).map_err(|number| self.broken(number))?;
         let mut done = outcome.steps;
         rows.print_head(out, self.from)?;
         while outcome.end == SPENT && done < budget.min(self.last) {
-            outcome = rows.step(out, done + 1).map_err(|n| self.broken(n))??;
+            outcome = rows.step(out, done + 1).map_err(|number| self.broken(number))??;
             done += outcome.steps;
         }
         if outcome.end == SPENT && done < budget {
@@ -120,7 +119,7 @@ impl Trace<'_> {
         let ended = Ended { end, at, line, steps, stack: rows.machine.stack().to_vec() };
         writeln!(out, "{}", ended.line_text())?;
         out.say(&about(self.name, &ended.sentence(self.file, self.form)))?;
-        Ok(if end == FINISHED { Status::Done } else { Status::NotDone })
+        Ok(ended.status())
     }
 
     /// For an answer that the library does not give to what it made itself.

@@ -1,7 +1,7 @@
 //! What check and load say of a record, and the places behind it.
 
 use crate::code::{procedures, Procedure};
-use crate::failure::Status;
+use crate::failure::{Failure, Status};
 use crate::faults::{self, Fault};
 use crate::machine::Machine;
 use crate::meaning::meaning;
@@ -9,14 +9,18 @@ use crate::pictures::{self, NO_PICTURE};
 use crate::record::Record;
 use crate::run_file::RunFile;
 use crate::{library, record_faults};
+use std::ffi::OsStr;
+
+/// The number of a run file that is malformed or too long.
+const RUN_FILE_REFUSED: u32 = 16;
 
 pub struct Verdict {
     /// 0 where it is accepted, else the number that refuses it.
     pub number: u32,
     /// As the check left it: all 0 where it refused, and empty for a record that is not sound.
     pub workspace: Vec<u16>,
-    /// What is behind the number, where it is no instruction.
-    cause: String,
+    /// What is behind the number, with its place; nothing where the record is accepted.
+    pub reason: String,
     /// The instructions behind 10 to 14, the procedures behind 15.
     faults: Vec<Fault>,
 }
@@ -25,7 +29,7 @@ impl Verdict {
     /// Checks a record; with a run file, loads it too. Without results all procedures have none.
     pub fn of(bytes: &[u8], results: Option<&[u8]>, file: Option<&RunFile>) -> Verdict {
         let unsound =
-            |number, cause| Verdict { number, workspace: Vec::new(), cause, faults: Vec::new() };
+            |number, reason| Verdict { number, workspace: Vec::new(), reason, faults: Vec::new() };
         match Record::split(bytes) {
             Err(number) => unsound(number, record_faults::of_sizes(bytes)),
             Ok(record) if record.number > 0 => {
@@ -41,15 +45,16 @@ impl Verdict {
         let results = results.unwrap_or(&zeros);
         let mut workspace = vec![0; 4 * record.code.len()];
         let mut number = library::check(record.bytes, results, &mut workspace);
-        let mut cause = String::new();
-        if number == 9 {
-            cause = record_faults::of_results(results, procedures.len());
-        } else if let (0, Some(file)) = (number, file) {
+        if let (0, Some(file)) = (number, file) {
             number = Machine::load(file).err().unwrap_or(0);
-            cause = record_faults::of_load(record, file);
         }
         let faults = find_faults(number, record, &procedures, results);
-        Verdict { number, workspace, cause, faults }
+        let reason = match (number, file) {
+            (8, Some(file)) => record_faults::of_load(record, file),
+            (9, _) => record_faults::of_results(results, procedures.len()),
+            _ => describe(record, number, &faults),
+        };
+        Verdict { number, workspace, reason, faults }
     }
 
     pub fn is_accepted(&self) -> bool {
@@ -64,24 +69,9 @@ impl Verdict {
         }
     }
 
-    /// What is behind the number, with its place; nothing where the record is accepted.
-    pub fn reason(&self, record: &[u8]) -> String {
-        let Some(fault) = self.faults.first() else { return self.cause.clone() };
-        let place = match Record::split(record) {
-            Ok(record) if self.number != NO_PICTURE => {
-                format!("{}: ", record.place(fault.place.start))
-            }
-            _ => String::new(),
-        };
-        match self.faults.len() - 1 {
-            0 => format!("{place}{}", fault.text),
-            more => format!("{place}{}; and {more} more", fault.text),
-        }
-    }
-
     /// The whole of a refusal in words.
-    pub fn refusal(&self, record: &[u8]) -> String {
-        refusal(self.number, &self.reason(record))
+    pub fn refusal(&self) -> String {
+        refusal(self.number, &self.reason)
     }
 
     /// The code offset that is behind the number.
@@ -98,6 +88,25 @@ impl Verdict {
 /// A refusal with its reason.
 pub fn refusal(number: u32, reason: &str) -> String {
     format!("refused with {number}: {}: {reason}", meaning(number))
+}
+
+/// A run file taken apart, or its refusal with the rule that it breaks.
+pub fn split_run_file<'a>(name: &OsStr, bytes: &'a [u8]) -> Result<RunFile<'a>, Failure> {
+    let refused = |rule| Failure::Refused(name.to_owned(), refusal(RUN_FILE_REFUSED, rule));
+    RunFile::split(bytes).map_err(refused)
+}
+
+/// The first fault with its place, and how many more there are.
+fn describe(record: &Record, number: u32, faults: &[Fault]) -> String {
+    let [first, others @ ..] = faults else { return String::new() };
+    let place = match number {
+        NO_PICTURE => String::new(),
+        _ => format!("{}: ", record.place(first.place.start)),
+    };
+    match others.len() {
+        0 => format!("{place}{}", first.text),
+        more => format!("{place}{}; and {more} more", first.text),
+    }
 }
 
 fn find_faults(

@@ -74,20 +74,20 @@ fn entries(layout: &Layout) -> Result<Vec<u8>, Vec<TextFault>> {
 }
 
 fn record(program: &Program, layout: &Layout, code: &[u8]) -> Vec<u8> {
-    let pair = |(&offset, line): (&usize, &Lined<u32>)| [offset as u32, line.item];
+    let pair = |(&offset, &line): (&usize, &u32)| [offset as u32, line];
     let source: Vec<u32> = layout.source.iter().flat_map(pair).collect();
     let Program { globals, constants, version, .. } = program;
-    let size = |len: usize| len as u32;
-    let globals = globals.unwrap_or(0);
     let (imports, relocation) = (0, 0);
+    let [code_size, constants_size, version_size, source_size] =
+        [code.len(), constants.len(), version.len(), source.len()].map(|len| len as u32);
     let header = [
         imports,
-        size(code.len()),
-        globals,
-        size(constants.len()),
+        code_size,
+        globals.unwrap_or(0),
+        constants_size,
         relocation,
-        size(version.len()),
-        size(source.len()),
+        version_size,
+        source_size,
     ];
     [&word_bytes(&header), code, &word_bytes(constants), &word_bytes(version), &word_bytes(&source)]
         .concat()
@@ -104,16 +104,18 @@ fn head(run: &RunHead, results: &[u8]) -> Result<Option<Vec<u8>>, String> {
     };
     let parameters = parameters.as_deref().unwrap_or_default();
     let mut head = BEGINNING.to_vec();
-    for (list, what) in [(results.to_vec(), "results"), (word_bytes(parameters), "parameters")] {
-        let count = if what == "results" { list.len() } else { list.len() / 4 };
-        let too_many = |_| format!("a run file has at most 255 {what}, found {count}");
-        head.push(u8::try_from(count).map_err(too_many)?);
-        head.extend(list);
-    }
+    head.push(count_byte(results.len(), "results")?);
+    head.extend(results);
+    head.push(count_byte(parameters.len(), "parameters")?);
+    head.extend(word_bytes(parameters));
     head.extend(budget.to_be_bytes());
     head.extend(memory.to_be_bytes());
     head.extend(stack.to_be_bytes());
     Ok(Some(head))
+}
+
+fn count_byte(count: usize, what: &str) -> Result<u8, String> {
+    u8::try_from(count).map_err(|_| format!("a run file has at most 255 {what}, found {count}"))
 }
 
 fn word_bytes(words: &[u32]) -> Vec<u8> {

@@ -10,8 +10,8 @@ pub struct Layout<'a> {
     pub procedures: Vec<Placed<'a>>,
     /// The numbers of the procedures that have a name.
     pub names: HashMap<&'a str, usize>,
-    /// Source lines, each with its line in the text, by their offsets.
-    pub source: BTreeMap<usize, Lined<u32>>,
+    /// Source lines by their offsets.
+    pub source: BTreeMap<usize, u32>,
     pub code_len: usize,
 }
 
@@ -113,8 +113,7 @@ impl<'a> Builder<'a> {
     }
 
     fn add_source_line(&mut self, line: usize, offset: usize, number: u32) {
-        let before = self.layout.source.insert(offset, Lined { line, item: number });
-        if before.is_some() {
+        if self.layout.source.insert(offset, number).is_some() {
             self.fault(line, format!("offset {offset} has a source line already"));
         }
     }

@@ -75,24 +75,7 @@ impl Parser {
         let word = reader.word(what)?;
         let form = sheet.with_name(word).filter(|form| form.double || !double);
         let form = form.ok_or_else(|| format!("{unknown}{}", hint(word, double)))?;
-        let operands = match form.operands() {
-            Operands::Absent => Vec::new(),
-            Operands::Number | Operands::Two => {
-                let first = read_number(reader)?;
-                match form.operands() {
-                    Operands::Two => {
-                        reader.expect(&Token::Comma)?;
-                        vec![first, read_number(reader)?]
-                    }
-                    _ => vec![first],
-                }
-            }
-            Operands::Distance => vec![read_target(reader, "a label or a distance")?],
-            Operands::Procedure => vec![read_target(reader, "a procedure")?],
-            // How many rows it has may be left to be counted.
-            Operands::Table if reader.rest.is_empty() => Vec::new(),
-            Operands::Table => vec![read_number(reader)?],
-        };
+        let operands = read_operands(reader, form.operands())?;
         self.add(Item::Statement(Statement { form, double, operands, rows: Vec::new() }))
     }
 
@@ -117,6 +100,22 @@ impl Parser {
         switch.rows.push(Lined { line, item: (key, target) });
         Ok(())
     }
+}
+
+fn read_operands(reader: &mut Reader, operands: Operands) -> Result<Vec<Operand>, String> {
+    Ok(match operands {
+        Operands::Absent => Vec::new(),
+        // How many rows a switch has may be left to be counted.
+        Operands::Table if reader.rest.is_empty() => Vec::new(),
+        Operands::Number | Operands::Table => vec![read_number(reader)?],
+        Operands::Two => {
+            let first = read_number(reader)?;
+            reader.expect(&Token::Comma)?;
+            vec![first, read_number(reader)?]
+        }
+        Operands::Distance => vec![read_target(reader, "a label or a distance")?],
+        Operands::Procedure => vec![read_target(reader, "a procedure")?],
+    })
 }
 
 /// What a row is for: exit, else, a value, or a range.

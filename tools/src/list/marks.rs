@@ -14,7 +14,7 @@ pub struct Marks<'a> {
 
 impl<'a> Marks<'a> {
     pub fn new(verdict: &'a Verdict, record: &[u8], ended: Option<&'a Ended>) -> Marks<'a> {
-        let stopped = ended.filter(|ended| ended.end != crate::machine::FINISHED);
+        let stopped = ended.filter(|ended| !ended.is_finished());
         let stopped =
             stopped.and_then(|ended| Some((ended, library::line_span(record, ended.at)?)));
         Marks { verdict, stopped }

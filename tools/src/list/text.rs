@@ -17,7 +17,7 @@ const BYTES_IN_ROW: usize = 16;
 pub fn print(out: &mut impl Write, listed: &Listed, record: &Record) -> io::Result<()> {
     let verdict = &listed.verdict;
     if !verdict.is_accepted() {
-        let (number, reason) = (verdict.number, verdict.reason(listed.record));
+        let (number, reason) = (verdict.number, &verdict.reason);
         writeln!(out, "; check {number}: {}\n; {reason}", meaning(number))?;
     }
     if let Some(file) = &listed.file {
