@@ -104,7 +104,9 @@ fn assemble(name: &OsStr, unchecked: bool) -> Result<Built, Failure> {
     }
     let faulty = |faults| Failure::Text(describe(name, faults));
     let text = String::from_utf8_lossy(&bytes);
-    let program = parse::parse(&text).map_err(faulty)?;
+    // Some editors put a byte order mark before a text.
+    let text = text.strip_prefix('\u{feff}').unwrap_or(&text);
+    let program = parse::parse(text).map_err(faulty)?;
     let built = build::build(&program).map_err(faulty)?;
     if !unchecked {
         check(name, &built)?;

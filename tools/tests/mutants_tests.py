@@ -1,7 +1,9 @@
 """Damaged files and texts through every command: each is answered, none with a panic, and the commands agree on its number."""
 
 import random
+import re
 import tempfile
+from pathlib import Path
 from harness import *
 
 SEED = 22

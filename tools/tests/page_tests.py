@@ -1,6 +1,9 @@
 """icode page: the stored pages byte for byte, several files, signed words, and the sentence for people."""
 
+import os
+import re
 import tempfile
+from pathlib import Path
 from harness import *
 
 MEANINGS = {30: "zero divisor", 31: "number does not fit", 32: "not live", 33: "protected", 34: "not a boolean", 35: "memory full",
@@ -22,7 +25,8 @@ def sentence_holds(report, err):
         return f": spent after {steps}; next is " in err and err.endswith(f" at {place}\n")
     found = re.search(r" found (.*?)(;.*)?\n", err)
     words = re.split(", | and ", found[1]) if found else []
-    return f": trap {end[1]}: {MEANINGS[int(end[1])]} at {place}: " in err and report.splitlines()[2].endswith("".join(f" {word}" for word in words))
+    on_top = report.splitlines()[2].endswith("".join(f" {word}" for word in words))
+    return f": trap {end[1]}: {MEANINGS[int(end[1])]} at {place}: " in err and on_top
 
 
 def test_stored(tests):
@@ -41,7 +45,8 @@ def test_sentences(tests):
     deep = bytes([0, 9, 0, 4, 0xE8, 0, 0, 0x71, 0xE9, 0x71, 0xE9])  # 01's plates 11 and 12
     cases = [
         (run([0x83, 3, 0xE8, 0x00, 0xA3, 0x50, 0xE9]), "trap 30: zero divisor at source line 12: DIV_I found 1000 and 0"),
-        (run([0x84, 0x7F, 0xFF, 0xFF, 0xFF, 0x01, 0xA0, 0x50, 0xE9]), "trap 31: number does not fit at source line 12: ADD_I found 2147483647 and 1"),
+        (run([0x84, 0x7F, 0xFF, 0xFF, 0xFF, 0x01, 0xA0, 0x50, 0xE9]),
+         "trap 31: number does not fit at source line 12: ADD_I found 2147483647 and 1"),
         (run([0x82, 100, 0x30, 0x50, 0xE9]), "trap 32: not live at source line 12: LOAD_F.0 found 100"),
         (run([0x86, 200, 0x50, 0xE9]), "trap 32: not live at source line 12: LOAD_G.b 200"),
         (run([0x00, 0x07, 0x60, 0xE9]), "trap 33: protected at source line 12: STOR_F.0 found 0 and 7"),
@@ -67,7 +72,8 @@ def test_sentences(tests):
 def test_signed(tests):
     """LOAD_C.b -6, LOAD_C.b -1, STOR_G.0, then a division by 0."""
     file = run([0x82, 0xFA, 0x82, 0xFF, 0x50, 0x00, 0xA3, 0x50, 0xE9])
-    for option, stack, globals_, words in (((), "s 4294967290 0", "g 4294967295 0", "4294967290 and 0"), (("--signed",), "s -6 0", "g -1 0", "-6 and 0")):
+    for option, stack, globals_, words in (((), "s 4294967290 0", "g 4294967295 0", "4294967290 and 0"),
+                                           (("--signed",), "s -6 0", "g -1 0", "-6 and 0")):
         status, out, err = tests.run("page", *option, "-", input=file)
         good = (status, out) == (1, f"check 0\nend 30 at 8 line 12 steps 4\n{stack}\n{globals_}\n") and f"DIV_I found {words}\n" in err
         tests.expect(f"page {option}", good, (status, out, err))

@@ -1,5 +1,6 @@
 """What stands behind a refusal: the reason and the marked instructions of list, and the same reason from page and trace."""
 
+import re
 from harness import *
 
 RTN = bytes([0xE9])

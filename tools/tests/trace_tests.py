@@ -1,17 +1,19 @@
 """icode trace: every step of the stored pages, followed beside the page; parts of a trace; words in other forms."""
 
+import re
 from harness import *
 
 STEP = re.compile(r" *(\d+|\*) +(\d+) +(\d+)  (\d+) \((\d+) to (\d+)\) +(\S.*?) {2,}(\S.*)$")
-SHORT_STEP = re.compile(r" *(\d+|\*) +(\d+) +(\d+)  (\d+) \((\d+) to (\d+)\) +(\S.*) (-|[\d ]+)$")  # where an instruction fills its column
+# Where an instruction fills its column.
+SHORT_STEP = re.compile(r" *(\d+|\*) +(\d+) +(\d+)  (\d+) \((\d+) to (\d+)\) +(\S.*) (-|[\d ]+)$")
 CHANGE = re.compile(r" +memory (\d+)(?:, (?:global|local) \d+|, link)?: (\d+) -> (\d+)$")
 MAX_STEPS = 2000  # of a page that is followed
 END_LINE = re.compile(r"end (\d+) at (\d+) line (\d+) steps (\d+)")
 
 
 def follow(tests, page, report):
-    """The steps are counted up, each at a place in its line; the changed words, from the loaded memory on, come to the page's globals; stack
-    and end are the page's."""
+    """The steps are counted up, each at a place in its line; the changed words, from the loaded memory on, come to the page's globals;
+    stack and end are the page's."""
     _, parameters, _, record = split_run_file(page.read_bytes())
     sizes = words_in(record[:28])
     memory = dict(zip(range(3, 3 + sizes[2]), parameters + [0] * sizes[2]))
@@ -34,7 +36,8 @@ def follow(tests, page, report):
     good = good and lines[-1] == report.splitlines()[1] and steps == int(end[4]) and (end[1] == "0") == (status == 0)
     good = good and report.splitlines()[2] == ("s" if stack == "-" else f"s {stack}")
     globals_ = "".join(f" {memory[at]}" for at in range(3, 3 + sizes[2]))
-    tests.expect(f"trace of {page.name}", good and report.splitlines()[3] == f"g{globals_}" and err.count("\n") == 1, (status, out[-2000:], err))
+    good = good and report.splitlines()[3] == f"g{globals_}" and err.count("\n") == 1
+    tests.expect(f"trace of {page.name}", good, (status, out[-2000:], err))
 
 
 def step_rows(out):
@@ -64,7 +67,8 @@ def test_parts(tests, page):
             good = good and out.splitlines()[1] == f"stack before step {first}: {before}"
         tests.expect(f"{page.name} from {first}, {count} steps", good, (status, out))
     status, out, err = tests.run("trace", "--from", "4000000000", page)
-    tests.expect(f"{page.name} from behind its end", step_rows(out) == [] and out.splitlines()[-1] == whole.splitlines()[-1], (status, out, err))
+    good = step_rows(out) == [] and out.splitlines()[-1] == whole.splitlines()[-1]
+    tests.expect(f"{page.name} from behind its end", good, (status, out, err))
     status, out, _ = tests.run("trace", "--steps", "0", page)
     tests.expect("no steps", status == 0 and out.splitlines()[1:] == ["stopped after step 0, as --steps asks"], (status, out))
 

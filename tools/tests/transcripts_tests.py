@@ -1,6 +1,7 @@
 """Documents and stored outputs: each command in them prints what stands there; the examples' README has every byte of page twelve."""
 
 import re
+from pathlib import Path
 from harness import *
 from transcripts import count, run_transcript
 
