@@ -48,13 +48,13 @@ impl Arguments {
         self.value(name).is_some()
     }
 
-    /// The value of an option; of the last one where it is given more than once.
+    /// Finds the value of an option: of the last one where it is given more than once.
     pub fn value(&self, name: &str) -> Option<&OsStr> {
         let found = self.options.iter().rev().find(|(option, _)| *option == name);
         found.map(|(_, value)| value.as_os_str())
     }
 
-    /// The value of an option as a number of steps.
+    /// Reads the value of an option as a number of steps.
     pub fn number(&self, name: &str) -> Result<Option<u32>, String> {
         let Some(value) = self.value(name) else { return Ok(None) };
         let number = value.to_str().and_then(|text| text.parse().ok());
@@ -72,7 +72,7 @@ impl Arguments {
     }
 }
 
-/// An option with its value, which may be the next argument.
+/// Reads an option with its value, which may be the next argument.
 fn read_option(
     argument: &OsStr,
     rest: &mut impl Iterator<Item = OsString>,

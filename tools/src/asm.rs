@@ -90,7 +90,7 @@ fn run(arguments: &Arguments, out: &mut Output) -> Result<Status, Failure> {
     Ok(Status::Done)
 }
 
-/// Whether two names are of the same file.
+/// Tells whether two names are of the same file, so that a text is not written over.
 fn is_same(one: &OsStr, other: &OsStr) -> bool {
     let found = fs::canonicalize(one).ok();
     found.is_some() && found == fs::canonicalize(other).ok()
@@ -114,7 +114,7 @@ fn assemble(name: &OsStr, unchecked: bool) -> Result<Built, Failure> {
     Ok(built)
 }
 
-/// The faults in the order of the text, each with file and line.
+/// Puts the faults in the order of the text, each with file and line.
 fn describe(name: &OsStr, mut faults: Vec<TextFault>) -> Vec<String> {
     faults.sort_by_key(|fault| fault.line);
     let name = shown(name);

@@ -10,7 +10,7 @@ pub fn word(bytes: &[u8], at: usize) -> u32 {
     u32::from_be_bytes([bytes[at], bytes[at + 1], bytes[at + 2], bytes[at + 3]])
 }
 
-/// Every word of a byte string.
+/// Reads every word of a byte string.
 pub fn words(bytes: &[u8]) -> Vec<u32> {
     bytes.chunks_exact(4).map(|four| word(four, 0)).collect()
 }
@@ -20,12 +20,12 @@ pub fn hex(bytes: &[u8]) -> String {
     pairs.join(" ")
 }
 
-/// Numbers with a space before each.
+/// Writes numbers with a space before each.
 pub fn spaced(numbers: impl IntoIterator<Item = impl Display>) -> String {
     numbers.into_iter().map(|number| format!(" {number}")).collect()
 }
 
-/// A number with the noun for one or for several.
+/// Writes a number with the noun for one or for several.
 pub fn counted(number: usize, one: &str, several: &str) -> String {
     format!("{number} {}", if number == 1 { one } else { several })
 }

@@ -34,14 +34,14 @@ impl Procedure {
         Procedure { number, region, instructions, bad: None }
     }
 
-    /// Whether one of its instructions begins at an offset.
+    /// Tells whether one of its instructions begins at an offset.
     pub fn has_start(&self, offset: i64) -> bool {
         let offset = usize::try_from(offset).unwrap_or(usize::MAX);
         self.instructions.binary_search_by_key(&offset, |instruction| instruction.at).is_ok()
     }
 }
 
-/// The procedures of a sound record in the order of their code: 1, 2, .. and then 0.
+/// Cuts the procedures of a sound record, in the order of their code: 1, 2, .. and then 0.
 pub fn procedures(record: &Record) -> Vec<Procedure> {
     let (code, entries) = (record.code, record.entries());
     let count = entries.len();

@@ -27,6 +27,8 @@ pub enum Failure {
     Refused(OsString, String),
     /// An assembler text with faults, each with its file and line.
     Text(Vec<String>),
+    /// The library refuses with a number what it made itself.
+    Library(u32),
 }
 
 /// Reading has its own failures, so that what is left are errors of standard output.
@@ -58,16 +60,19 @@ impl Failure {
             }
             Failure::Refused(name, why) => about(name, why),
             Failure::Text(faults) => faults.join("\n"),
+            Failure::Library(number) => {
+                format!("{PROGRAM}: the library refuses what it made itself with {number}")
+            }
         }
     }
 }
 
-/// A message about a file.
+/// Begins a message with the file that it is about.
 pub fn about(name: &OsStr, message: &str) -> String {
     format!("{PROGRAM}: {}: {message}", shown(name))
 }
 
-/// How a file is called.
+/// Names a file for people.
 pub fn shown(name: &OsStr) -> String {
     if name == "-" {
         "standard input".to_string()
@@ -76,14 +81,14 @@ pub fn shown(name: &OsStr) -> String {
     }
 }
 
-/// A name in which control bytes, and bytes that are no text, are escaped, so that it cannot look
-/// like a line of ours.
+/// Escapes control bytes and bytes that are no text, so that a name cannot look like a line of
+/// ours.
 pub fn escaped(name: &OsStr) -> String {
     let quoted = format!("{name:?}");
     quoted[1..quoted.len() - 1].to_string()
 }
 
-/// The system's words alone, without the number that Rust puts behind them.
+/// Takes the system's words alone, without the number that Rust puts behind them.
 fn reason(error: &io::Error) -> String {
     let text = error.to_string();
     match text.split_once(" (os error ") {

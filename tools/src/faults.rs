@@ -20,13 +20,13 @@ impl Fault {
         Fault { place: offset..offset + 1, row: None, text }
     }
 
-    /// Whether a row of a listing is to blame, by its offset.
+    /// Tells whether a row of a listing is to blame, by its offset.
     pub fn holds(&self, offset: usize) -> bool {
         self.place.contains(&offset) || self.row == Some(offset)
     }
 }
 
-/// The first instruction that cannot be decoded (10 or 11).
+/// Finds the first instruction that cannot be decoded (10 or 11).
 pub fn undecoded(code: &[u8], procedures: &[Procedure]) -> Vec<Fault> {
     let first = procedures.iter().find_map(|procedure| Some((procedure, procedure.bad?.0)));
     let fault = |(procedure, at): (&Procedure, usize)| {
@@ -35,7 +35,7 @@ pub fn undecoded(code: &[u8], procedures: &[Procedure]) -> Vec<Fault> {
     first.map(fault).into_iter().collect()
 }
 
-/// What is wrong with the bytes that are left of a procedure.
+/// Says what is wrong with the bytes that are left of a procedure.
 fn describe_undecoded(bytes: &[u8], procedure: usize) -> String {
     let sheet = Sheet::get();
     let (prefix, prefix_name) = sheet.prefix;
@@ -59,7 +59,7 @@ fn describe_undecoded(bytes: &[u8], procedure: usize) -> String {
     }
 }
 
-/// Every instruction with a successor or switch label that is no start in its region (12).
+/// Finds every successor and switch label that is no start in its region (12).
 pub fn successors(code: &[u8], procedures: &[Procedure]) -> Vec<Fault> {
     each(procedures, |procedure, instruction| {
         let mut found = Vec::new();
@@ -87,7 +87,7 @@ pub fn successors(code: &[u8], procedures: &[Procedure]) -> Vec<Fault> {
     })
 }
 
-/// Every instruction that breaks the rules of ENTER (13).
+/// Finds every instruction that breaks the rules of ENTER (13).
 pub fn enters(procedures: &[Procedure]) -> Vec<Fault> {
     each(procedures, |procedure, instruction| {
         let (number, text) = (procedure.number, instruction.text());
@@ -104,7 +104,7 @@ pub fn enters(procedures: &[Procedure]) -> Vec<Fault> {
     })
 }
 
-/// Every call of procedure 0 or of one that is not there (14).
+/// Finds every call of procedure 0 or of one that is not there (14).
 pub fn callees(procedures: &[Procedure]) -> Vec<Fault> {
     let count = procedures.len();
     each(procedures, |_, instruction| {
@@ -120,7 +120,7 @@ pub fn callees(procedures: &[Procedure]) -> Vec<Fault> {
     })
 }
 
-/// What a rule finds at the instructions, in the order of the code.
+/// Applies a rule to the instructions, in the order of the code.
 fn each(
     procedures: &[Procedure],
     rule: impl Fn(&Procedure, &Instruction) -> Vec<Fault>,

@@ -18,8 +18,7 @@ pub struct Instruction {
 }
 
 impl Instruction {
-    /// The instruction at a place of the code, which has to end at or before the limit; else 10 or
-    /// 11.
+    /// Decodes the instruction at a place, which has to end at or before the limit; else 10 or 11.
     pub fn decode(code: &[u8], limit: usize, at: usize) -> Result<Instruction, u32> {
         let decoded = library::decode(code, limit, at)?;
         let code_byte = code[at + usize::from(decoded.double)];
@@ -32,22 +31,22 @@ impl Instruction {
         self.form.operands() == Operands::Table
     }
 
-    /// The offset behind it.
+    /// Answers the offset behind it.
     pub fn end(&self) -> usize {
         self.at + self.len
     }
 
-    /// The procedure that it calls.
+    /// Answers the procedure that it calls.
     pub fn callee(&self) -> Option<u32> {
         self.form.name.starts_with("CALL").then_some(self.operand)
     }
 
-    /// The name as the manual writes it, with the prefix before it.
+    /// Writes the name as the manual does, with the prefix before it.
     pub fn name(&self) -> String {
         named(self.form, self.double)
     }
 
-    /// The name with its operands; a distance also as the offset that it leads to.
+    /// Writes the name with its operands; a distance also as the offset that it leads to.
     pub fn text(&self) -> String {
         match self.jump_target() {
             Some(target) => {
@@ -57,7 +56,7 @@ impl Instruction {
         }
     }
 
-    /// The name with its operands, as numbers alone. Only LOAD_C.w has a word, and that is signed.
+    /// Writes the name with its operands, as numbers alone. Only LOAD_C.w has a word, a signed one.
     pub fn text_without_target(&self) -> String {
         let (name, operand) = (self.name(), self.operand as i32);
         match self.form.operands() {
@@ -68,13 +67,13 @@ impl Instruction {
         }
     }
 
-    /// Where a jump or the way past a loop leads, which may be outside the code.
+    /// Finds where a jump or the way past a loop leads, which may be outside the code.
     pub fn jump_target(&self) -> Option<i64> {
         let distance = i64::from(self.operand as i32);
         (self.form.operands() == Operands::Distance).then_some(self.at as i64 + distance)
     }
 
-    /// The rows of a switch's table; none for other instructions.
+    /// Reads the rows of a switch's table; none for other instructions.
     pub fn rows(&self, code: &[u8]) -> Vec<Row> {
         if self.is_switch() {
             switch_table::rows(code, self)
@@ -83,7 +82,7 @@ impl Instruction {
         }
     }
 
-    /// Every place that the code names as one to go on at: of a jump, or of a switch with its exit.
+    /// Finds every place that the bytes name to go on at: of a jump, or of a switch with its exit.
     pub fn targets(&self, code: &[u8]) -> Vec<i64> {
         let rows = self.rows(code);
         let from_rows = rows.iter().filter_map(|row| row.target(self.at)).map(|at| at as i64);
@@ -91,7 +90,7 @@ impl Instruction {
     }
 }
 
-/// The name of an instruction, with the prefix before it.
+/// Writes the name of an instruction, with the prefix before it.
 pub fn named(form: &Form, double: bool) -> String {
     match double {
         true => format!("{} {}", Sheet::get().prefix.1, form.name),

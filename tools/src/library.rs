@@ -46,7 +46,8 @@ pub use archive::load;
 /// Runs from a state for at most a budget, and answers 0; the outcome is end, place and steps.
 pub use archive::run;
 
-/// The whole source line of a code offset; none outside the code, or where the record is refused.
+/// Looks up the whole source line of a code offset; none outside the code, or where the record is
+/// refused.
 pub fn line_span(record: &[u8], offset: usize) -> Option<Span> {
     let mut span = [0; 4];
     let number = archive::line_span(record, u32::try_from(offset).ok()?, &mut span);
@@ -55,7 +56,7 @@ pub fn line_span(record: &[u8], offset: usize) -> Option<Span> {
     found.then_some(Span { first: first as usize, last: last as usize, line })
 }
 
-/// The report of a run file: its page.
+/// Checks, loads and runs a run file, and answers its page.
 pub fn report(run_file: &[u8]) -> Vec<u8> {
     let mut report = vec![0; REPORT_BYTES];
     let written = archive::report(run_file, &mut report);
@@ -63,7 +64,7 @@ pub fn report(run_file: &[u8]) -> Vec<u8> {
     report
 }
 
-/// The instruction at a place of the code, which has to end at or before the limit; else 10 or 11.
+/// Decodes the instruction at a place, which has to end at or before the limit; else 10 or 11.
 pub fn decode(code: &[u8], limit: usize, at: usize) -> Result<Decoded, u32> {
     let mut out = [0; 5];
     let number = archive::decode(code, limit, at, &mut out);

@@ -85,7 +85,7 @@ fn run(arguments: &Arguments, out: &mut Output) -> Result<Status, Failure> {
     Ok(listed.print(out, &bytes)?)
 }
 
-/// The results list from its digits.
+/// Reads a results list from its digits.
 fn parse_results(digits: &OsStr) -> Result<Vec<u8>, String> {
     let bytes = digits.as_encoded_bytes();
     if bytes.len() > MAX_PROCEDURES || !bytes.iter().all(u8::is_ascii_digit) {
@@ -151,7 +151,7 @@ impl<'a> Listed<'a> {
     }
 }
 
-/// How the run of a run file ends; none where it is refused.
+/// Runs a run file; none where it is refused.
 fn run_end(run_file: &[u8]) -> Option<Ended> {
     match Page::read(&library::report(run_file))? {
         Page::Ended(ended) => Some(ended),

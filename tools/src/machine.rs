@@ -1,5 +1,6 @@
 //! The proved machine, loaded and run through the library.
 
+use crate::failure::Failure;
 use crate::library::{self, CALLS, FP, HEIGHT, PC, STATE_WORDS};
 use crate::record::Record;
 use crate::run_file::RunFile;
@@ -47,22 +48,22 @@ impl<'a> Machine<'a> {
         }
     }
 
-    /// Runs for at most a budget. A state that was loaded and run always fits; else the number.
-    pub fn run(&mut self, budget: u32) -> Result<Outcome, u32> {
+    /// Runs for at most a budget. A state that was loaded and run always fits.
+    pub fn run(&mut self, budget: u32) -> Result<Outcome, Failure> {
         let Machine { record, memory, stack, state } = self;
         let mut outcome = [0; 3];
         match library::run(record, budget, memory, stack, state, &mut outcome) {
             0 => Ok(Outcome { end: outcome[0], at: outcome[1] as usize, steps: outcome[2] }),
-            number => Err(number),
+            number => Err(Failure::Library(number)),
         }
     }
 
-    /// The offset of the next instruction.
+    /// Answers the offset of the next instruction.
     pub fn place(&self) -> usize {
         self.state[PC] as usize
     }
 
-    /// Where the running procedure's words begin in memory.
+    /// Answers where the running procedure's words begin in memory.
     pub fn frame(&self) -> usize {
         self.state[FP] as usize
     }
@@ -71,15 +72,15 @@ impl<'a> Machine<'a> {
         self.state[CALLS]
     }
 
-    /// The words on the stack, bottom first.
+    /// Answers the words on the stack, bottom first.
     pub fn stack(&self) -> &[u32] {
         let height = self.state[HEIGHT] as usize;
         self.stack.get(..height).unwrap_or(&self.stack)
     }
 }
 
-/// How many stack words the instruction at an offset has to find, by asking the machine: with fewer
-/// it traps 22, before it looks at anything else.
+/// Counts the stack words that the instruction at an offset has to find, by asking the machine: with
+/// fewer it traps 22, before it looks at anything else.
 pub fn words_found(record: &Record, at: usize) -> usize {
     let fresh = || Machine::with_sizes(record.bytes, &[], record.loaded_words(), MAX_STACK_WORDS);
     let enough = |height: &usize| {

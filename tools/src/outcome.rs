@@ -42,7 +42,7 @@ impl Page {
     }
 }
 
-/// The numbers among the words of a line.
+/// Picks the numbers among the words of a line.
 fn numbers(line: &str) -> Vec<u32> {
     line.split(' ').filter_map(|word| word.parse().ok()).collect()
 }
@@ -64,13 +64,13 @@ impl Ended {
         }
     }
 
-    /// The page's line about the end.
+    /// Writes the page's line about the end.
     pub fn line_text(&self) -> String {
         let Ended { end, at, line, steps, .. } = self;
         format!("end {end} at {at} line {line} steps {steps}")
     }
 
-    /// What happened, at which source line and with which words.
+    /// Says what happened, at which source line and with which words.
     pub fn sentence(&self, file: &RunFile, form: WordForm) -> String {
         let place = match self.line {
             0 => format!("offset {}", self.at),
@@ -93,7 +93,7 @@ impl Ended {
         decoded.map_or_else(|_| "an instruction".to_string(), |instruction| instruction.text())
     }
 
-    /// The trapped instruction, the stack words that it took, and what was full.
+    /// Names the trapped instruction, the stack words that it took, and what was full.
     fn found(&self, file: &RunFile, form: WordForm) -> String {
         let count = Record::split(file.record).map_or(0, |record| words_found(&record, self.at));
         let taken = &self.stack[self.stack.len().saturating_sub(count)..];

@@ -93,7 +93,7 @@ fn print_page(
     Ok(status)
 }
 
-/// A page with the words of its lists in another form.
+/// Writes the words of a page's lists in another form.
 fn in_form(page: &[u8], form: WordForm) -> String {
     let mut text = String::new();
     for line in String::from_utf8_lossy(page).lines() {

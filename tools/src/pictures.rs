@@ -9,7 +9,7 @@ use crate::sheet::Sheet;
 /// The number of a record with a procedure that has no stack picture.
 pub const NO_PICTURE: u32 = 15;
 
-/// Every procedure without a stack picture, by asking the library.
+/// Finds every procedure without a stack picture, by asking the library.
 ///
 /// A procedure's picture depends on its own code, and of the others on their ENTER and their
 /// results alone. So each is checked beside stubs: the others with just an ENTER as theirs and an
@@ -30,7 +30,7 @@ fn describe(procedure: &Procedure) -> Fault {
     Fault { place: region, row: None, text }
 }
 
-/// A record of the code in which every procedure but one is a stub.
+/// Makes a record of the code in which every procedure but one is a stub.
 fn beside_stubs(code: &[u8], procedures: &[Procedure], results: &[u8], kept: usize) -> Vec<u8> {
     let mut entries = vec![0; procedures.len()];
     let mut body = Vec::new();
@@ -51,8 +51,8 @@ fn beside_stubs(code: &[u8], procedures: &[Procedure], results: &[u8], kept: usi
     record
 }
 
-/// No longer than the shortest code that has a picture: RTN where there are no results to leave, else
-/// a jump to itself.
+/// Makes the shortest code that has a picture: RTN where there are no results to leave, else a jump
+/// to itself.
 fn stub(own: &[u8], number: usize, results: &[u8]) -> Vec<u8> {
     const ENTER_BYTES: usize = 3;
     let code_of = |name| Sheet::get().with_name(name).map_or(0, |form| form.code);

@@ -27,13 +27,13 @@ pub const KINDS: [Kind; 7] = [
     Kind { name: "source", unit: "words", max: 2048, unit_bytes: 4 },
 ];
 
-/// The sizes in a header; none where the record is too short to have one.
+/// Reads the sizes in a header; none where the record is too short to have one.
 pub fn sizes(record: &[u8]) -> Option<[u32; 7]> {
     let header = record.get(..HEADER_BYTES)?;
     Some(std::array::from_fn(|i| word(header, 4 * i)))
 }
 
-/// The length that the sizes come to, with the header.
+/// Adds up the length that the sizes come to, with the header.
 pub fn total_bytes(sizes: &[u32; 7]) -> u64 {
     let parts = sizes.iter().zip(&KINDS);
     let len = |(&size, kind): (&u32, &Kind)| u64::from(size) * u64::from(kind.unit_bytes);
@@ -53,7 +53,7 @@ pub struct Record<'a> {
 }
 
 impl<'a> Record<'a> {
-    /// The parts, or the number of a record whose sizes do not fit: 1 to 3.
+    /// Finds the parts; else the number of a record whose sizes do not fit, 1 to 3.
     pub fn split(bytes: &'a [u8]) -> Result<Record<'a>, u32> {
         let number = library::record_number(bytes);
         match (number, sizes(bytes)) {
@@ -73,17 +73,17 @@ impl<'a> Record<'a> {
         Record { bytes, number, globals: sizes[2], code, constants, version, source }
     }
 
-    /// Words of memory that a load takes at least: 01's 3+g+c.
+    /// Counts the words of memory that a load takes at least: 01's 3+g+c.
     pub fn loaded_words(&self) -> usize {
         3 + self.globals as usize + self.constants.len() / 4
     }
 
-    /// The source table's pairs of an offset and a line.
+    /// Reads the source table's pairs of an offset and a line.
     pub fn source_pairs(&self) -> Vec<(u32, u32)> {
         words(self.source).chunks_exact(2).map(|pair| (pair[0], pair[1])).collect()
     }
 
-    /// The offset at which each procedure of a sound record begins. 01: "If entry 0 is 2, there is
+    /// Reads the offset at which each procedure of a sound record begins. 01: "If entry 0 is 2, there is
     /// one"; else half of entry 1 is their number.
     pub fn entries(&self) -> Vec<usize> {
         let entry = |procedure: usize| usize::from(halfword(self.code, 2 * procedure));
@@ -91,7 +91,7 @@ impl<'a> Record<'a> {
         (0..count).map(entry).collect()
     }
 
-    /// A place of the code for people: its offset, and its source line where it has one.
+    /// Names a place of the code: its offset, and its source line where it has one.
     pub fn place(&self, offset: usize) -> String {
         match library::line_span(self.bytes, offset) {
             Some(span) if span.line > 0 => format!("offset {offset}, source line {}", span.line),

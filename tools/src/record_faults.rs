@@ -8,7 +8,7 @@ const MAX_STACK_WORDS: u16 = 1_024;
 const MAX_PROCEDURES: u16 = 256;
 const MAX_RESULTS: u8 = 2;
 
-/// For a record whose sizes do not fit: 1 to 3.
+/// Says why the sizes of a record do not fit: 1 to 3.
 pub fn of_sizes(record: &[u8]) -> String {
     let Some(sizes) = sizes(record) else {
         return format!("it has {}", counted(record.len(), "byte", "bytes"));
@@ -21,7 +21,7 @@ pub fn of_sizes(record: &[u8]) -> String {
     }
 }
 
-/// For a record whose parts stand where its sizes say: 4 to 7.
+/// Says what is wrong with parts that stand where the sizes say: 4 to 7.
 pub fn of_parts(record: &Record) -> String {
     match record.number {
         4 => {
@@ -37,7 +37,7 @@ pub fn of_parts(record: &Record) -> String {
     }
 }
 
-/// The first pair that is not as it should be (6).
+/// Finds the first pair that is not as it should be (6).
 fn of_source(record: &Record) -> String {
     let (len, size) = (record.source.len() / 4, record.code.len());
     if len % 2 == 1 {
@@ -55,7 +55,7 @@ fn of_source(record: &Record) -> String {
     }
 }
 
-/// The first entry that is not as it should be (7).
+/// Finds the first entry that is not as it should be (7).
 fn of_entries(code: &[u8]) -> String {
     let entry = |i: usize| (2 * i + 1 < code.len()).then(|| halfword(code, 2 * i));
     let count = match (entry(0), entry(1)) {
@@ -80,7 +80,7 @@ fn of_entries(code: &[u8]) -> String {
     String::new()
 }
 
-/// The first result that is not as it should be (9).
+/// Finds the first result that is not as it should be (9).
 pub fn of_results(results: &[u8], procedures: usize) -> String {
     if results.len() != procedures {
         let given = counted(results.len(), "number", "numbers");
@@ -94,7 +94,7 @@ pub fn of_results(results: &[u8], procedures: usize) -> String {
     }
 }
 
-/// Every cause of the load's 8 that holds.
+/// Names every cause of the load's 8 that holds.
 pub fn of_load(record: &Record, file: &RunFile) -> String {
     let (parameters, memory, stack) = (file.parameters.len(), file.memory_words, file.stack_words);
     let least = record.loaded_words();

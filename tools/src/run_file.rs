@@ -21,13 +21,13 @@ pub struct RunFile<'a> {
     pub record: &'a [u8],
 }
 
-/// Whether a file is meant as a run file, and not as a record.
+/// Tells whether a file is meant as a run file, and not as a record.
 pub fn is_run_file(file: &[u8]) -> bool {
     file.starts_with(NAME)
 }
 
 impl<'a> RunFile<'a> {
-    /// The file taken apart, or the rule that it breaks (16).
+    /// Takes a file apart, or names the rule that it breaks (16).
     pub fn split(file: &'a [u8]) -> Result<RunFile<'a>, &'static str> {
         if file.len() > MAX_BYTES {
             return Err("it is longer than 8,192 bytes");
@@ -46,7 +46,7 @@ impl<'a> RunFile<'a> {
     }
 }
 
-/// What stands behind the version; none where it is too short.
+/// Takes apart what stands behind the version; none where it is too short.
 fn split_head(rest: &[u8]) -> Option<RunFile<'_>> {
     let (&count, rest) = rest.split_first()?;
     let (results, rest) = rest.split_at_checked(usize::from(count))?;

@@ -58,7 +58,7 @@ impl Sheet {
         self.forms.iter().find(|form| form.name == name)
     }
 
-    /// The names that begin with a word, up to their size or implied number.
+    /// Finds the names that are a word up to their size or implied number.
     pub fn names_like(&self, word: &str) -> Vec<&'static str> {
         let word = word.to_uppercase();
         let wanted = word.split('.').next().unwrap_or_default();
@@ -82,7 +82,7 @@ pub enum Operands {
 }
 
 impl Form {
-    /// By the name up to its size or implied number: the sheet has lengths, not what the bytes mean.
+    /// Goes by the name up to its size or implied number: the sheet does not say what bytes mean.
     pub fn operands(&self) -> Operands {
         let base = self.name.split('.').next().unwrap_or_default();
         match base {
@@ -95,7 +95,7 @@ impl Form {
         }
     }
 
-    /// Whether the next place may be the one behind it.
+    /// Tells whether the next place may be the one behind it.
     pub fn falls_through(&self) -> bool {
         let stays = matches!(self.name, "JUMP.b" | "JUMP.h" | "LEAVE" | "RTN");
         !stays && self.operands() != Operands::Table

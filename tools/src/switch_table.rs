@@ -42,14 +42,14 @@ pub struct Row {
 }
 
 impl Row {
-    /// Where the row leads; none for a range with distance 0, which stands for ELSE.
+    /// Finds where the row leads; none for a range with distance 0, which stands for ELSE.
     pub fn target(&self, switch: usize) -> Option<usize> {
         let for_else = matches!(self.key, Key::Range(..)) && self.distance == 0;
         (!for_else).then_some(switch + usize::from(self.distance))
     }
 }
 
-/// Rows for the exit and for ELSE, then one for each value from 0 on, or for each range.
+/// Reads the rows of the exit and of ELSE, then one for each value from 0 on, or for each range.
 pub fn rows(code: &[u8], switch: &Instruction) -> Vec<Row> {
     let exit = switch.at + HEAD_BYTES;
     let otherwise = exit + DISTANCE_BYTES;

@@ -71,32 +71,32 @@ fn run(arguments: &Arguments, out: &mut Output) -> Result<Status, Failure> {
     if !verdict.is_accepted() {
         return Err(Failure::Refused(name.to_owned(), verdict.refusal()));
     }
-    let trace = Trace { name, file: &file, form, from, last: from.saturating_add(steps) - 1 };
-    match (Record::split(file.record), Machine::load(&file)) {
-        (Ok(record), Ok(machine)) => trace.run(out, &record, machine),
-        (Err(number), _) | (_, Err(number)) => Err(trace.broken(number)),
-    }
+    let record = Record::split(file.record).map_err(Failure::Library)?;
+    let machine = Machine::load(&file).map_err(Failure::Library)?;
+    let rows = Rows { record: &record, machine, form };
+    Trace { name, file: &file, from, last: (from - 1).saturating_add(steps) }.run(out, rows)
 }
 
 struct Trace<'a> {
     name: &'a OsStr,
     file: &'a RunFile<'a>,
-    form: WordForm,
     /// The first and the last step to be shown.
     from: u32,
     last: u32,
 }
 
 impl Trace<'_> {
-    fn run(&self, out: &mut Output, record: &Record, machine: Machine) -> Result<Status, Failure> {
-        let mut rows = Rows { record, machine, form: self.form };
+    /// Skips steps, shows the wanted ones, and says how the run ended or that it did not.
+    fn run(&self, out: &mut Output, mut rows: Rows) -> Result<Status, Failure> {
         let budget = self.file.budget;
-        let skipped = budget.min(self.from - 1);
-        let mut outcome = rows.machine.run(skipped).map_err(|number| self.broken(number))?;
+        let mut outcome = rows.machine.run(budget.min(self.from - 1))?;
         let mut done = outcome.steps;
-        rows.print_head(out, self.from)?;
+        rows.print_head(out)?;
+        if outcome.end == SPENT && 0 < done && done < budget {
+            rows.print_stack(out, self.from)?;
+        }
         while outcome.end == SPENT && done < budget.min(self.last) {
-            outcome = rows.step(out, done + 1).map_err(|number| self.broken(number))??;
+            outcome = rows.step(out, done + 1)?;
             done += outcome.steps;
         }
         if outcome.end == SPENT && done < budget {
@@ -106,7 +106,7 @@ impl Trace<'_> {
         self.print_end(out, &rows, &outcome, done)
     }
 
-    /// The page's line about the end, and the sentence for people.
+    /// Prints the page's line about the end, and the sentence for people.
     fn print_end(
         &self,
         out: &mut Output,
@@ -118,13 +118,7 @@ impl Trace<'_> {
         let line = library::line_span(self.file.record, at).map_or(0, |span| span.line);
         let ended = Ended { end, at, line, steps, stack: rows.machine.stack().to_vec() };
         writeln!(out, "{}", ended.line_text())?;
-        out.say(&about(self.name, &ended.sentence(self.file, self.form)))?;
+        out.say(&about(self.name, &ended.sentence(self.file, rows.form)))?;
         Ok(ended.status())
-    }
-
-    /// For an answer that the library does not give to what it made itself.
-    fn broken(&self, number: u32) -> Failure {
-        let why = format!("the library refuses a state of its own with {number}");
-        Failure::Refused(self.name.to_owned(), why)
     }
 }

@@ -69,34 +69,34 @@ impl Verdict {
         }
     }
 
-    /// The whole of a refusal in words.
+    /// Says the whole of a refusal in words.
     pub fn refusal(&self) -> String {
         refusal(self.number, &self.reason)
     }
 
-    /// The code offset that is behind the number.
+    /// Finds the code offset that is behind the number.
     pub fn place(&self) -> Option<usize> {
         self.faults.first().map(|fault| fault.place.start)
     }
 
-    /// Whether a row of a listing is behind the number, by its offset.
+    /// Tells whether a row of a listing is behind the number, by its offset.
     pub fn blames(&self, offset: usize) -> bool {
         self.faults.iter().any(|fault| fault.holds(offset))
     }
 }
 
-/// A refusal with its reason.
+/// Writes a refusal with its reason.
 pub fn refusal(number: u32, reason: &str) -> String {
     format!("refused with {number}: {}: {reason}", meaning(number))
 }
 
-/// A run file taken apart, or its refusal with the rule that it breaks.
+/// Takes a run file apart, or refuses it with the rule that it breaks.
 pub fn split_run_file<'a>(name: &OsStr, bytes: &'a [u8]) -> Result<RunFile<'a>, Failure> {
     let refused = |rule| Failure::Refused(name.to_owned(), refusal(RUN_FILE_REFUSED, rule));
     RunFile::split(bytes).map_err(refused)
 }
 
-/// The first fault with its place, and how many more there are.
+/// Describes the first fault with its place, and counts the others.
 fn describe(record: &Record, number: u32, faults: &[Fault]) -> String {
     let [first, others @ ..] = faults else { return String::new() };
     let place = match number {

@@ -62,7 +62,7 @@ def test_parts(tests, page):
         ended = first + count - 1 >= len(rows)
         good = good and (out.splitlines()[-1] == whole.splitlines()[-1]) == ended
         good = good and (ended or f"stopped after step {first + count - 1}, as --steps asks\n" in out and status == 0)
-        if first > 1:
+        if 1 < first <= len(rows):
             before = rows[first - 2].splitlines()[0].split("  ")[-1].strip()
             good = good and out.splitlines()[1] == f"stack before step {first}: {before}"
         tests.expect(f"{page.name} from {first}, {count} steps", good, (status, out))

@@ -34,7 +34,7 @@ pub fn build(program: &Program) -> Result<Built, Vec<TextFault>> {
     Ok(Built { bytes, is_run_file, results, lines, procedure_lines })
 }
 
-/// The code: the entries, then the procedures. Notes the lines of the instructions.
+/// Makes the code: the entries, then the procedures. Notes the lines of the instructions.
 fn encode(layout: &Layout, lines: &mut BTreeMap<usize, usize>) -> Result<Vec<u8>, Vec<TextFault>> {
     let mut code = entries(layout)?;
     let mut faults = Vec::new();
@@ -59,7 +59,7 @@ fn encode(layout: &Layout, lines: &mut BTreeMap<usize, usize>) -> Result<Vec<u8>
     }
 }
 
-/// The halfword of each procedure from 0 on.
+/// Makes the halfword of each procedure from 0 on.
 fn entries(layout: &Layout) -> Result<Vec<u8>, Vec<TextFault>> {
     let mut entries = vec![0; 2 * layout.procedures.len()];
     for procedure in &layout.procedures {
@@ -93,7 +93,7 @@ fn record(program: &Program, layout: &Layout, code: &[u8]) -> Vec<u8> {
         .concat()
 }
 
-/// The head of a run file; none for a text that names nothing of one.
+/// Makes the head of a run file; none for a text that names nothing of one.
 fn head(run: &RunHead, results: &[u8]) -> Result<Option<Vec<u8>>, String> {
     let RunHead { parameters, budget, memory, stack } = run;
     if parameters.is_none() && budget.is_none() && memory.is_none() && stack.is_none() {

@@ -38,7 +38,7 @@ impl Parser {
         }
     }
 
-    /// A number, and a name that CALL.b may use.
+    /// Reads a number, and a name that CALL.b may use.
     fn read_procedure(&mut self, reader: &mut Reader) -> Result<(), String> {
         let number = reader.number(0..=BYTE)? as usize;
         let name = match reader.rest.first() {
@@ -50,7 +50,7 @@ impl Parser {
         Ok(())
     }
 
-    /// The source line of the next instruction, or of an offset of the code.
+    /// Reads the source line of the next instruction, or of an offset of the code.
     fn read_source_line(&mut self, reader: &mut Reader) -> Result<(), String> {
         let number = reader.number(0..=WORD)? as u32;
         if !reader.takes(&Token::Word("at".to_string())) {
@@ -84,7 +84,7 @@ fn read_bytes(reader: &mut Reader, list: &mut Vec<u8>) -> Result<(), String> {
     Ok(())
 }
 
-/// Words of the version table: numbers, or texts of four characters for each word.
+/// Reads words of the version table: numbers, or texts of four characters for each word.
 fn read_version(reader: &mut Reader, list: &mut Vec<u32>) -> Result<(), String> {
     while let Some(first) = reader.rest.first() {
         match first {

@@ -17,7 +17,7 @@ pub struct Place<'a> {
 }
 
 impl Place<'_> {
-    /// The bytes of an item, or what does not fit: a row of a switch with a line of its own.
+    /// Makes the bytes of an item, or says what does not fit: of a row with its own line.
     pub fn item_bytes(&self, item: &Item) -> Result<Vec<u8>, (Option<usize>, String)> {
         match item {
             Item::Label(_) | Item::SourceLine(_) => Ok(Vec::new()),
@@ -29,7 +29,7 @@ impl Place<'_> {
         }
     }
 
-    /// The bytes of an instruction other than a switch.
+    /// Makes the bytes of an instruction other than a switch.
     fn encode(&self, statement: &Statement) -> Result<Vec<u8>, String> {
         let (form, double) = (statement.form, statement.double);
         let prefix = Sheet::get().prefix.0;
@@ -53,7 +53,7 @@ impl Place<'_> {
         Ok(bytes)
     }
 
-    /// The number that an operand stands for.
+    /// Finds the number that an operand stands for.
     fn value(&self, operand: &Operand, operands: Operands) -> Result<i64, String> {
         match operand {
             Operand::Number(number) => Ok(*number),
@@ -66,7 +66,7 @@ impl Place<'_> {
         }
     }
 
-    /// The distance to a label of the same procedure.
+    /// Finds the distance to a label of the same procedure.
     pub fn distance(&self, label: &str) -> Result<i64, String> {
         let number = self.procedure.procedure.number;
         let missing =
@@ -76,14 +76,14 @@ impl Place<'_> {
     }
 }
 
-/// What the library reads of an instruction's bytes, which have to be all of it.
+/// Lets the library read an instruction's bytes, which have to be all of it.
 pub fn read_back(bytes: &[u8], name: &str) -> Result<Decoded, String> {
     let read = library::decode(bytes, bytes.len(), 0).ok();
     let whole = read.filter(|decoded| decoded.len == bytes.len());
     whole.ok_or_else(|| format!("the library does not read {name} as it is written here"))
 }
 
-/// The numbers that an operand may be: whether it is signed, the library shows.
+/// Finds the numbers that an operand may be: whether it is signed, the library shows.
 fn range(head: &[u8], width: usize) -> (i64, i64) {
     let ones = [head, &[0xff; 8][..]].concat();
     let read = library::decode(&ones, ones.len(), 0).map_or(0, |decoded| decoded.operand);

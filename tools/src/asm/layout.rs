@@ -49,7 +49,7 @@ impl<'a> Layout<'a> {
     }
 }
 
-/// The procedures in the order of their code, where each number from 0 on stands once.
+/// Puts the procedures in the order of their code, where each number from 0 on stands once.
 fn in_order(program: &Program) -> Result<Vec<&Procedure>, Vec<TextFault>> {
     let mut by_number = BTreeMap::new();
     for procedure in &program.procedures {
@@ -119,7 +119,7 @@ impl<'a> Builder<'a> {
     }
 }
 
-/// How many bytes of code an item makes.
+/// Counts the bytes of code that an item makes.
 pub fn item_len(item: &Item) -> usize {
     match item {
         Item::Bytes(bytes) => bytes.len(),
@@ -137,7 +137,7 @@ fn statement_len(statement: &Statement) -> usize {
 }
 
 impl Statement {
-    /// How many rows stand behind those of the exit and of ELSE.
+    /// Counts the rows behind those of the exit and of ELSE.
     pub fn counted_rows(&self) -> usize {
         let fixed = |row: &&Lined<(Key, _)>| matches!(row.item.0, Key::Exit | Key::Else);
         self.rows.len() - self.rows.iter().filter(fixed).count()

@@ -5,7 +5,7 @@ use super::tokens::{is_name, number, tokens, Reader, Token};
 use crate::sheet::{Operands, Sheet};
 use crate::switch_table::Key;
 
-/// The text taken apart, or what is wrong with its lines.
+/// Takes a text apart, or says what is wrong with its lines.
 pub fn parse(text: &str) -> Result<Program, Vec<TextFault>> {
     let mut parser = Parser { program: Program::default(), line: 0 };
     let mut faults = Vec::new();
@@ -29,7 +29,7 @@ pub struct Parser {
 }
 
 impl Parser {
-    /// A label, a directive, an instruction or the row of a switch; a label may stand before an
+    /// Reads a label, a directive, an instruction or the row of a switch; a label may stand before an
     /// instruction.
     fn read_line(&mut self, tokens: &[Token]) -> Result<(), String> {
         let mut reader = Reader { rest: tokens };
@@ -46,7 +46,7 @@ impl Parser {
         reader.end()
     }
 
-    /// The procedure that the present line belongs to.
+    /// Finds the procedure that the present line belongs to.
     fn procedure(&mut self) -> Result<&mut Procedure, String> {
         let missing = "expected .procedure N before the first label or instruction";
         self.program.procedures.last_mut().ok_or_else(|| missing.to_string())
@@ -79,7 +79,7 @@ impl Parser {
         self.add(Item::Statement(Statement { form, double, operands, rows: Vec::new() }))
     }
 
-    /// A row of the switch before it: what it is for, -> and where it leads.
+    /// Reads a row of the switch before it: what it is for, -> and where it leads.
     fn read_row(&mut self, reader: &mut Reader) -> Result<(), String> {
         let line = self.line;
         let last = self.procedure()?.items.last_mut();
@@ -118,7 +118,7 @@ fn read_operands(reader: &mut Reader, operands: Operands) -> Result<Vec<Operand>
     })
 }
 
-/// What a row is for: exit, else, a value, or a range.
+/// Reads what a row is for: exit, else, a value, or a range.
 fn read_key(reader: &mut Reader) -> Result<Key, String> {
     let what = "exit, else, a value or a range LOW .. HIGH";
     let fault = reader.expected(what);
@@ -139,13 +139,13 @@ fn read_key(reader: &mut Reader) -> Result<Key, String> {
     }
 }
 
-/// A number; whether it fits is seen when it is encoded.
+/// Reads a number; whether it fits is seen when it is encoded.
 fn read_number(reader: &mut Reader) -> Result<Operand, String> {
     let fault = reader.expected("a number");
     number(reader.word("a number")?).map(Operand::Number).ok_or(fault)
 }
 
-/// A name, or a number with or without a sign.
+/// Reads a name, or a number with or without a sign.
 fn read_target(reader: &mut Reader, what: &str) -> Result<Operand, String> {
     let fault = reader.expected(what);
     let word = reader.word(what)?;
@@ -156,7 +156,7 @@ fn read_target(reader: &mut Reader, what: &str) -> Result<Operand, String> {
     }
 }
 
-/// The instructions that may have been meant: those with the same name up to the dot.
+/// Names the instructions that may have been meant: those with the same name up to the dot.
 fn hint(word: &str, double: bool) -> String {
     let names = Sheet::get().names_like(word);
     let ends_in_digit = |name: &&&str| name.ends_with(|last: char| last.is_ascii_digit());

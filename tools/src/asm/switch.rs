@@ -28,7 +28,7 @@ pub fn encode(place: &Place, switch: &Statement) -> Result<Vec<u8>, Fault> {
     Ok(bytes)
 }
 
-/// The operand n, by the rows; one that is given has to be the same.
+/// Counts the operand n, by the rows; one that is given has to be the same.
 fn count(switch: &Statement) -> Result<u16, String> {
     let (form, rows) = (switch.form, switch.counted_rows());
     let bytes = (FIXED_BYTES + form.len_per_entry * rows).checked_sub(form.len);
@@ -43,7 +43,7 @@ fn count(switch: &Statement) -> Result<u16, String> {
     u16::try_from(count).map_err(|_| format!("{} has too many rows", form.name))
 }
 
-/// What stands before the distance of a row: the bounds of a range, nothing for a value.
+/// Makes what stands before the distance of a row: the bounds of a range, nothing for a value.
 fn bounds(switch: &Statement, row: &Lined<(Key, Operand)>, value: u32) -> Result<Vec<u8>, String> {
     let ranges = switch.form.len_per_entry > 2;
     match row.item.0 {
@@ -54,7 +54,7 @@ fn bounds(switch: &Statement, row: &Lined<(Key, Operand)>, value: u32) -> Result
     }
 }
 
-/// The distance of a row. In a range 0 stands for ELSE, so that it cannot lead to the switch itself.
+/// Makes the distance of a row. In a range 0 stands for ELSE: it cannot lead to the switch itself.
 fn distance(place: &Place, row: &Lined<(Key, Operand)>) -> Result<[u8; 2], Fault> {
     let fault = |text| (Some(row.line), text);
     let (key, target) = &row.item;

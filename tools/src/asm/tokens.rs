@@ -52,7 +52,7 @@ pub fn tokens(line: &str) -> Result<Vec<Token>, String> {
     Ok(found)
 }
 
-/// The length of the word that a text begins with.
+/// Measures the word that a text begins with.
 fn word_len(text: &str) -> usize {
     let ends = |&(at, char): &(usize, char)| {
         let behind = &text[at..];
@@ -64,7 +64,7 @@ fn word_len(text: &str) -> usize {
     text.char_indices().find(ends).map_or(text.len(), |(at, _)| at)
 }
 
-/// The bytes up to the closing quote, and what stands behind it. \xNN is a byte in hex; a quote and
+/// Reads up to the closing quote, and answers what stands behind it too. \xNN is a byte; a quote and
 /// a backslash have a backslash before them.
 fn text(rest: &str) -> Result<(Token, &str), String> {
     let mut bytes = Vec::new();
@@ -73,18 +73,24 @@ fn text(rest: &str) -> Result<(Token, &str), String> {
         let Some(first) = rest.chars().next() else {
             return Err("expected a closing \", found the end of the line".to_string());
         };
-        let hex = rest.strip_prefix("\\x").and_then(|behind| behind.get(..2));
-        let (byte, len) = match (first, hex) {
-            ('"', _) => return Ok((Token::Text(bytes), &rest[1..])),
-            (_, Some(digits)) => (u8::from_str_radix(digits, 16).ok(), 4),
-            ('\\', None) if rest[1..].starts_with(['"', '\\']) => (Some(rest.as_bytes()[1]), 2),
-            (' '..='~', None) if first != '\\' => (Some(first as u8), 1),
+        let (byte, len) = match first {
+            '"' => return Ok((Token::Text(bytes), &rest[1..])),
+            '\\' if rest[1..].starts_with(['"', '\\']) => (Some(rest.as_bytes()[1]), 2),
+            '\\' => (rest.strip_prefix("\\x").and_then(hex_byte), 4),
+            ' '..='~' => (Some(first as u8), 1),
             _ => (None, 0),
         };
         let fault = || format!("expected a character or \\xNN, found '{}'", first.escape_debug());
         bytes.push(byte.ok_or_else(fault)?);
         rest = &rest[len..];
     }
+}
+
+/// Reads the byte that two hex digits give.
+fn hex_byte(text: &str) -> Option<u8> {
+    let digits = text.get(..2)?;
+    let only_digits = digits.chars().all(|digit| digit.is_ascii_hexdigit());
+    u8::from_str_radix(digits, 16).ok().filter(|_| only_digits)
 }
 
 /// The tokens of a line that are still to be read.
@@ -117,7 +123,7 @@ impl<'a> Reader<'a> {
         }
     }
 
-    /// What was expected here, and what stands there.
+    /// Says what was expected here, and what stands there.
     pub fn expected(&self, what: &str) -> String {
         let found = self.rest.first().map_or("the end of the line".to_string(), Token::to_string);
         format!("expected {what}, found {found}")
@@ -149,18 +155,17 @@ impl<'a> Reader<'a> {
     }
 }
 
-/// A decimal number with or without a sign, or a hex one such as 0x1f.
+/// Reads a decimal number with or without a sign, or a hex one such as 0x1f.
 pub fn number(word: &str) -> Option<i64> {
     match word.strip_prefix("0x") {
-        Some(digits) if digits.starts_with(|first: char| first.is_ascii_hexdigit()) => {
-            i64::from_str_radix(digits, 16).ok()
-        }
-        Some(_) => None,
+        // A sign behind 0x would be read too.
+        Some(digits) if digits.starts_with(['+', '-']) => None,
+        Some(digits) => i64::from_str_radix(digits, 16).ok(),
         None => word.parse().ok(),
     }
 }
 
-/// Whether a word can name a label or a procedure.
+/// Tells whether a word can name a label or a procedure.
 pub fn is_name(word: &str) -> bool {
     let reserved = matches!(word, "exit" | "else" | "at");
     let letters = |char: char| char.is_ascii_alphanumeric() || char == '_';

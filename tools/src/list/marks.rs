@@ -20,7 +20,7 @@ impl<'a> Marks<'a> {
         Marks { verdict, stopped }
     }
 
-    /// The mark of a row, by its offset.
+    /// Chooses the mark of a row, by its offset.
     pub fn at(&self, offset: usize) -> char {
         match &self.stopped {
             _ if self.verdict.blames(offset) => '!',

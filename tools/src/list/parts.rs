@@ -16,7 +16,7 @@ pub fn print_head(out: &mut impl Write, file: &RunFile, file_len: usize) -> io::
     writeln!(out, "  stack      {} words", file.stack_words)
 }
 
-/// The sizes in a record's header, and the length that they come to.
+/// Prints the sizes in a record's header, and the length that they come to.
 pub fn print_sizes(out: &mut impl Write, record: &[u8]) -> io::Result<()> {
     writeln!(out, "record, {} bytes", record.len())?;
     let Some(sizes) = sizes(record) else { return Ok(()) };
@@ -46,7 +46,7 @@ pub fn print_tables(
     Ok(())
 }
 
-/// The version table as text, and as bytes.
+/// Prints the version table as text, and as bytes.
 fn print_version(out: &mut impl Write, version: &[u8]) -> io::Result<()> {
     if version.is_empty() {
         return Ok(());
@@ -56,7 +56,7 @@ fn print_version(out: &mut impl Write, version: &[u8]) -> io::Result<()> {
     writeln!(out, "  version    \"{text}\"  {}", hex(version))
 }
 
-/// Words in rows, each with the index of its first.
+/// Prints words in rows, each with the index of its first.
 fn print_words(out: &mut impl Write, name: &str, words: &[u32]) -> io::Result<()> {
     for (i, row) in words.chunks(WORDS_IN_ROW).enumerate() {
         let name = if i == 0 { name } else { "" };

@@ -22,7 +22,7 @@ pub struct Listing<'a> {
 }
 
 impl Listing<'_> {
-    /// The procedures in the order of their code.
+    /// Prints the procedures in the order of their code.
     pub fn print(&self, out: &mut impl Write) -> io::Result<()> {
         writeln!(out, "offset       line height  label  {:<26}  bytes", "instruction")?;
         for procedure in procedures(self.record) {
@@ -32,8 +32,8 @@ impl Listing<'_> {
         Ok(())
     }
 
-    /// The instructions of a procedure, up to the first that cannot be decoded; from there on its
-    /// bytes.
+    /// Prints the instructions of a procedure, up to the first that cannot be decoded; from there on
+    /// its bytes.
     fn print_procedure(&self, out: &mut impl Write, procedure: &Procedure) -> io::Result<()> {
         for instruction in &procedure.instructions {
             self.print_instruction(out, instruction)?;
@@ -58,8 +58,8 @@ impl Listing<'_> {
         writeln!(out, "{mark}{at:5} {line:10} {height:>6} {label:>6}  {text:<26}  {bytes}")
     }
 
-    /// A row of a switch's table, in the columns of an instruction; line, height and label stay
-    /// empty.
+    /// Prints a row of a switch's table, in the columns of an instruction; line, height and label
+    /// stay empty.
     fn print_row(&self, out: &mut impl Write, switch: usize, row: &Row) -> io::Result<()> {
         let Row { at, len, key, .. } = row;
         let target = row.target(switch).map_or("else".to_string(), |target| target.to_string());
@@ -69,7 +69,7 @@ impl Listing<'_> {
     }
 }
 
-/// Code that is not cut into instructions.
+/// Prints code that is not cut into instructions.
 pub fn print_uncut(out: &mut impl Write, code: &[u8]) -> io::Result<()> {
     writeln!(out, "code, not cut into instructions")?;
     print_bytes(out, code, 0..code.len())
@@ -83,7 +83,7 @@ fn print_bytes(out: &mut impl Write, code: &[u8], place: Range<usize>) -> io::Re
     Ok(())
 }
 
-/// What the check leaves in the workspace is one more than what it stands for, and 0 for nothing.
+/// Writes what a halfword of the workspace stands for: one less than it is, and nothing for 0.
 fn workspace_text(left: u16) -> String {
     left.checked_sub(1).map_or("-".to_string(), |number| number.to_string())
 }

@@ -61,7 +61,7 @@ fn print_words(out: &mut impl Write, directive: &str, words: &[u32]) -> io::Resu
     words.chunks(WORDS_IN_ROW).try_for_each(|row| writeln!(out, "{directive}{}", spaced(row)))
 }
 
-/// A word of the version table as its four characters, where a string can have them.
+/// Writes a word of the version table as its four characters, where a string can have them.
 fn version_word(bytes: &[u8]) -> String {
     let plain = |byte: &u8| matches!(byte, b' '..=b'~') && !matches!(byte, b'"' | b'\\');
     match std::str::from_utf8(bytes) {
@@ -135,7 +135,7 @@ impl Text<'_> {
     }
 }
 
-/// The label of an offset.
+/// Names the label of an offset.
 fn label(offset: i64) -> String {
     format!("L{offset}")
 }

@@ -1,6 +1,7 @@
 //! The rows of a trace: a step, and the memory words that it changed.
 
 use crate::bytes::{spaced, WordForm};
+use crate::failure::Failure;
 use crate::instruction::Instruction;
 use crate::library;
 use crate::machine::{Machine, Outcome, FINISHED, SPENT};
@@ -19,19 +20,19 @@ pub struct Rows<'a> {
 }
 
 impl Rows<'_> {
-    /// The columns' names, and what the stack holds before the first step that is shown.
-    pub fn print_head(&self, out: &mut impl Write, from: u32) -> io::Result<()> {
+    /// Prints the names of the columns.
+    pub fn print_head(&self, out: &mut impl Write) -> io::Result<()> {
         let (line, instruction) = ("line", "instruction");
-        writeln!(out, "  step calls offset  {line:<18} {instruction:<26} stack after it")?;
-        if from > 1 {
-            writeln!(out, "stack before step {from}: {}", self.stack_text())?;
-        }
-        Ok(())
+        writeln!(out, "  step calls offset  {line:<18} {instruction:<26} stack after it")
     }
 
-    /// Takes a step and prints it. Answers how it ended, or the number that the library refuses it
-    /// with.
-    pub fn step(&mut self, out: &mut impl Write, number: u32) -> Result<io::Result<Outcome>, u32> {
+    /// Prints what the stack holds before the first step that is shown.
+    pub fn print_stack(&self, out: &mut impl Write, from: u32) -> io::Result<()> {
+        writeln!(out, "stack before step {from}: {}", self.stack_text())
+    }
+
+    /// Takes a step, prints it, and answers how it ended.
+    pub fn step(&mut self, out: &mut impl Write, number: u32) -> Result<Outcome, Failure> {
         let (at, calls) = (self.machine.place(), self.machine.calls());
         let before = self.machine.memory.clone();
         let outcome = self.machine.run(1)?;
@@ -41,12 +42,12 @@ impl Rows<'_> {
         };
         let (line, text, stack) =
             (self.line_text(at), self.instruction_text(at), self.stack_text());
-        let printed = writeln!(out, "{step:>6} {calls:>5} {at:>6}  {line:<18} {text:<26} {stack}")
-            .and_then(|()| self.print_changes(out, &before));
-        Ok(printed.map(|()| outcome))
+        writeln!(out, "{step:>6} {calls:>5} {at:>6}  {line:<18} {text:<26} {stack}")?;
+        self.print_changes(out, &before)?;
+        Ok(outcome)
     }
 
-    /// The source line of an offset, with its first and last one.
+    /// Writes the source line of an offset, with its first and last one.
     fn line_text(&self, at: usize) -> String {
         let span = library::line_span(self.record.bytes, at);
         span.map_or(String::new(), |span| {
@@ -77,7 +78,7 @@ impl Rows<'_> {
         Ok(())
     }
 
-    /// What a memory word is, as far as its address tells.
+    /// Says what a memory word is, as far as its address tells.
     fn name_of(&self, at: usize) -> String {
         let (globals, frame) = (self.record.globals as usize, self.machine.frame());
         let local = at.checked_sub(frame);
