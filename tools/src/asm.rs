@@ -65,7 +65,8 @@ output. Each line has one of these; ; begins a comment:
     -2 .. 5 -> NAME       (NAME or else)
 
 A text with .budget, .memory and .stack is that of a run file. Numbers are decimal, or hex with 0x.
-What is made is checked, and loaded too if it is a run file; where it is refused, nothing is written.
+What is made is checked, and loaded too if it is a run file. Where it is refused, nothing is
+written.
 
   -o OUT      write to a file
   --no-check  write it unchecked, to look at a refusal

@@ -1,5 +1,5 @@
-//! The instructions behind the numbers 10 to 14. Which number it is the library says; the rules here
-//! are 01's, and find the places that break them.
+//! The instructions behind the numbers 10 to 14. Which number it is the library says; the rules
+//! here are 01's, and find the places that break them.
 
 use crate::bytes::counted;
 use crate::code::Procedure;

@@ -1,7 +1,7 @@
 //! `icode list`: a record or a run file for people: its parts, and its code with offsets, source
 //! lines, mnemonics and bytes. Beside each instruction stand the height of its procedure's share of
-//! the stack and the topmost label, as the check's workspace shows them. What a refusal or a trap is
-//! about has a mark.
+//! the stack and the topmost label, as the check's workspace shows them. What a refusal or a trap
+//! is about has a mark.
 
 mod marks;
 mod parts;

@@ -79,8 +79,8 @@ impl<'a> Machine<'a> {
     }
 }
 
-/// Counts the stack words that the instruction at an offset has to find, by asking the machine: with
-/// fewer it traps 22, before it looks at anything else.
+/// Counts the stack words that the instruction at an offset has to find, by asking the machine:
+/// with fewer it traps 22, before it looks at anything else.
 pub fn words_found(record: &Record, at: usize) -> usize {
     let fresh = || Machine::with_sizes(record.bytes, &[], record.loaded_words(), MAX_STACK_WORDS);
     let enough = |height: &usize| {

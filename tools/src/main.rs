@@ -1,6 +1,6 @@
-//! The program for people who work with I-Code: `list` shows a record or a run file, `asm` makes one
-//! from text, `trace` shows its run step by step, `page` prints its page. The proved library decodes,
-//! checks, loads and runs; nothing of that is done here.
+//! The program for people who work with I-Code: `list` shows a record or a run file, `asm` makes
+//! one from text, `trace` shows its run step by step, `page` prints its page. The proved library
+//! decodes, checks, loads and runs; nothing of that is done here.
 
 #![deny(unsafe_code)]
 

@@ -1,8 +1,8 @@
 //! The numbers that refuse a record or a run file, and those of the traps.
 
 /// Says what a number means, in the words of 01's table ("Numbers handed back"); 6 and 7 say what
-/// its "as above" stands for. 8 is the load's: the check is lent enough workspace. The code traps, 20
-/// to 23, do not arise: only accepted code runs.
+/// its "as above" stands for. 8 is the load's: the check is lent enough workspace. The code traps,
+/// 20 to 23, do not arise: only accepted code runs.
 pub fn meaning(number: u32) -> &'static str {
     match number {
         1 => "record under 28 bytes",

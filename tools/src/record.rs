@@ -83,8 +83,8 @@ impl<'a> Record<'a> {
         words(self.source).chunks_exact(2).map(|pair| (pair[0], pair[1])).collect()
     }
 
-    /// Reads the offset at which each procedure of a sound record begins. 01: "If entry 0 is 2, there is
-    /// one"; else half of entry 1 is their number.
+    /// Reads the offset at which each procedure of a sound record begins. 01: "If entry 0 is 2,
+    /// there is one"; else half of entry 1 is their number.
     pub fn entries(&self) -> Vec<usize> {
         let entry = |procedure: usize| usize::from(halfword(self.code, 2 * procedure));
         let count = if entry(0) == 2 { 1 } else { entry(1) / 2 };

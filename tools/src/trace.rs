@@ -1,5 +1,5 @@
-//! `icode trace`: the run of a run file, step by step. Each step is a run of the proved machine with
-//! a budget of 1, and nothing of it is kept, so that a trace may be as long as the run.
+//! `icode trace`: the run of a run file, step by step. Each step is a run of the proved machine
+//! with a budget of 1, and nothing of it is kept, so that a trace may be as long as the run.
 
 mod rows;
 

@@ -1,5 +1,5 @@
-//! The bytes of an instruction. The library reads them back: what it does not read as it was written
-//! does not fit.
+//! The bytes of an instruction. The library reads them back: what it does not read as it was
+//! written does not fit.
 
 use super::layout::{Layout, Placed};
 use super::program::{Item, Operand, Statement};

@@ -29,8 +29,8 @@ pub struct Parser {
 }
 
 impl Parser {
-    /// Reads a label, a directive, an instruction or the row of a switch; a label may stand before an
-    /// instruction.
+    /// Reads a label, a directive, an instruction or the row of a switch; a label may stand before
+    /// an instruction.
     fn read_line(&mut self, tokens: &[Token]) -> Result<(), String> {
         let mut reader = Reader { rest: tokens };
         if let [Token::Word(name), Token::Colon, rest @ ..] = tokens {

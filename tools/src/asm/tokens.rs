@@ -64,8 +64,8 @@ fn word_len(text: &str) -> usize {
     text.char_indices().find(ends).map_or(text.len(), |(at, _)| at)
 }
 
-/// Reads up to the closing quote, and answers what stands behind it too. \xNN is a byte; a quote and
-/// a backslash have a backslash before them.
+/// Reads up to the closing quote, and answers what stands behind it too. \xNN is a byte; a quote
+/// and a backslash have a backslash before them.
 fn text(rest: &str) -> Result<(Token, &str), String> {
     let mut bytes = Vec::new();
     let mut rest = rest;

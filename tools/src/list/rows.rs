@@ -32,8 +32,8 @@ impl Listing<'_> {
         Ok(())
     }
 
-    /// Prints the instructions of a procedure, up to the first that cannot be decoded; from there on
-    /// its bytes.
+    /// Prints the instructions of a procedure, up to the first that cannot be decoded; from there
+    /// on its bytes.
     fn print_procedure(&self, out: &mut impl Write, procedure: &Procedure) -> io::Result<()> {
         for instruction in &procedure.instructions {
             self.print_instruction(out, instruction)?;
