@@ -62,6 +62,7 @@ def damaged_file(tests, name, content):
     """Through list, list --asm and trace. Answers the number of list where the file is taken as a run file."""
     _, out, err = answered(tests, name, content, "list")
     listed = number_of(out, err)
+    tests.expect(f"{name}: marks", ("!" in marked(out.decode())) == (10 <= listed <= 15), (out, content.hex()))
     traced, _, err = answered(tests, name, content, "trace", "--steps", "40")
     run_file = content.startswith(b"TRK")
     if run_file:

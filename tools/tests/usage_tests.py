@@ -109,8 +109,7 @@ def test_written(tests, folder):
     found, out, err = tests.run_bytes("asm", text, "-o", "-")
     tests.expect("-o -", (found, out, err) == (0, record_of(b"\0\2\xe9"), ""), (found, out, err))
     master, terminal = pty.openpty()
-    status, _, err = tests.run("asm", text, stdout=terminal)
-    tests.expect("to a terminal", status == 2 and "standard output is a terminal; -o OUT names a file" in err, (status, err))
+    tests.expect_run("to a terminal", ("asm", text), 2, "standard output is a terminal; -o OUT names a file", stdout=terminal)
     os.close(master)
     os.close(terminal)
     with open("/dev/null", "wb") as null:
