@@ -16,6 +16,16 @@ pub enum Status {
     Trouble = 2,
 }
 
+impl Status {
+    pub fn of(done: bool) -> Status {
+        if done {
+            Status::Done
+        } else {
+            Status::NotDone
+        }
+    }
+}
+
 pub enum Failure {
     /// The arguments cannot be followed; then the command's usage.
     Usage(String, &'static str),

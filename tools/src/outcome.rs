@@ -57,11 +57,7 @@ impl Ended {
     }
 
     pub fn status(&self) -> Status {
-        if self.is_finished() {
-            Status::Done
-        } else {
-            Status::NotDone
-        }
+        Status::of(self.is_finished())
     }
 
     /// Writes the page's line about the end.

@@ -62,11 +62,7 @@ impl Verdict {
     }
 
     pub fn status(&self) -> Status {
-        if self.is_accepted() {
-            Status::Done
-        } else {
-            Status::NotDone
-        }
+        Status::of(self.is_accepted())
     }
 
     /// Says the whole of a refusal in words.
