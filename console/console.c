@@ -2,6 +2,7 @@
  * has the reports alone; what is meant for people goes to standard error. */
 #include "icode.h"
 #include "messages.h"
+#include "refusal.h"
 #include "run_file.h"
 
 #include <inttypes.h>
@@ -63,17 +64,20 @@ static void print_help(void)
           "refused, trapped or spent, 2 for errors of usage, reading or writing.\n", stdout);
 }
 
-static void explain_refusal(const char *name, uint32_t number)
+/* The number of a refusal, its meaning, and what is behind it. */
+static void explain_refusal(const char *name, uint32_t number, struct bytes file)
 {
-    fprintf(stderr, PROGRAM ": %s: refused with %" PRIu32 ": %s\n", shown_name(name), number, meaning_of(number));
+    char reason[REASON_MAX];
+    find_reason(number, file, reason);
+    fprintf(stderr, PROGRAM ": %s: refused with %" PRIu32 ": %s%s%s\n", shown_name(name), number, meaning_of(number),
+            reason[0] != '\0' ? "; " : "", reason);
 }
 
 /* For a run that did not finish: how it ended, and where. */
 static void explain_end(const char *name, const struct outcome *outcome)
 {
-    char line[32] = "no source line";
-    if (outcome->line != 0)
-        (void)snprintf(line, sizeof line, "source line %" PRIu32, outcome->line);
+    char text[LINE_TEXT_MAX];
+    const char *line = line_text(outcome->line, text);
     if (outcome->end == END_SPENT)
         fprintf(stderr, PROGRAM ": %s: spent after %" PRIu32 " steps; next is offset %" PRIu32 ", %s\n", shown_name(name),
                 outcome->steps, outcome->at, line);
@@ -108,7 +112,7 @@ static enum status report_file(const char *name, struct bytes file)
     if (outcome.check == 0 && outcome.end == END_FINISHED)
         return STATUS_DONE;
     if (outcome.check != 0)
-        explain_refusal(name, outcome.check);
+        explain_refusal(name, outcome.check, file);
     else
         explain_end(name, &outcome);
     return STATUS_NOT_DONE;
@@ -127,7 +131,7 @@ static enum status check_file(const char *name, struct bytes file)
         return STATUS_TROUBLE;
     if (number == 0)
         return STATUS_DONE;
-    explain_refusal(name, number);
+    explain_refusal(name, number, file);
     return STATUS_NOT_DONE;
 }
 

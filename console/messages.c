@@ -1,6 +1,7 @@
 #include "messages.h"
 
 #include <errno.h>
+#include <inttypes.h>
 #include <signal.h>
 #include <stddef.h>
 #include <stdio.h>
@@ -43,6 +44,15 @@ const char *meaning_of(uint32_t number)
     };
     const char *meaning = number < sizeof meanings / sizeof meanings[0] ? meanings[number] : NULL;
     return meaning != NULL ? meaning : "a number without a meaning";
+}
+
+const char *line_text(uint32_t line, char text[LINE_TEXT_MAX])
+{
+    if (line == 0)
+        (void)snprintf(text, LINE_TEXT_MAX, "no source line");
+    else
+        (void)snprintf(text, LINE_TEXT_MAX, "source line %" PRIu32, line);
+    return text;
 }
 
 const char *shown_name(const char *name)

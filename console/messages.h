@@ -8,6 +8,11 @@
 /* The meaning of a refusal or a trap, in the words of 01's table ("Numbers handed back"). */
 const char *meaning_of(uint32_t number);
 
+enum { LINE_TEXT_MAX = 32 };
+
+/* How messages call a source line; 0 is none. Answers the text. */
+const char *line_text(uint32_t line, char text[LINE_TEXT_MAX]);
+
 /* How messages call a file: by its name, or "standard input" for "-". */
 const char *shown_name(const char *name);
 

@@ -180,6 +180,52 @@ def test_largest(tests):
     tests.expect("largest report", (status, out) == (1, report) and "trap 36: stack full" in err, (status, out[:80], err))
 
 
+def small_file(code, results=b"\0", parameters=0, memory=64, stack=16, pairs=()):
+    """A run file with two globals and a constant, and any code."""
+    source = b"".join(number.to_bytes(4, "big") for pair in pairs for number in pair)
+    header = b"".join(size.to_bytes(4, "big") for size in (0, len(code), 2, 1, 0, 0, len(source) // 4))
+    lists = bytes([len(results)]) + results + bytes([parameters]) + bytes(4 * parameters)
+    sizes = (100).to_bytes(4, "big") + memory.to_bytes(2, "big") + stack.to_bytes(2, "big")
+    return b"TRK\0\1" + lists + sizes + header + code + bytes(4) + source
+
+
+def test_reasons(tests):
+    """What is behind a refusal: the rule of the run file, the causes of the load, the first instruction with its place."""
+    sound = bytes([0, 2, 0xE9])
+    two = bytes([0, 8, 0, 4, 0xE8, 0, 0, 0xE9])  # procedure 1 is ENTER and RTN; procedure 0 begins at 8
+    switch = bytes([0, 2, 0x00, 0xE2, 0, 0, 0, 10, 0, 9, 0, 9, 0xE4, 0xE9])  # SWITCH at 3, LEAVE at 12, RTN at 13
+    search = bytes([0, 2, 0x00, 0xE3, 0, 1, 0, 18, 0, 17]) + bytes(8) + bytes([0, 0, 0xE4, 0xE9])  # SWITCH_X with ELSE as its range
+    cases = [
+        (16, b"", "it does not begin with TRK and version 1"), (16, b"TRK\0\2" + bytes(60), "it does not begin with TRK and version 1"),
+        (16, b"TRK\0\1\1", "it ends inside its head"), (16, b"TRK\0\1" + bytes(8188), "it is longer than 8,192 bytes"),
+        (16, small_file(sound, memory=4097), "it asks for more than 4,096 words of memory"),
+        (8, small_file(sound, parameters=3), "parameters 3, globals 2"), (8, small_file(sound, memory=5), "memory 5, 3+g+c is 6"),
+        (8, small_file(sound, stack=1025), "stack 1025"),
+        (8, small_file(sound, parameters=3, memory=0, stack=65535), "parameters 3, globals 2, memory 0, 3+g+c is 6, stack 65535"),
+        (12, small_file(bytes([0, 2, 0xDA, 1, 0xE9]), pairs=[(2, 7)]), "at offset 2, source line 7: it leads to 3"),
+        (12, small_file(bytes([0, 2, 0xDA, 0xFD, 0xE9])), "at offset 2, no source line: it leads to -1"),
+        (12, small_file(bytes([0, 2, 0xFF])), "at offset 2, no source line: it leads to 3"),
+        (12, small_file(two + bytes([0xDA, 0xFC, 0xE9]), b"\0\0"),
+         "at offset 8, no source line: it leads to 4, where no instruction of procedure 0 begins"),
+        (12, small_file(switch.replace(bytes([0, 10, 0, 9]), bytes([0, 11, 0, 9]))), "at offset 3, no source line: it leads to 14"),
+        (12, small_file(search.replace(bytes([0, 18, 0, 17]), bytes([0, 18, 0, 16]))), "at offset 3, no source line: it leads to 19"),
+        (13, small_file(two.replace(b"\xE8\0\0", b"\xFF\xFF\xFF") + b"\xE9", b"\0\0"),
+         "at offset 4, no source line: procedure 1 does not begin with ENTER"),
+        (13, small_file(bytes([0, 2, 0xFF, 0xE8, 0, 0, 0xE9])), "at offset 3, no source line: procedure 0 has an ENTER inside"),
+        (13, small_file(bytes([0, 2, 0xE8, 1, 0, 0xE9])), "at offset 2, no source line: procedure 0 has an ENTER with parameters"),
+        (14, small_file(two + bytes([0x72, 0xE9]), b"\0\0"), "at offset 8, no source line: it calls procedure 2 of 2"),
+        (14, small_file(two + bytes([0xE5, 0, 0xE9]), b"\0\0"), "at offset 8, no source line: it calls procedure 0 of 2"),
+    ]
+    for number, file, words in cases:
+        status, out, err = tests.run("-", input=file)
+        good = (status, out) == (1, b"check %d\n" % number) and err.count("\n") == 1
+        good = good and f": refused with {number}: " in err and f"; {words}" in err
+        tests.expect(f"reason for {number}: {words}", good, (status, out, err))
+    for code, results in ((switch, b"\0"), (search, b"\0"), (two + b"\xE9", b"\0\0")):
+        status, out, err = tests.run("-", input=small_file(code, results))
+        tests.expect(f"accepted: {code.hex()}", (status, err) == (0, ""), (status, out, err))
+
+
 def test_outputs(tests, page):
     read, write = os.pipe()
     os.close(read)
@@ -213,6 +259,7 @@ def main():
         test_inputs(tests, page, report, Path(folder))
     test_slow_pipe(tests, page, report)
     test_largest(tests)
+    test_reasons(tests)
     test_outputs(tests, page)
     print(f"console: {len(pages)} pages; {tests.passed} passed, {len(tests.failures)} failed")
     return 1 if tests.failures else 0

@@ -1,70 +1,97 @@
-//! What the arguments ask for.
+//! Options and files of a command.
 
-use crate::failure::Failure;
+use crate::failure::escaped;
 use std::ffi::{OsStr, OsString};
+use std::os::unix::ffi::OsStrExt;
 
-const MAX_PROCEDURES: usize = 256;
-
-pub const USAGE: &str = "\
-usage: listing [--results DIGITS] FILE
-       listing --help
-";
-
-pub const HELP: &str = "\
-Lists a record or a run file (- is standard input): its parts, then its code. For each instruction:
-
-  offset  of its first byte in the code
-  line    in the source, 0 where the source table has none
-  height  words and labels that its procedure has on the stack before it, - where it is not reached
-  label   offset of the ITER or SWITCH that pushed the topmost label, - where there is none
-
-A run file is run as it stands. Where that ends in a trap, * stands before the trapped instruction
-and > before all else of its source line.
-
-  --results DIGITS  how many result words each procedure leaves, from procedure 0 on, such as 001;
-                    else the run file's list, or 0 for each
-
-Exit status: 0 when check accepts the record, 1 when it or the run file is refused, 2 for errors of
-usage, reading or writing.
-";
-
-pub enum Request {
-    Help,
-    List { file: OsString, digits: Option<OsString> },
+/// An option that a command knows.
+pub struct Flag {
+    pub name: &'static str,
+    /// What its value is called in the help, where it takes one.
+    pub value: Option<&'static str>,
 }
 
-impl Request {
-    /// The request, or why the arguments cannot be followed.
-    pub fn parse(mut arguments: impl Iterator<Item = OsString>) -> Result<Request, String> {
-        let (mut help, mut file, mut digits) = (false, None, None);
+pub struct Arguments {
+    pub help: bool,
+    pub files: Vec<OsString>,
+    /// Options in the order given, each with its value (empty where it takes none).
+    options: Vec<(&'static str, OsString)>,
+}
+
+impl Arguments {
+    /// Takes arguments apart: options by themselves or with a value, as `--name VALUE` or
+    /// `--name=VALUE`; all else are files, and so is everything after `--`. Answers what cannot be
+    /// followed.
+    pub fn parse(
+        mut arguments: impl Iterator<Item = OsString>,
+        flags: &[Flag],
+    ) -> Result<Arguments, String> {
+        let mut parsed = Arguments { help: false, files: Vec::new(), options: Vec::new() };
         while let Some(argument) = arguments.next() {
-            match argument.as_encoded_bytes() {
-                b"--help" => help = true,
-                b"--results" => {
-                    digits = Some(arguments.next().ok_or_else(|| not_followed(&argument))?);
+            match argument.as_bytes() {
+                b"--" => parsed.files.extend(arguments.by_ref()),
+                b"--help" | b"-h" => {
+                    parsed.help = true;
+                    return Ok(parsed);
                 }
-                [b'-', _, ..] => return Err(not_followed(&argument)),
-                _ if file.is_some() => return Err("one file at a time".to_string()),
-                _ => file = Some(argument),
+                [b'-', _, ..] => {
+                    let option = read_option(&argument, &mut arguments, flags)?;
+                    parsed.options.push(option);
+                }
+                _ => parsed.files.push(argument),
             }
         }
-        match file {
-            _ if help => Ok(Request::Help),
-            Some(file) => Ok(Request::List { file, digits }),
-            None => Err("no file is given".to_string()),
+        Ok(parsed)
+    }
+
+    pub fn has(&self, name: &str) -> bool {
+        self.value(name).is_some()
+    }
+
+    /// Finds the value of an option: of the last one where it is given more than once.
+    pub fn value(&self, name: &str) -> Option<&OsStr> {
+        let found = self.options.iter().rev().find(|(option, _)| *option == name);
+        found.map(|(_, value)| value.as_os_str())
+    }
+
+    /// Reads the value of an option as a number of steps.
+    pub fn number(&self, name: &str) -> Result<Option<u32>, String> {
+        let Some(value) = self.value(name) else { return Ok(None) };
+        let number = value.to_str().and_then(|text| text.parse().ok());
+        let fault =
+            || format!("{name} takes a number from 0 to {}, not '{}'", u32::MAX, escaped(value));
+        number.map(Some).ok_or_else(fault)
+    }
+
+    pub fn one_file(&self) -> Result<&OsStr, String> {
+        match &self.files[..] {
+            [file] => Ok(file),
+            [] => Err("no file is given".to_string()),
+            _ => Err("one file at a time".to_string()),
         }
     }
 }
 
-fn not_followed(option: &OsStr) -> String {
-    format!("unknown or unfinished option '{}'", option.display())
-}
-
-/// The results list from its digits.
-pub fn parse_results(digits: &OsStr) -> Result<Vec<u8>, Failure> {
-    let bytes = digits.as_encoded_bytes();
-    if bytes.len() > MAX_PROCEDURES || !bytes.iter().all(u8::is_ascii_digit) {
-        return Err(Failure::NoDigits(digits.to_owned()));
+/// Reads an option with its value, which may be the next argument.
+fn read_option(
+    argument: &OsStr,
+    rest: &mut impl Iterator<Item = OsString>,
+    flags: &[Flag],
+) -> Result<(&'static str, OsString), String> {
+    let bytes = argument.as_bytes();
+    let end = bytes.iter().position(|&byte| byte == b'=').unwrap_or(bytes.len());
+    let (name, behind) = bytes.split_at(end);
+    let behind = behind.get(1..).map(|value| OsStr::from_bytes(value).to_owned());
+    let Some(flag) = flags.iter().find(|flag| flag.name.as_bytes() == name) else {
+        return Err(format!("unknown option '{}'", escaped(argument)));
+    };
+    match (flag.value, behind) {
+        (None, None) => Ok((flag.name, OsString::new())),
+        (None, Some(_)) => Err(format!("{} takes no value", flag.name)),
+        (Some(_), Some(value)) => Ok((flag.name, value)),
+        (Some(called), None) => {
+            let missing = || format!("{} needs {called} behind it", flag.name);
+            Ok((flag.name, rest.next().ok_or_else(missing)?))
+        }
     }
-    Ok(bytes.iter().map(|digit| digit - b'0').collect())
 }

@@ -1,73 +1,104 @@
-//! What keeps a file from being listed, in words and as an exit status.
+//! What keeps a command from doing its work, in words and as an exit status.
 
-use crate::arguments::USAGE;
-use crate::meaning::meaning;
-use std::ffi::{os_str, OsStr, OsString};
-use std::fmt;
+use std::ffi::{OsStr, OsString};
 use std::io;
 
-/// Exit status for a record or a run file that is refused.
-pub const REFUSED: u8 = 1;
-/// Exit status for errors of usage, reading or writing.
-const TROUBLE: u8 = 2;
+/// Begins every message that is not about a line of an assembler text.
+pub const PROGRAM: &str = "icode";
 
-/// The number of a run file that is malformed or too long.
-const RUN_FILE_REFUSED: u32 = 16;
+/// How a command ended; the worst one of all files is the program's exit status.
+#[derive(Clone, Copy, PartialEq, Eq, PartialOrd, Ord)]
+pub enum Status {
+    Done = 0,
+    /// Refused, trapped or spent.
+    NotDone = 1,
+    /// Errors of usage, reading or writing.
+    Trouble = 2,
+}
+
+impl Status {
+    pub fn of(done: bool) -> Status {
+        if done {
+            Status::Done
+        } else {
+            Status::NotDone
+        }
+    }
+}
 
 pub enum Failure {
-    /// The arguments cannot be followed.
-    Usage(String),
-    /// Something else is given as results list.
-    NoDigits(OsString),
+    /// The arguments cannot be followed; then the command's usage.
+    Usage(String, &'static str),
     Unreadable(OsString, io::Error),
-    TooLong(OsString),
-    /// A run file with such a fault.
-    Malformed(OsString, &'static str),
+    /// Of standard output.
     Unwritable(io::Error),
+    UnwritableFile(OsString, io::Error),
+    /// A file that is refused, with the reason.
+    Refused(OsString, String),
+    /// An assembler text with faults, each with its file and line.
+    Text(Vec<String>),
+    /// The library refuses with a number what it made itself.
+    Library(u32),
+}
+
+/// Reading has its own failures, so that what is left are errors of standard output.
+impl From<io::Error> for Failure {
+    fn from(error: io::Error) -> Failure {
+        Failure::Unwritable(error)
+    }
 }
 
 impl Failure {
-    pub fn status(&self) -> u8 {
+    pub fn status(&self) -> Status {
         match self {
-            Failure::TooLong(_) | Failure::Malformed(..) => REFUSED,
-            _ => TROUBLE,
+            Failure::Refused(..) | Failure::Text(_) => Status::NotDone,
+            _ => Status::Trouble,
         }
     }
-}
 
-impl fmt::Display for Failure {
-    fn fmt(&self, to: &mut fmt::Formatter) -> fmt::Result {
+    pub fn message(&self) -> String {
         match self {
-            Failure::Usage(fault) => write!(to, "{fault}\n{}", USAGE.trim_end()),
-            Failure::NoDigits(text) => write!(
-                to,
-                "'{}' is no list of digits, one for each of at most 256 procedures",
-                text.display()
-            ),
+            Failure::Usage(fault, usage) => format!("{PROGRAM}: {fault}\nusage: {usage}"),
             Failure::Unreadable(name, error) => {
-                write!(to, "cannot read '{}': {}", shown(name), reason(error))
-            }
-            Failure::TooLong(name) => {
-                write!(to, "{}: longer than any record or run file", shown(name))
-            }
-            Failure::Malformed(name, fault) => {
-                let (name, number) = (shown(name), RUN_FILE_REFUSED);
-                write!(to, "{name}: refused with {number}: {}: {fault}", meaning(number))
+                format!("{PROGRAM}: cannot read '{}': {}", shown(name), reason(error))
             }
             Failure::Unwritable(error) => {
-                write!(to, "cannot write to standard output: {}", reason(error))
+                format!("{PROGRAM}: cannot write to standard output: {}", reason(error))
+            }
+            Failure::UnwritableFile(name, error) => {
+                format!("{PROGRAM}: cannot write '{}': {}", shown(name), reason(error))
+            }
+            Failure::Refused(name, why) => about(name, why),
+            Failure::Text(faults) => faults.join("\n"),
+            Failure::Library(number) => {
+                format!("{PROGRAM}: the library refuses what it made itself with {number}")
             }
         }
     }
 }
 
-/// How messages call a file.
-fn shown(name: &OsStr) -> os_str::Display<'_> {
-    let name = if name == "-" { OsStr::new("standard input") } else { name };
-    name.display()
+/// Begins a message with the file that it is about.
+pub fn about(name: &OsStr, message: &str) -> String {
+    format!("{PROGRAM}: {}: {message}", shown(name))
 }
 
-/// The system's words alone, without the number that Rust puts behind them.
+/// Names a file for people.
+pub fn shown(name: &OsStr) -> String {
+    if name == "-" {
+        "standard input".to_string()
+    } else {
+        escaped(name)
+    }
+}
+
+/// Escapes control bytes and bytes that are no text, so that a name cannot look like a line of
+/// ours.
+pub fn escaped(name: &OsStr) -> String {
+    let quoted = format!("{name:?}");
+    quoted[1..quoted.len() - 1].to_string()
+}
+
+/// Takes the system's words alone, without the number that Rust puts behind them.
 fn reason(error: &io::Error) -> String {
     let text = error.to_string();
     match text.split_once(" (os error ") {

@@ -1,9 +1,13 @@
-//! An instruction in the manual's words.
+//! An instruction of the code, as the library decodes it, in the manual's words.
 
-/// An instruction as the library decodes it.
+use crate::library;
+use crate::sheet::{Form, Operands, Sheet};
+use crate::switch_table::{self, Row};
+
 pub struct Instruction {
-    /// The number of its mnemonic (crates/mnemonic/specs/Mnemonic.antt), below 58.
-    pub mnemonic: usize,
+    /// Offset of its first byte.
+    pub at: usize,
+    pub form: &'static Form,
     /// Whether DOUBLE stands before it.
     pub double: bool,
     pub operand: u32,
@@ -13,77 +17,83 @@ pub struct Instruction {
     pub len: usize,
 }
 
-/// How operands are shown.
-#[derive(Clone, Copy)]
-enum Operands {
-    Absent,
-    Signed,
-    Unsigned,
-    Distance,
-    Two,
+impl Instruction {
+    /// Decodes the instruction at a place, which has to end at or before the limit; else 10 or 11.
+    pub fn decode(code: &[u8], limit: usize, at: usize) -> Result<Instruction, u32> {
+        let decoded = library::decode(code, limit, at)?;
+        let code_byte = code[at + usize::from(decoded.double)];
+        let form = Sheet::get().with_code(code_byte).ok_or(library::UNSERVED)?;
+        let library::Decoded { double, operand, second, len } = decoded;
+        Ok(Instruction { at, form, double, operand, second, len })
+    }
+
+    pub fn is_switch(&self) -> bool {
+        self.form.operands() == Operands::Table
+    }
+
+    /// Answers the offset behind it.
+    pub fn end(&self) -> usize {
+        self.at + self.len
+    }
+
+    /// Answers the procedure that it calls.
+    pub fn callee(&self) -> Option<u32> {
+        self.form.name.starts_with("CALL").then_some(self.operand)
+    }
+
+    /// Writes the name as the manual does, with the prefix before it.
+    pub fn name(&self) -> String {
+        named(self.form, self.double)
+    }
+
+    /// Writes the name with its operands; a distance also as the offset that it leads to.
+    pub fn text(&self) -> String {
+        match self.jump_target() {
+            Some(target) => {
+                format!("{} {:+} -> {target}", self.name(), self.operand as i32)
+            }
+            None => self.text_without_target(),
+        }
+    }
+
+    /// Writes the name with its operands, as numbers alone. Only LOAD_C.w has a word, a signed one.
+    pub fn text_without_target(&self) -> String {
+        let (name, operand) = (self.name(), self.operand as i32);
+        match self.form.operands() {
+            Operands::Absent => name,
+            Operands::Distance => format!("{name} {operand:+}"),
+            Operands::Number | Operands::Procedure | Operands::Table => format!("{name} {operand}"),
+            Operands::Two => format!("{name} {operand}, {}", self.second),
+        }
+    }
+
+    /// Finds where a jump or the way past a loop leads, which may be outside the code.
+    pub fn jump_target(&self) -> Option<i64> {
+        let distance = i64::from(self.operand as i32);
+        (self.form.operands() == Operands::Distance).then_some(self.at as i64 + distance)
+    }
+
+    /// Reads the rows of a switch's table; none for other instructions.
+    pub fn rows(&self, code: &[u8]) -> Vec<Row> {
+        if self.is_switch() {
+            switch_table::rows(code, self)
+        } else {
+            Vec::new()
+        }
+    }
+
+    /// Finds every place that the bytes name to go on at: of a jump, or of a switch with its exit.
+    pub fn targets(&self, code: &[u8]) -> Vec<i64> {
+        let rows = self.rows(code);
+        let from_rows = rows.iter().filter_map(|row| row.target(self.at)).map(|at| at as i64);
+        self.jump_target().into_iter().chain(from_rows).collect()
+    }
 }
 
-use Operands::{Absent, Distance, Signed, Two, Unsigned};
-
-/// Up to this mnemonic, the name also tells the operand's size.
-const CALL: usize = 17;
-const SWITCH: usize = 53;
-const SWITCH_X: usize = 54;
-
-/// By number. The manual has no STOR_T.
-#[rustfmt::skip]
-const MNEMONICS: [(&str, Operands); 58] = [
-    ("LOAD_C", Signed), ("LOAD_L", Unsigned), ("LOAD_G", Unsigned), ("LOAD_T", Unsigned),
-    ("LOAD_F", Unsigned), ("LOAD_A_L", Unsigned), ("LOAD_A_G", Unsigned), ("LOAD_A_T", Unsigned),
-    ("LOAD_A_F", Unsigned), ("STOR_L", Unsigned), ("STOR_G", Unsigned), ("STOR_T", Unsigned),
-    ("STOR_F", Unsigned), ("JUMP", Distance), ("JUMP_C", Distance), ("JUMP_T", Distance),
-    ("JUMP_F", Distance), ("CALL", Unsigned), ("POP", Unsigned), ("SWAP", Absent), ("NOP", Absent),
-    ("ADD_I", Absent), ("SUB_I", Absent), ("MUL_I", Absent), ("DIV_I", Absent), ("MOD_I", Absent),
-    ("ADD_U", Absent), ("SUB_U", Absent), ("MUL_U", Absent), ("DIV_U", Absent), ("MOD_U", Absent),
-    ("NEG_I", Absent), ("EQU", Absent), ("NEQ", Absent), ("LES_I", Absent), ("GRT_I", Absent),
-    ("LEQ_I", Absent), ("GEQ_I", Absent), ("LES_U", Absent), ("GRT_U", Absent), ("LEQ_U", Absent),
-    ("GEQ_U", Absent), ("ADD_S", Absent), ("SUB_S", Absent), ("MUL_S", Absent), ("LEQ_S", Absent),
-    ("GEQ_S", Absent), ("TEST", Absent), ("NEG", Absent), ("ALLOC", Absent), ("FREE", Absent),
-    ("ITER", Distance), ("NEXT", Absent), ("SWITCH", Unsigned), ("SWITCH_X", Unsigned),
-    ("LEAVE", Absent), ("ENTER", Two), ("RTN", Absent),
-];
-
-impl Instruction {
-    /// SWITCH or SWITCH_X: a table is part of it.
-    pub fn is_switch(&self) -> bool {
-        matches!(self.mnemonic, SWITCH | SWITCH_X)
-    }
-
-    /// Whether the table's rows begin with the bounds of a range.
-    pub fn has_ranges(&self) -> bool {
-        self.mnemonic == SWITCH_X
-    }
-
-    /// The mnemonic as the manual writes it, with its operands; a distance also as the offset that
-    /// it leads to.
-    pub fn describe(&self, at: usize) -> String {
-        let (name, operands) = MNEMONICS[self.mnemonic];
-        let prefix = if self.double { "DOUBLE " } else { "" };
-        let operand_bytes = self.len - 1 - usize::from(self.double);
-        let size = match operand_bytes {
-            _ if self.mnemonic > CALL => "",
-            // The operand is in the opcode.
-            0 => return format!("{prefix}{name}.{}", self.operand),
-            1 => ".b",
-            2 => ".h",
-            _ => ".w",
-        };
-        format!("{prefix}{name}{size}{}", self.operands_text(operands, at))
-    }
-
-    fn operands_text(&self, operands: Operands, at: usize) -> String {
-        let signed = self.operand as i32;
-        match operands {
-            Absent => String::new(),
-            Signed => format!(" {signed}"),
-            Unsigned => format!(" {}", self.operand),
-            Distance => format!(" {signed:+} -> {}", at as i64 + i64::from(signed)),
-            Two => format!(" {}, {}", self.operand, self.second),
-        }
+/// Writes the name of an instruction, with the prefix before it.
+pub fn named(form: &Form, double: bool) -> String {
+    match double {
+        true => format!("{} {}", Sheet::get().prefix.1, form.name),
+        false => form.name.to_string(),
     }
 }

@@ -1,20 +1,36 @@
 //! The proved library, called through its C interface (include/icode.h).
 
-use crate::instruction::Instruction;
-
 // Some of the calls are for the tests alone.
 #[allow(dead_code, unsafe_code)]
 #[path = "../../include/icode.rs"]
 mod archive;
 
+/// The number of an instruction that is not served.
+pub const UNSERVED: u32 = 10;
+/// Words of a machine's state, and the places of some of them.
+pub const STATE_WORDS: usize = 6;
+pub const PC: usize = 0;
+pub const FP: usize = 1;
+pub const HEIGHT: usize = 4;
+pub const CALLS: usize = 5;
+
 /// Longer than the report of any run file.
 const REPORT_BYTES: usize = 32_768;
 
 /// A source line: its first and last code offset, and its number.
+#[derive(Clone, Copy)]
 pub struct Span {
     pub first: usize,
     pub last: usize,
     pub line: u32,
+}
+
+/// What the library reads of an instruction.
+pub struct Decoded {
+    pub double: bool,
+    pub operand: u32,
+    pub second: u32,
+    pub len: usize,
 }
 
 /// 0 for a sound record, else the number that refuses it, 1 to 7.
@@ -24,44 +40,37 @@ pub use archive::record_number;
 /// where it is refused.
 pub use archive::check;
 
-/// The source line of a code offset, 0 where there is none.
-pub fn line(record: &[u8], offset: u32) -> u32 {
-    // The upper half is the record's number.
-    archive::line(record, offset) as u32
-}
+/// Writes memory and state, and answers 0; else 1 to 8.
+pub use archive::load;
 
-/// The whole source line of a code offset; none outside the code, or where the record is refused.
+/// Runs from a state for at most a budget, and answers 0; the outcome is end, place and steps.
+pub use archive::run;
+
+/// Looks up the whole source line of a code offset; none outside the code, or where the record is
+/// refused.
 pub fn line_span(record: &[u8], offset: usize) -> Option<Span> {
     let mut span = [0; 4];
-    let number = archive::line_span(record, offset as u32, &mut span);
+    let number = archive::line_span(record, u32::try_from(offset).ok()?, &mut span);
     let [outside, first, last, line] = span;
     let found = number == 0 && outside == 0;
     found.then_some(Span { first: first as usize, last: last as usize, line })
 }
 
-/// How and at which code offset the run of a run file ends, by its report; none where it is refused.
-pub fn run_end(run_file: &[u8]) -> Option<(u32, usize)> {
+/// Checks, loads and runs a run file, and answers its page.
+pub fn report(run_file: &[u8]) -> Vec<u8> {
     let mut report = vec![0; REPORT_BYTES];
     let written = archive::report(run_file, &mut report);
-    let report = String::from_utf8_lossy(&report[..written]);
-    let words: Vec<&str> = report.lines().nth(1)?.split(' ').collect();
-    let ["end", end, "at", at, ..] = words[..] else { return None };
-    Some((end.parse().ok()?, at.parse().ok()?))
+    report.truncate(written);
+    report
 }
 
-/// The instruction at a place of the code, which has to end at or before the limit; else 10 or 11.
-pub fn decode(code: &[u8], limit: usize, at: usize) -> Result<Instruction, u32> {
+/// Decodes the instruction at a place, which has to end at or before the limit; else 10 or 11.
+pub fn decode(code: &[u8], limit: usize, at: usize) -> Result<Decoded, u32> {
     let mut out = [0; 5];
     let number = archive::decode(code, limit, at, &mut out);
     if number != 0 {
         return Err(number);
     }
-    let [mnemonic, mode, operand, second, len] = out;
-    Ok(Instruction {
-        mnemonic: mnemonic as usize,
-        double: mode != 0,
-        operand,
-        second,
-        len: len as usize,
-    })
+    let [_, mode, operand, second, len] = out;
+    Ok(Decoded { double: mode != 0, operand, second, len: len as usize })
 }

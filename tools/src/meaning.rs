@@ -1,8 +1,8 @@
 //! The numbers that refuse a record or a run file, and those of the traps.
 
-/// The meaning of a number, in the words of 01's table ("Numbers handed back"); 6 and 7 say what
-/// its "as above" stands for. 8 does not arise: the check is lent enough workspace. Nor do the code
-/// traps, 20 to 23: only accepted code runs.
+/// Says what a number means, in the words of 01's table ("Numbers handed back"); 6 and 7 say what
+/// its "as above" stands for. 8 is the load's: the check is lent enough workspace. The code traps,
+/// 20 to 23, do not arise: only accepted code runs.
 pub fn meaning(number: u32) -> &'static str {
     match number {
         1 => "record under 28 bytes",
@@ -14,6 +14,10 @@ pub fn meaning(number: u32) -> &'static str {
         7 => {
             "entries not strictly rising and below the code size, \
              or entry 1 not even, at least 4 and at most 512"
+        }
+        8 => {
+            "load: more parameters than globals, memory under 3+g+c or over 16,384, \
+             stack over 1,024"
         }
         9 => "results list of wrong length or content",
         10 => "unserved instruction, or prefix before one without that mode",

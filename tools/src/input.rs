@@ -1,0 +1,28 @@
+//! Reading a file, or standard input.
+
+use crate::failure::Failure;
+use crate::output::NOT_OPEN;
+use crate::standard;
+use std::ffi::OsStr;
+use std::fs::File;
+use std::io::{self, Read};
+
+/// Reads a file, or standard input where the name is "-"; at most a byte more than is wanted, which
+/// shows that it is too long: it may have no end.
+pub fn read(name: &OsStr, most: usize) -> Result<Vec<u8>, Failure> {
+    let mut bytes = Vec::new();
+    open(name)
+        .and_then(|source| source.take(most as u64 + 1).read_to_end(&mut bytes))
+        .map_err(|error| Failure::Unreadable(name.to_owned(), error))?;
+    Ok(bytes)
+}
+
+fn open(name: &OsStr) -> io::Result<Box<dyn Read>> {
+    if name != "-" {
+        return Ok(Box::new(File::open(name)?));
+    }
+    if standard::input_was_closed() {
+        return Err(io::Error::from_raw_os_error(NOT_OPEN));
+    }
+    Ok(Box::new(io::stdin().lock()))
+}

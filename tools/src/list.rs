@@ -1,0 +1,160 @@
+//! `icode list`: a record or a run file for people: its parts, and its code with offsets, source
+//! lines, mnemonics and bytes. Beside each instruction stand the height of its procedure's share of
+//! the stack and the topmost label, as the check's workspace shows them. What a refusal or a trap
+//! is about has a mark.
+
+mod marks;
+mod parts;
+mod rows;
+mod text;
+
+use crate::arguments::{Arguments, Flag};
+use crate::command::Command;
+use crate::failure::{escaped, Failure, Status};
+use crate::meaning::meaning;
+use crate::outcome::{Ended, Page};
+use crate::output::Output;
+use crate::record::{self, Record};
+use crate::run_file::{is_run_file, RunFile};
+use crate::verdict::{split_run_file, Verdict};
+use crate::{input, library};
+use marks::Marks;
+use rows::Listing;
+use std::ffi::OsStr;
+use std::io::{self, Write};
+
+const MAX_PROCEDURES: usize = 256;
+
+pub const COMMAND: Command = Command {
+    name: "list",
+    summary: "shows a record or a run file, with the place behind a refusal or a trap",
+    usage: USAGE,
+    help: HELP,
+    flags: &[
+        Flag { name: "--asm", value: None },
+        Flag { name: "--results", value: Some("DIGITS") },
+    ],
+    run,
+};
+
+const USAGE: &str = "icode list [--asm] [--results DIGITS] FILE";
+
+const HELP: &str = "\
+Shows a record or a run file (- is standard input): its parts, what check and load say of it, then
+its code. For each instruction:
+
+  offset  of its first byte in the code
+  line    in the source, 0 where the source table has none
+  height  words and labels that its procedure has on the stack before it, - where it is not reached
+  label   offset of the ITER or SWITCH that pushed the topmost label, - where there is none
+
+A run file is run as it stands. Before the offset there may be a mark:
+
+  *  the run trapped here
+  >  belongs to the source line of the trap
+  !  is behind the refusal: each instruction that breaks the rule of 10 to 14; for 15 every one of a
+     procedure that has no stack picture
+
+  --asm             print the text that makes this file, for icode asm; nothing is run. The columns
+                    above are not in it, and jumps lead to labels
+  --results DIGITS  how many result words each procedure leaves, from procedure 0 on, such as 001;
+                    else the run file's list, or 0 for each
+";
+
+fn run(arguments: &Arguments, out: &mut Output) -> Result<Status, Failure> {
+    let usage = |fault| Failure::Usage(fault, USAGE);
+    let name = arguments.one_file().map_err(usage)?;
+    let digits = arguments.value("--results").map(parse_results);
+    let digits = digits.transpose().map_err(usage)?;
+    let bytes = input::read(name, record::MAX_BYTES)?;
+    let refused = |why: String| Failure::Refused(name.to_owned(), why);
+    if bytes.len() > record::MAX_BYTES {
+        return Err(refused("longer than any record or run file".to_string()));
+    }
+    let file = match is_run_file(&bytes) {
+        true => Some(split_run_file(name, &bytes)?),
+        false => None,
+    };
+    let listed = Listed::of(&bytes, file, digits);
+    if arguments.has("--asm") {
+        let record = Record::split(listed.record).ok().filter(|record| record.number == 0);
+        let no_text = || refused(listed.verdict.refusal());
+        text::print(out, &listed, &record.ok_or_else(no_text)?)?;
+        return Ok(listed.verdict.status());
+    }
+    Ok(listed.print(out, &bytes)?)
+}
+
+/// Reads a results list from its digits.
+fn parse_results(digits: &OsStr) -> Result<Vec<u8>, String> {
+    let bytes = digits.as_encoded_bytes();
+    if bytes.len() > MAX_PROCEDURES || !bytes.iter().all(u8::is_ascii_digit) {
+        let fault = "is no list of digits, one for each of at most 256 procedures";
+        return Err(format!("'{}' {fault}", escaped(digits)));
+    }
+    Ok(bytes.iter().map(|digit| digit - b'0').collect())
+}
+
+/// A file with what check and load say of it.
+struct Listed<'a> {
+    file: Option<RunFile<'a>>,
+    record: &'a [u8],
+    /// As asked for, or of the run file.
+    results: Option<Vec<u8>>,
+    verdict: Verdict,
+}
+
+impl<'a> Listed<'a> {
+    fn of(bytes: &'a [u8], file: Option<RunFile<'a>>, digits: Option<Vec<u8>>) -> Listed<'a> {
+        let record = file.as_ref().map_or(bytes, |file| file.record);
+        let results = digits.or_else(|| file.as_ref().map(|file| file.results.to_vec()));
+        let verdict = Verdict::of(record, results.as_deref(), file.as_ref());
+        Listed { file, record, results, verdict }
+    }
+
+    fn print(&self, out: &mut Output, bytes: &[u8]) -> io::Result<Status> {
+        if let Some(file) = &self.file {
+            parts::print_head(out, file, bytes.len())?;
+        }
+        let split = Record::split(self.record);
+        parts::print_sizes(out, self.record)?;
+        if let Ok(record) = &split {
+            parts::print_tables(out, record, self.results.is_none())?;
+        }
+        self.print_verdict(out)?;
+        let ended = self.file.as_ref().and_then(|_| run_end(bytes));
+        let marks = Marks::new(&self.verdict, self.record, ended.as_ref());
+        marks.print_end(out)?;
+        match &split {
+            Ok(record) if record.number == 0 => {
+                let workspace = &self.verdict.workspace;
+                Listing { record, workspace, marks: &marks }.print(out)?;
+            }
+            Ok(record) => rows::print_uncut(out, record.code)?,
+            Err(_) => {}
+        }
+        let run = ended.map_or(Status::Done, |ended| ended.status());
+        Ok(self.verdict.status().max(run))
+    }
+
+    fn print_verdict(&self, out: &mut Output) -> io::Result<()> {
+        let number = self.verdict.number;
+        if number == 0 {
+            return writeln!(out, "check 0: accepted");
+        }
+        writeln!(out, "check {number}: {}", meaning(number))?;
+        writeln!(out, "  {}", self.verdict.reason)?;
+        if self.file.is_none() && Record::split(self.record).is_err() {
+            writeln!(out, "  it is no run file: it does not begin with TRK")?;
+        }
+        Ok(())
+    }
+}
+
+/// Runs a run file; none where it is refused.
+fn run_end(run_file: &[u8]) -> Option<Ended> {
+    match Page::read(&library::report(run_file))? {
+        Page::Ended(ended) => Some(ended),
+        Page::Refused(_) => None,
+    }
+}

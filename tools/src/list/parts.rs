@@ -1,0 +1,66 @@
+//! The head of a run file, and the sizes and tables of a record.
+
+use crate::bytes::{hex, spaced, words};
+use crate::record::{sizes, total_bytes, Kind, Record, KINDS};
+use crate::run_file::RunFile;
+use std::io::{self, Write};
+
+const WORDS_IN_ROW: usize = 8;
+
+pub fn print_head(out: &mut impl Write, file: &RunFile, file_len: usize) -> io::Result<()> {
+    writeln!(out, "run file, {file_len} bytes")?;
+    writeln!(out, "  results   {}", spaced(file.results))?;
+    print_words(out, "parameters", &file.parameters)?;
+    writeln!(out, "  budget     {} steps", file.budget)?;
+    writeln!(out, "  memory     {} words", file.memory_words)?;
+    writeln!(out, "  stack      {} words", file.stack_words)
+}
+
+/// Prints the sizes in a record's header, and the length that they come to.
+pub fn print_sizes(out: &mut impl Write, record: &[u8]) -> io::Result<()> {
+    writeln!(out, "record, {} bytes", record.len())?;
+    let Some(sizes) = sizes(record) else { return Ok(()) };
+    for (size, Kind { name, unit, max, .. }) in sizes.iter().zip(&KINDS) {
+        writeln!(out, "  {name:<10} {size} of at most {max} {unit}")?;
+    }
+    writeln!(out, "  in all     {} bytes with the header", total_bytes(&sizes))
+}
+
+pub fn print_tables(
+    out: &mut impl Write,
+    record: &Record,
+    without_results: bool,
+) -> io::Result<()> {
+    print_words(out, "constants", &words(record.constants))?;
+    print_version(out, record.version)?;
+    for (offset, line) in record.source_pairs() {
+        writeln!(out, "  source     offset {offset} line {line}")?;
+    }
+    if record.number > 0 {
+        return Ok(());
+    }
+    writeln!(out, "  entries   {}", spaced(record.entries()))?;
+    if without_results {
+        writeln!(out, "  results    all taken as 0; --results gives others")?;
+    }
+    Ok(())
+}
+
+/// Prints the version table as text, and as bytes.
+fn print_version(out: &mut impl Write, version: &[u8]) -> io::Result<()> {
+    if version.is_empty() {
+        return Ok(());
+    }
+    let shown = |&byte: &u8| if matches!(byte, b' '..=b'~') { char::from(byte) } else { '.' };
+    let text: String = version.iter().map(shown).collect();
+    writeln!(out, "  version    \"{text}\"  {}", hex(version))
+}
+
+/// Prints words in rows, each with the index of its first.
+fn print_words(out: &mut impl Write, name: &str, words: &[u32]) -> io::Result<()> {
+    for (i, row) in words.chunks(WORDS_IN_ROW).enumerate() {
+        let name = if i == 0 { name } else { "" };
+        writeln!(out, "  {name:<10} {:>4}:{}", i * WORDS_IN_ROW, spaced(row))?;
+    }
+    Ok(())
+}

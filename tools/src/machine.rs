@@ -1,0 +1,93 @@
+//! The proved machine, loaded and run through the library.
+
+use crate::failure::Failure;
+use crate::library::{self, CALLS, FP, HEIGHT, PC, STATE_WORDS};
+use crate::record::Record;
+use crate::run_file::RunFile;
+
+/// Ends of a run that are no traps.
+pub const FINISHED: u32 = 0;
+pub const SPENT: u32 = 1;
+/// The trap of an instruction that finds too few words on the stack.
+const TOO_FEW_WORDS: u32 = 22;
+const MAX_STACK_WORDS: usize = 1_024;
+
+pub struct Machine<'a> {
+    record: &'a [u8],
+    pub memory: Vec<u32>,
+    stack: Vec<u32>,
+    state: [u32; STATE_WORDS],
+}
+
+/// How a run ended.
+pub struct Outcome {
+    pub end: u32,
+    pub at: usize,
+    pub steps: u32,
+}
+
+impl<'a> Machine<'a> {
+    /// Loads a run file's record, or answers the number that refuses it. Nothing is checked.
+    pub fn load(file: &RunFile<'a>) -> Result<Machine<'a>, u32> {
+        let (memory, stack) = (file.memory_words.into(), file.stack_words.into());
+        Machine::with_sizes(file.record, &file.parameters, memory, stack)
+    }
+
+    fn with_sizes(
+        record: &'a [u8],
+        parameters: &[u32],
+        memory_words: usize,
+        stack_words: usize,
+    ) -> Result<Machine<'a>, u32> {
+        let (memory, stack) = (vec![0; memory_words], vec![0; stack_words]);
+        let mut machine = Machine { record, memory, stack, state: [0; STATE_WORDS] };
+        let Machine { memory, stack, state, .. } = &mut machine;
+        match library::load(record, parameters, memory, stack, state) {
+            0 => Ok(machine),
+            number => Err(number),
+        }
+    }
+
+    /// Runs for at most a budget. A state that was loaded and run always fits.
+    pub fn run(&mut self, budget: u32) -> Result<Outcome, Failure> {
+        let Machine { record, memory, stack, state } = self;
+        let mut outcome = [0; 3];
+        match library::run(record, budget, memory, stack, state, &mut outcome) {
+            0 => Ok(Outcome { end: outcome[0], at: outcome[1] as usize, steps: outcome[2] }),
+            number => Err(Failure::Library(number)),
+        }
+    }
+
+    /// Answers the offset of the next instruction.
+    pub fn place(&self) -> usize {
+        self.state[PC] as usize
+    }
+
+    /// Answers where the running procedure's words begin in memory.
+    pub fn frame(&self) -> usize {
+        self.state[FP] as usize
+    }
+
+    pub fn calls(&self) -> u32 {
+        self.state[CALLS]
+    }
+
+    /// Answers the words on the stack, bottom first.
+    pub fn stack(&self) -> &[u32] {
+        let height = self.state[HEIGHT] as usize;
+        self.stack.get(..height).unwrap_or(&self.stack)
+    }
+}
+
+/// Counts the stack words that the instruction at an offset has to find, by asking the machine:
+/// with fewer it traps 22, before it looks at anything else.
+pub fn words_found(record: &Record, at: usize) -> usize {
+    let fresh = || Machine::with_sizes(record.bytes, &[], record.loaded_words(), MAX_STACK_WORDS);
+    let enough = |height: &usize| {
+        let Ok(mut machine) = fresh() else { return true };
+        machine.state[PC] = at as u32;
+        machine.state[HEIGHT] = *height as u32;
+        !matches!(machine.run(1), Ok(Outcome { end: TOO_FEW_WORDS, .. }))
+    };
+    (0..MAX_STACK_WORDS).find(enough).unwrap_or(0)
+}

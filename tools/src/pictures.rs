@@ -1,0 +1,62 @@
+//! The procedures behind the number 15: those without a stack picture.
+
+use crate::code::Procedure;
+use crate::faults::Fault;
+use crate::library;
+use crate::record::HEADER_BYTES;
+use crate::sheet::Sheet;
+
+/// The number of a record with a procedure that has no stack picture.
+pub const NO_PICTURE: u32 = 15;
+
+/// Finds every procedure without a stack picture, by asking the library.
+///
+/// A procedure's picture depends on its own code, and of the others on their ENTER and their
+/// results alone. So each is checked beside stubs: the others with just an ENTER as theirs and an
+/// end that has a picture. It has none exactly where the library still answers 15.
+pub fn missing(code: &[u8], procedures: &[Procedure], results: &[u8]) -> Vec<Fault> {
+    let lacks = |wanted: &&Procedure| {
+        let record = beside_stubs(code, procedures, results, wanted.number);
+        let mut workspace = vec![0; 4 * record.len()];
+        library::check(&record, results, &mut workspace) == NO_PICTURE
+    };
+    procedures.iter().filter(lacks).map(describe).collect()
+}
+
+fn describe(procedure: &Procedure) -> Fault {
+    let (region, number) = (procedure.region.clone(), procedure.number);
+    let (first, last) = (region.start, region.end - 1);
+    let text = format!("procedure {number}, from offset {first} to {last}");
+    Fault { place: region, row: None, text }
+}
+
+/// Makes a record of the code in which every procedure but one is a stub.
+fn beside_stubs(code: &[u8], procedures: &[Procedure], results: &[u8], kept: usize) -> Vec<u8> {
+    let mut entries = vec![0; procedures.len()];
+    let mut body = Vec::new();
+    for procedure in procedures {
+        entries[procedure.number] = 2 * procedures.len() + body.len();
+        let own = &code[procedure.region.clone()];
+        if procedure.number == kept {
+            body.extend(own);
+        } else {
+            body.extend(stub(own, procedure.number, results));
+        }
+    }
+    let mut record = vec![0; HEADER_BYTES];
+    let len = 2 * entries.len() + body.len();
+    record[4..8].copy_from_slice(&(len as u32).to_be_bytes());
+    record.extend(entries.iter().flat_map(|&entry| (entry as u16).to_be_bytes()));
+    record.extend(body);
+    record
+}
+
+/// Makes the shortest code that has a picture: RTN where there are no results to leave, else a jump
+/// to itself.
+fn stub(own: &[u8], number: usize, results: &[u8]) -> Vec<u8> {
+    const ENTER_BYTES: usize = 3;
+    let code_of = |name| Sheet::get().with_name(name).map_or(0, |form| form.code);
+    let enter = if number == 0 { &[] } else { &own[..ENTER_BYTES] };
+    let end: &[u8] = if results[number] == 0 { &[code_of("RTN")] } else { &[code_of("JUMP.b"), 0] };
+    [enter, end].concat()
+}

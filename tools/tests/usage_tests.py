@@ -1,0 +1,126 @@
+"""Options and files of every command, inputs that cannot be read, outputs that cannot be written, exit statuses."""
+
+import os
+import pty
+import tempfile
+from pathlib import Path
+from harness import *
+
+COMMANDS = ("list", "asm", "trace", "page")
+PAGE = EXAMPLES / "page-eleven.run"
+TEXT = "; nothing but a RTN\n.procedure 0\n    RTN\n"
+
+
+def test_usage(tests):
+    tests.expect_run("no command", (), 2, "no command is given\nusage: icode COMMAND")
+    tests.expect_run("unknown command", ("lst", PAGE), 2, "unknown command 'lst'; there are list, asm, trace, page\nusage: icode COMMAND")
+    tests.expect_run("option before the command", ("--signed", "page", PAGE), 2, "unknown command '--signed'")
+    for command in COMMANDS:
+        usage = f"\nusage: icode {command} "
+        tests.expect_run(f"{command}: no file", (command,), 2, f"no file is given{usage}")
+        tests.expect_run(f"{command}: no file after --", (command, "--"), 2, f"no file is given{usage}")
+        tests.expect_run(f"{command}: unknown option", (command, "--fast\x1b", PAGE), 2, "unknown option '--fast\\u{1b}'" + usage)
+        tests.expect_run(f"{command}: short option", (command, "-x", PAGE), 2, f"unknown option '-x'{usage}")
+        if command != "page":
+            tests.expect_run(f"{command}: two files", (command, PAGE, PAGE), 2, f"one file at a time{usage}")
+        for option in ("--help", "-h"):
+            status, out, err = tests.run(command, option, "--unknown")
+            good = status == 0 and out.startswith(f"usage: icode {command} ") and "Exit status: 0 " in out and err == ""
+            tests.expect(f"{command} {option}", good, (status, out, err))
+    tests.expect_run("standard input twice", ("page", "-", "-"), 2, "standard input can be read only once\nusage: icode page")
+
+
+def test_values(tests):
+    for arguments, words in ((("list", "--results"), "--results needs DIGITS behind it"),
+                             (("asm", PAGE, "-o"), "-o needs OUT behind it"),
+                             (("list", "--asm=1", PAGE), "--asm takes no value"),
+                             (("trace", "--from", "-1", PAGE), "--from takes a number from 0 to 4294967295, not '-1'"),
+                             (("trace", "--steps=x", PAGE), "--steps takes a number from 0 to 4294967295, not 'x'"),
+                             (("trace", "--from", "4294967296", PAGE), "--from takes a number from 0 to 4294967295"),
+                             (("trace", "--signed", "--both", PAGE), "--signed and --both exclude each other")):
+        tests.expect_run(f"{arguments}", arguments, 2, words)
+    for digits in ("x", "0 1", "0" * 257, "\u0660"):
+        tests.expect_run(f"--results {digits}", ("list", "--results", digits, PAGE), 2, "no list of digits")
+    for digits, number in (("0", 0), ("", 9), ("00", 9), ("1", 9)):
+        for option in (("--results", digits), (f"--results={digits}",), ("--results", "7", "--results", digits)):
+            status, out, err = tests.run("list", *option, PAGE)
+            tests.expect(f"list {option}", status == min(number, 1) and f"check {number}: " in out, (status, out, err))
+    for arguments in (("list", "--", PAGE), ("list", PAGE, "--asm"), ("trace", "--from", "0", PAGE), ("page", PAGE, "--signed")):
+        status, out, err = tests.run(*arguments)
+        tests.expect(f"{arguments}", status == 0 and out != "", (status, out, err))
+
+
+def test_inputs(tests, folder):
+    (folder / "empty").write_bytes(b"")
+    for command in COMMANDS:
+        for name, reason in (("missing", "No such file or directory"), (folder, "Is a directory"), ("", "No such file or directory"),
+                             (folder / "empty" / "x", "Not a directory"), ("a\nb", "No such file or directory")):
+            shown = str(name).replace("\n", "\\n")
+            tests.expect_run(f"{command} '{shown}'", (command, name), 2, f"icode: cannot read '{shown}': {reason}\n", cwd=folder)
+        closed = {"stdin": None, "preexec_fn": lambda: os.close(0)}
+        words = "icode: cannot read 'standard input': Bad file descriptor\n"
+        tests.expect_run(f"{command}, closed input", (command, "-"), 2, words, **closed)
+        with open("/dev/zero", "rb") as endless:
+            status, _, err = tests.run(command, "-", stdin=endless)
+        tests.expect(f"{command}, input without an end", status == 1 and "longer than" in err, (status, err))
+
+
+def outputs(write):
+    """Outputs that take nothing, with the reason that belongs to each."""
+    yield "full", "No space left on device", {"stdout": open("/dev/full", "wb")}
+    yield "closed pipe", "Broken pipe", {"stdout": write}
+    yield "closed", "Bad file descriptor", {"stdout": None, "preexec_fn": lambda: os.close(1)}
+
+
+def test_outputs(tests, folder):
+    text = folder / "text"
+    text.write_text(TEXT)
+    read, write = os.pipe()
+    os.close(read)
+    helps = [(command, "--help") for command in COMMANDS]
+    for arguments in (("list", PAGE), ("list", "--asm", PAGE), ("trace", PAGE), ("page", PAGE), ("page", PAGE, PAGE), ("asm", text),
+                      ("--help",), ("--version",), *helps):
+        for name, reason, output in outputs(write):
+            status, _, err = tests.run(*arguments, **output)
+            good = status == 2 and err == f"icode: cannot write to standard output: {reason}\n"
+            tests.expect(f"{arguments} to {name} output", good, (status, err))
+    os.close(write)
+    for out, reason in (("/dev/full", "No space left on device"), (folder, "Is a directory"),
+                        (folder / "a\n" / "b", "No such file or directory")):
+        shown = str(out).replace("\n", "\\n")
+        tests.expect_run(f"-o {shown}", ("asm", text, "-o", out), 2, f"icode: cannot write '{shown}': {reason}\n")
+    made = folder / "made"
+    status, _, err = tests.run("asm", text, "-o", made, stdout=None, preexec_fn=lambda: os.close(1))
+    good = (status, err) == (0, "") and made.read_bytes() == record_of(b"\0\2\xe9")
+    tests.expect("-o needs no standard output", good, (status, err))
+    tests.expect_run("-o over the text", ("asm", text, "-o", folder / "." / "text"), 2, "OUT is the text itself")
+    tests.expect("the text is as it was", text.read_text() == TEXT)
+
+
+def test_written(tests, folder):
+    """Nothing is written where the text is refused; -o - is standard output; a terminal gets no bytes."""
+    text, made = folder / "text", folder / "made"
+    for content, status in ((".procedure 0\n    FROB\n", 1), (".procedure 0\n    ADD_I\n    RTN\n", 1), (TEXT, 0)):
+        text.write_text(content)
+        made.write_bytes(b"before")
+        found, out, err = tests.run("asm", text, "-o", made)
+        good = (found, out) == (status, "") and (made.read_bytes() == b"before") == (status == 1) and (err == "") == (status == 0)
+        tests.expect(f"asm {content}", good, (found, out, err))
+    found, out, err = tests.run_bytes("asm", text, "-o", "-")
+    tests.expect("-o -", (found, out, err) == (0, record_of(b"\0\2\xe9"), ""), (found, out, err))
+    master, terminal = pty.openpty()
+    tests.expect_run("to a terminal", ("asm", text), 2, "standard output is a terminal; -o OUT names a file", stdout=terminal)
+    os.close(master)
+    os.close(terminal)
+    with open("/dev/null", "wb") as null:
+        status, _, err = tests.run("page", PAGE, stdout=null)
+    tests.expect("to /dev/null", status == 0, (status, err))
+
+
+def test(tests):
+    test_usage(tests)
+    test_values(tests)
+    with tempfile.TemporaryDirectory() as folder:
+        test_inputs(tests, Path(folder))
+        test_outputs(tests, Path(folder))
+        test_written(tests, Path(folder))
