@@ -2,7 +2,7 @@
 """lists.py: lists that stand in two places say the same. Prints what differs, and exits with 1 where anything does.
 
   docs/OPCODES.md         what the program opcode_table prints, from the proved decoder
-  docs/NUMBERS.md         the messages of the console and of the listing
+  docs/NUMBERS.md         the messages of the console and of icode list
   docs/ARCHITECTURE.md    the crates of crates.txt, in its order and layers
   crates.txt              the crates that each crate's files name
   docs/PROMISES.md        the public functions of each crate, and the theorems that its specs/ state
