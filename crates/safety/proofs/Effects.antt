@@ -47,14 +47,14 @@ pub record Stays (q q' : Registers) : Type 0 where
   pub calls : q' .calls ≡ q .calls
 
 -- CALL: the two link words at MP, and the new frame above them.
-pub record Begins (q : Registers) (m : List ℕ) (next : ℕ) (write : Write) (q' : Registers) : Type 0 where
+pub record Links (q : Registers) (m : List ℕ) (next : ℕ) (write : Write) (q' : Registers) : Type 0 where
   pub wrote : write ≡ WriteTwo (q .mp) (q .fp) next
   pub room : q .mp + 2 ≤ length m
   pub fp : q' .fp ≡ q .mp + 2
   pub calls : q' .calls ≡ q .calls + 1
 
 -- RTN of an active call: the saved FP.
-pub record Leaves (q : Registers) (m : List ℕ) (write : Write) (q' : Registers) : Type 0 where
+pub record Unlinks (q : Registers) (m : List ℕ) (write : Write) (q' : Registers) : Type 0 where
   pub active : q .calls ≡ 0 → ⊥
   pub wrote : write ≡ NoWrite
   pub fp : q' .fp ≡ savedFp m (q .fp)
@@ -65,9 +65,9 @@ Still q = λ write q'. Stays q q'
 
 abbrev pub Framing : Registers → List ℕ → ℕ → Linkage → Write → Registers → Type 0
 Framing q m next inside = Still q
-Framing q m next (calling p) = Begins q m next
+Framing q m next (calling p) = Links q m next
 Framing q m next (entering par) = Still q
-Framing q m next returning = Leaves q m
+Framing q m next returning = Unlinks q m
 
 module _ (q : Registers) (m : List ℕ) (next : ℕ) where
   stays : (k gone : ℕ) (push : Push) (write : Write) (place mp : ℕ) → gone ≤ k → Does k (Still q) (Go gone push write (sized q place mp))
@@ -100,18 +100,18 @@ module _ (q : Registers) (m : List ℕ) (next : ℕ) where
       (λ d. goes-on 5 0 _ _ label (omega arith)))
   summed-does A a l s label (Stop n) = traps
 
-  call-does : (code : List ℕ) (p : ℕ) → Does 0 (Begins q m next) (calls code q m next p)
+  call-does : (code : List ℕ) (p : ℕ) → Does 0 (Links q m next) (calls code q m next p)
   unfolding calls
   call-does code p =
-      by-test (Does 0 (Begins q m next)) (noCallee code p) (Trap 23) _ (λ e. traps)
-      (λ e. by-test (Does 0 (Begins q m next)) (leb 64 (q .calls)) (Trap 37) _ (λ d. traps)
-      (λ d. by-test (Does 0 (Begins q m next)) (leb (q .mp + 2) (length m)) _ (Trap 35)
+      by-test (Does 0 (Links q m next)) (noCallee code p) (Trap 23) _ (λ e. traps)
+      (λ e. by-test (Does 0 (Links q m next)) (leb 64 (q .calls)) (Trap 37) _ (λ d. traps)
+      (λ d. by-test (Does 0 (Links q m next)) (leb (q .mp + 2) (length m)) _ (Trap 35)
       (λ r. goes (omega arith) (record { wrote = refl; room = leb-true (q .mp + 2) (length m) r; fp = refl; calls = refl })) (λ r. traps)))
 
-  return-does : Does 0 (Leaves q m) (returns q m)
+  rtn-does : Does 0 (Unlinks q m) (returns q m)
   unfolding returns
-  return-does =
-      by-test (Does 0 (Leaves q m)) (eqb (q .calls) 0) Finish _ (λ e. finishes)
+  rtn-does =
+      by-test (Does 0 (Unlinks q m)) (eqb (q .calls) 0) Finish _ (λ e. finishes)
       (λ e. goes (omega arith) (record { active = eqb-false (q .calls) 0 e; wrote = refl; fp = refl; calls = refl }))
 
   pub execute-does : (P : Program) (ws : List ℕ) (i : Instruction) → Does (needed i) (Framing q m next (linkageOf (shapeOf i))) (execute P q m next ws i)
@@ -157,4 +157,4 @@ module _ (q : Registers) (m : List ℕ) (next : ℕ) where
   execute-does P ws (Call p) = call-does (P .code) p
   execute-does P ws (Enter par dat) =
       tested par (leb (q .mp + par + dat) (length m)) _ 35 (stays par par _ _ next _ (omega arith))
-  execute-does P ws Rtn = return-does
+  execute-does P ws Rtn = rtn-does

@@ -3,7 +3,8 @@
 use Rattle.opcode.specs.declared.instruction.Instruction.{Instruction}
 use Rattle.opcode.specs.declared.instruction.Instruction.the-variants.{LoadConstant, Load, LoadAddress, Store, Pop, Swap, Nop, Signed, Unsigned, Negate, Equal, NotEqual, CompareSigned, CompareUnsigned, Set, Not, Alloc, Free, Jump, JumpC, JumpT, JumpF, Iter, Next, Switch, SwitchX, Leave, Call, Enter, Rtn}
 use Rattle.shape.specs.declared.Shape.{Shape}
-use Rattle.shape.specs.declared.Shape.the-variants.{Straight, Drop, Goto, Branch, Keep, Loop, Again, Select, Exit, Invoke, Begin, Return}
+use Rattle.shape.specs.declared.Shape.the-variants as shape
+use Rattle.shape.specs.declared.Shape.the-variants.{Straight}
 use Rattle.shape.specs.declared.Table.the-variants.{Branches, Ranges}
 use Rattle.shape.specs.Counts.{wordsIn, needed}
 
@@ -13,7 +14,7 @@ shapeOf (LoadConstant n) = Straight (needed (LoadConstant n)) 1
 shapeOf (Load base mode n) = Straight (needed (Load base mode n)) (wordsIn mode)
 shapeOf (LoadAddress base n) = Straight (needed (LoadAddress base n)) 1
 shapeOf (Store base mode n) = Straight (needed (Store base mode n)) 0
-shapeOf (Pop n) = Drop n
+shapeOf (Pop n) = shape.Pop n
 shapeOf Swap = Straight (needed Swap) 2
 shapeOf Nop = Straight (needed Nop) 0
 shapeOf (Signed op) = Straight (needed (Signed op)) 1
@@ -27,15 +28,15 @@ shapeOf (Set op) = Straight (needed (Set op)) 1
 shapeOf Not = Straight (needed Not) 1
 shapeOf Alloc = Straight (needed Alloc) 1
 shapeOf Free = Straight (needed Free) 0
-shapeOf (Jump d) = Goto d
-shapeOf (JumpC d) = Branch d
-shapeOf (JumpT d) = Keep d
-shapeOf (JumpF d) = Keep d
-shapeOf (Iter d) = Loop d
-shapeOf Next = Again
-shapeOf (Switch n) = Select Branches n
-shapeOf (SwitchX n) = Select Ranges n
-shapeOf Leave = Exit
-shapeOf (Call p) = Invoke p
-shapeOf (Enter par dat) = Begin par
-shapeOf Rtn = Return
+shapeOf (Jump d) = shape.Jump d
+shapeOf (JumpC d) = shape.JumpC d
+shapeOf (JumpT d) = shape.JumpTF d
+shapeOf (JumpF d) = shape.JumpTF d
+shapeOf (Iter d) = shape.Iter d
+shapeOf Next = shape.Next
+shapeOf (Switch n) = shape.Switch Branches n
+shapeOf (SwitchX n) = shape.Switch Ranges n
+shapeOf Leave = shape.Leave
+shapeOf (Call p) = shape.Call p
+shapeOf (Enter par dat) = shape.Enter par
+shapeOf Rtn = shape.Rtn

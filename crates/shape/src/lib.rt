@@ -17,27 +17,27 @@ pub enum Shape {
     // pops so many words, pushes so many, goes on
     Straight(u32, u32),
     // POP: drops so many slots
-    Drop(u32),
+    Pop(u32),
     // JUMP
-    Goto(u32),
+    Jump(u32),
     // JUMP_C
-    Branch(u32),
+    JumpC(u32),
     // JUMP_T, JUMP_F: the boolean stays where they jump
-    Keep(u32),
+    JumpTF(u32),
     // ITER
-    Loop(u32),
+    Iter(u32),
     // NEXT
-    Again,
+    Next,
     // SWITCH, SWITCH_X
-    Select(Table, u32),
+    Switch(Table, u32),
     // LEAVE
-    Exit,
+    Leave,
     // CALL
-    Invoke(u32),
+    Call(u32),
     // ENTER
-    Begin(u32),
+    Enter(u32),
     // RTN
-    Return,
+    Rtn,
 }
 
 pub fn popped_words(base: Base) -> u32
@@ -108,7 +108,7 @@ pub fn shape_of(i: Instruction) -> Shape
         Instruction::Store(base, mode, _) => {
             Shape::Straight(popped_words(base) + words_in(mode), 0)
         }
-        Instruction::Pop(n) => Shape::Drop(n),
+        Instruction::Pop(n) => Shape::Pop(n),
         Instruction::Swap => Shape::Straight(2, 2),
         Instruction::Nop => Shape::Straight(0, 0),
         Instruction::Signed(_) => Shape::Straight(2, 1),
@@ -122,17 +122,17 @@ pub fn shape_of(i: Instruction) -> Shape
         Instruction::Not => Shape::Straight(1, 1),
         Instruction::Alloc => Shape::Straight(1, 1),
         Instruction::Free => Shape::Straight(1, 0),
-        Instruction::Jump(distance) => Shape::Goto(distance),
-        Instruction::JumpC(distance) => Shape::Branch(distance),
-        Instruction::JumpT(distance) => Shape::Keep(distance),
-        Instruction::JumpF(distance) => Shape::Keep(distance),
-        Instruction::Iter(distance) => Shape::Loop(distance),
-        Instruction::Next => Shape::Again,
-        Instruction::Switch(n) => Shape::Select(Table::Branches, n),
-        Instruction::SwitchX(n) => Shape::Select(Table::Ranges, n),
-        Instruction::Leave => Shape::Exit,
-        Instruction::Call(p) => Shape::Invoke(p),
-        Instruction::Enter(parameters, _) => Shape::Begin(parameters),
-        Instruction::Rtn => Shape::Return,
+        Instruction::Jump(distance) => Shape::Jump(distance),
+        Instruction::JumpC(distance) => Shape::JumpC(distance),
+        Instruction::JumpT(distance) => Shape::JumpTF(distance),
+        Instruction::JumpF(distance) => Shape::JumpTF(distance),
+        Instruction::Iter(distance) => Shape::Iter(distance),
+        Instruction::Next => Shape::Next,
+        Instruction::Switch(n) => Shape::Switch(Table::Branches, n),
+        Instruction::SwitchX(n) => Shape::Switch(Table::Ranges, n),
+        Instruction::Leave => Shape::Leave,
+        Instruction::Call(p) => Shape::Call(p),
+        Instruction::Enter(parameters, _) => Shape::Enter(parameters),
+        Instruction::Rtn => Shape::Rtn,
     }
 }
