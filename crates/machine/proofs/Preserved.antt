@@ -18,7 +18,8 @@ use Rattle.opcode.specs.declared.instruction.Mode.the-variants.{Normal}
 use Rattle.operate.specs.Arithmetic.{signedValue, unsignedValue, negatedValue}
 use Rattle.operate.specs.declared.Value.{Value}
 use Rattle.operate.specs.declared.Value.the-variants.{Word, Trap as Stop}
-use Rattle.shape.specs.Counts.{needed, popped, wordsIn}
+use Rattle.shape.specs.Counts.{popped, wordsIn}
+use Rattle.shape.specs.Shape.{needed}
 use Rattle.effect.specs.declared.effect.Effect.{Effect}
 use Rattle.effect.specs.declared.effect.Effect.the-variants.{Trap, Finish, Go}
 use Rattle.effect.specs.declared.effect.Push.{Push}

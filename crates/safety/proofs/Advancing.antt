@@ -8,8 +8,7 @@ use Prim.Native.Nat.{ℕ, _≤_, _<_}
 use native.Mathlib.Omega.{arith}
 use lib.ListN.{length, getD}
 use Rattle.opcode.specs.declared.instruction.Instruction.{Instruction}
-use Rattle.shape.specs.Counts.{needed}
-use Rattle.shape.specs.Shape.{shapeOf}
+use Rattle.shape.specs.Shape.{shapeOf, needed}
 use Rattle.shape.specs.declared.Shape.{Shape}
 use Rattle.shape.specs.declared.Shape.the-variants.{Straight, Pop, Jump, JumpC, JumpTF, Iter, Next, Switch, Leave, Call, Enter, Rtn}
 use Rattle.shape.specs.Linkage.{Linkage, inside, calling, entering, returning, linkageOf}
@@ -71,7 +70,7 @@ module _ (U : Subject) (C : Checked U) (A : Areas) (c : Configuration) (I : Inv 
   pub unread : (s' : List ℕ) → SameFrom (shareOf (c .calls)) (c .stack) s' → Unread U c s'
   unread =
       let enough : needed i ≤ length (I .placed .slots) =
-      finds-words U (running (c .calls)) (q .pc) (at-place .next) i (I .placed .slots) (at-place .out) (at-place .ways-out) in
+      finds-words U (running (c .calls)) (q .pc) (at-place .next) (shapeOf i) (I .placed .slots) (at-place .out) (at-place .ways-out) in
       step-unread U c i (at-place .next) doing (omega (arith, I .placed .height))
 
   pub steps : Steps U c (at-place .out) (linkageOf (shapeOf i)) (stepOn U c .stepped .outcome)

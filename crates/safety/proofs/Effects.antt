@@ -18,8 +18,8 @@ use Rattle.opcode.specs.declared.instruction.Mode.the-variants.{Normal}
 use Rattle.operate.specs.Arithmetic.{signedValue, unsignedValue, negatedValue}
 use Rattle.operate.specs.declared.Value.{Value}
 use Rattle.operate.specs.declared.Value.the-variants.{Word, Trap as Stop}
-use Rattle.shape.specs.Counts.{needed, popped, wordsIn}
-use Rattle.shape.specs.Shape.{shapeOf}
+use Rattle.shape.specs.Counts.{popped, wordsIn}
+use Rattle.shape.specs.Shape.{shapeOf, needed}
 use Rattle.shape.specs.Linkage.{Linkage, inside, calling, entering, returning, linkageOf}
 use Rattle.effect.specs.declared.effect.Effect.{Effect}
 use Rattle.effect.specs.declared.effect.Effect.the-variants.{Trap, Finish, Go}

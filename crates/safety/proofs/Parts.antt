@@ -9,8 +9,8 @@ use Rattle.entries.specs.Entries.{entryAt, entryCount}
 use Rattle.opcode.specs.Decode.{decodeAt}
 use Rattle.opcode.specs.declared.Decoded.the-variants.{At}
 use Rattle.opcode.specs.declared.instruction.Instruction.{Instruction}
-use Rattle.shape.specs.Counts.{needed}
-use Rattle.shape.specs.Shape.{shapeOf}
+use Rattle.shape.specs.Shape.{shapeOf, finds, needed}
+use Rattle.shape.specs.declared.Shape.{Shape}
 use Rattle.shape.specs.declared.Shape.the-variants as shape
 use Rattle.shape.specs.Linkage.{Linkage, inside, calling, entering, returning, linkageOf}
 use Rattle.registers.specs.Memory.{read}
@@ -125,8 +125,7 @@ SlotsKept =
     → (shapeOf i ≡ shape.Rtn → 0 < registersOf c .calls → read (c .memory) (registersOf c .fp - 1) < length (U .code))
     → Steps U c out (linkageOf (shapeOf i)) (stepOn U c .stepped .outcome)
 
--- An instruction finds its words in the share.
+-- An instruction of a shape finds its words in the share.
 abbrev pub FindsWords : Type 0
 FindsWords =
-    (U : Subject) (p at next : ℕ) (i : Instruction) (l : List Slot) (out : List Way) → ways U p at next (shapeOf i) l ≡ some out
-    → needed i ≤ length l
+    (U : Subject) (p at next : ℕ) (s : Shape) (l : List Slot) (out : List Way) → ways U p at next s l ≡ some out → finds s ≤ length l

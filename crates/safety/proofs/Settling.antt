@@ -13,7 +13,8 @@ use Rattle.words.proofs.Tests.{by-test}
 use Rattle.opcode.specs.declared.Decoded.{Decoded}
 use Rattle.opcode.specs.declared.instruction.Instruction.{Instruction}
 use Rattle.opcode.specs.declared.instruction.Mode.{Mode}
-use Rattle.shape.specs.Counts.{needed, wordsIn}
+use Rattle.shape.specs.Counts.{wordsIn}
+use Rattle.shape.specs.Shape.{needed}
 use Rattle.shape.specs.Linkage.{Linkage, returning}
 use Rattle.effect.specs.declared.effect.Effect.{Effect}
 use Rattle.effect.specs.declared.effect.Effect.the-variants.{Trap, Finish, Go}

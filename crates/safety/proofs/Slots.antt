@@ -12,8 +12,8 @@ use Rattle.words.proofs.Tests.{by-test}
 use Rattle.entries.specs.Entries.{entryCount}
 use Rattle.opcode.specs.declared.instruction.Instruction.{Instruction}
 use Rattle.opcode.specs.declared.instruction.Instruction.the-variants.{LoadConstant, Load, LoadAddress, Store, Pop, Swap, Nop, Signed, Unsigned, Negate, Equal, NotEqual, CompareSigned, CompareUnsigned, Set, Not, Alloc, Free, Jump, JumpC, JumpT, JumpF, Iter, Next, Switch, SwitchX, Leave, Call, Enter, Rtn}
-use Rattle.shape.specs.Counts.{needed, popped, wordsIn}
-use Rattle.shape.specs.Shape.{shapeOf}
+use Rattle.shape.specs.Counts.{popped, wordsIn}
+use Rattle.shape.specs.Shape.{shapeOf, needed}
 use Rattle.shape.specs.declared.Shape.the-variants as shape
 use Rattle.shape.specs.Linkage.{calling, returning, linkageOf}
 use Rattle.shape.specs.declared.Table.the-variants.{Branches, Ranges}
@@ -110,5 +110,5 @@ module _ (U : Subject) (c : Configuration) (next p : ℕ) (l : List Slot) (out :
 pub slots-kept : FindsWords → SlotsKept
 slots-kept finds U A c i next p l out D areas fit height holds w inside call back =
     let S : Start (U .code) c l out = record { height = height; holds = holds; inside = inside } in
-    good-steps U c out (linkageOf (shapeOf i)) i next D (omega (arith, finds U p (registersOf c .pc) next i l out w))
+    good-steps U c out (linkageOf (shapeOf i)) i next D (omega (arith, finds U p (registersOf c .pc) next (shapeOf i) l out w))
     (effect-goes U c next p l out S i D w call back _ refl)

@@ -1,13 +1,11 @@
--- An instruction finds its words in the share: where the check has a way out, so many slots could be taken off the list.
+-- An instruction finds its words in the share: where the check has a way out, so many slots could be taken off the list. Shape by shape.
 use mathlib.Core.List.{List, [], _∷_}
 use mathlib.Core.Option.{some}
 use mathlib.Core.Path.{_≡_}
 use Prim.Native.Nat.{ℕ, _≤_}
 use native.Mathlib.Omega.{arith}
 use lib.ListN.{length}
-use Rattle.opcode.specs.declared.instruction.Instruction.the-variants.{LoadConstant, Load, LoadAddress, Store, Pop, Swap, Nop, Signed, Unsigned, Negate, Equal, NotEqual, CompareSigned, CompareUnsigned, Set, Not, Alloc, Free, Jump, JumpC, JumpT, JumpF, Iter, Next, Switch, SwitchX, Leave, Call, Enter, Rtn}
-use Rattle.shape.specs.Counts.{popped}
-use Rattle.shape.specs.Shape.{shapeOf}
+use Rattle.shape.specs.declared.Shape.the-variants.{Straight, Pop, Jump, JumpC, JumpTF, Iter, Next, Switch, Leave, Call, Enter, Rtn}
 use Rattle.stackmap.specs.Slots.{Slot, word, label, popWords, popSlots}
 use Rattle.stackmap.specs.Ways.{Way, after, isIter, nextOut, leaveOut, ways}
 use Rattle.safety.proofs.Parts.{FindsWords}
@@ -37,34 +35,16 @@ leave-fits code (word ∷ l) out e = nothing out e
 leave-fits code (label origin ∷ l) out e = omega arith
 
 pub finds-words : FindsWords
-unfolding shapeOf ways
-finds-words U p at next (LoadConstant n) l out e = omega arith
-finds-words U p at next (Load base mode n) l out e = words-fit (popped base) l _ out e
-finds-words U p at next (LoadAddress base n) l out e = words-fit (popped base) l _ out e
-finds-words U p at next (Store base mode n) l out e = words-fit _ l _ out e
+unfolding ways
+finds-words U p at next (Straight pops pushes) l out e = words-fit pops l _ out e
 finds-words U p at next (Pop n) l out e = slots-fit n l _ out e
-finds-words U p at next Swap l out e = words-fit 2 l _ out e
-finds-words U p at next Nop l out e = omega arith
-finds-words U p at next (Signed op) l out e = words-fit 2 l _ out e
-finds-words U p at next (Unsigned op) l out e = words-fit 2 l _ out e
-finds-words U p at next Negate l out e = words-fit 1 l _ out e
-finds-words U p at next Equal l out e = words-fit 2 l _ out e
-finds-words U p at next NotEqual l out e = words-fit 2 l _ out e
-finds-words U p at next (CompareSigned order) l out e = words-fit 2 l _ out e
-finds-words U p at next (CompareUnsigned order) l out e = words-fit 2 l _ out e
-finds-words U p at next (Set op) l out e = words-fit 2 l _ out e
-finds-words U p at next Not l out e = words-fit 1 l _ out e
-finds-words U p at next Alloc l out e = words-fit 1 l _ out e
-finds-words U p at next Free l out e = words-fit 1 l _ out e
 finds-words U p at next (Jump d) l out e = omega arith
 finds-words U p at next (JumpC d) l out e = words-fit 1 l _ out e
-finds-words U p at next (JumpT d) l out e = words-fit 1 l _ out e
-finds-words U p at next (JumpF d) l out e = words-fit 1 l _ out e
+finds-words U p at next (JumpTF d) l out e = words-fit 1 l _ out e
 finds-words U p at next (Iter d) l out e = words-fit 4 l _ out e
 finds-words U p at next Next l out e = next-fits (U .code) next l out e
-finds-words U p at next (Switch n) l out e = words-fit 1 l _ out e
-finds-words U p at next (SwitchX n) l out e = words-fit 1 l _ out e
+finds-words U p at next (Switch t n) l out e = words-fit 1 l _ out e
 finds-words U p at next Leave l out e = leave-fits (U .code) l out e
 finds-words U p at next (Call d) l out e = omega arith
-finds-words U p at next (Enter par dat) l out e = words-fit par l _ out e
+finds-words U p at next (Enter par) l out e = words-fit par l _ out e
 finds-words U p at next Rtn l out e = omega arith

@@ -1,7 +1,7 @@
 // What an instruction finds on the stack, and its shape for the check.
 ghost use mathlib.Core.Path.{_≡_};
-ghost use Rattle.shape.specs.Counts.{popped, wordsIn, needed};
-ghost use Rattle.shape.specs.Shape.{shapeOf};
+ghost use Rattle.shape.specs.Counts.{popped, wordsIn};
+ghost use Rattle.shape.specs.Shape.{shapeOf, finds, needed};
 use opcode::instruction::Base;
 use opcode::instruction::Instruction;
 use opcode::instruction::Mode;
@@ -60,44 +60,6 @@ pub fn words_in(mode: Mode) -> u32
     }
 }
 
-// The number of stack words that an instruction finds.
-pub fn needed_words(i: Instruction) -> u32
-    ensures { λ n. ⌜ n ≡ needed i ⌝ }
-{
-    match i {
-        Instruction::LoadConstant(_) => 0,
-        Instruction::Load(base, _, _) => popped_words(base),
-        Instruction::LoadAddress(base, _) => popped_words(base),
-        Instruction::Store(base, mode, _) => popped_words(base) + words_in(mode),
-        Instruction::Pop(n) => n,
-        Instruction::Swap => 2,
-        Instruction::Nop => 0,
-        Instruction::Signed(_) => 2,
-        Instruction::Unsigned(_) => 2,
-        Instruction::Negate => 1,
-        Instruction::Equal => 2,
-        Instruction::NotEqual => 2,
-        Instruction::CompareSigned(_) => 2,
-        Instruction::CompareUnsigned(_) => 2,
-        Instruction::Set(_) => 2,
-        Instruction::Not => 1,
-        Instruction::Alloc => 1,
-        Instruction::Free => 1,
-        Instruction::Jump(_) => 0,
-        Instruction::JumpC(_) => 1,
-        Instruction::JumpT(_) => 1,
-        Instruction::JumpF(_) => 1,
-        Instruction::Iter(_) => 4,
-        Instruction::Next => 5,
-        Instruction::Switch(_) => 1,
-        Instruction::SwitchX(_) => 1,
-        Instruction::Leave => 1,
-        Instruction::Call(_) => 0,
-        Instruction::Enter(parameters, _) => parameters,
-        Instruction::Rtn => 0,
-    }
-}
-
 pub fn shape_of(i: Instruction) -> Shape
     ensures { λ s. ⌜ s ≡ shapeOf i ⌝ }
 {
@@ -135,4 +97,31 @@ pub fn shape_of(i: Instruction) -> Shape
         Instruction::Enter(parameters, _) => Shape::Enter(parameters),
         Instruction::Rtn => Shape::Rtn,
     }
+}
+
+// The number of stack words that an instruction of a shape finds.
+pub fn words_found(shape: Shape) -> u32
+    ensures { λ n. ⌜ n ≡ finds shape ⌝ }
+{
+    match shape {
+        Shape::Straight(pops, _) => pops,
+        Shape::Pop(n) => n,
+        Shape::Jump(_) => 0,
+        Shape::JumpC(_) => 1,
+        Shape::JumpTF(_) => 1,
+        Shape::Iter(_) => 4,
+        Shape::Next => 5,
+        Shape::Switch(_, _) => 1,
+        Shape::Leave => 1,
+        Shape::Call(_) => 0,
+        Shape::Enter(parameters) => parameters,
+        Shape::Rtn => 0,
+    }
+}
+
+// The number of stack words that an instruction finds.
+pub fn needed_words(i: Instruction) -> u32
+    ensures { λ n. ⌜ n ≡ needed i ⌝ }
+{
+    words_found(shape_of(i))
 }

@@ -6,10 +6,12 @@ use Rattle.registers.specs.Program.{program}
 use mathlib.Core.List.{[], _∷_}
 use mathlib.Core.Path.{refl, sym}
 use borrow.Author.Needs.{needs}
+use Rattle.shape.specs.Shape.{shapeOf}
 use Rattle.execute.proofs.stored_effect.Statement.{statement}
 use Rattle.execute.proofs.stored_effect.Tie as tie
 
 returns : tie.Need-returns
+unfolding shapeOf
 returns c = λ code. rw (c .before .before .i .given .1, c .store-effect .ensures) (sym (store-found (program code (c .before .before .before .before .before .before .args .areas)) (c .before .before .before .before .before .before .args .q) (c .before .before .before .before .before .before .args .m .now) (c .before .before .before .before .before .before .args .s .now) (c .before .before .before .before .before .before .args .next) (c .before .before .i .given .0 .0) (c .before .before .i .given .0 .1 .0) (c .before .before .i .given .0 .1 .1 .0) (rw (c .before .before .i .given .1) at (c .before .before .before .before .before .before .pre .1 .1))))
 
 returns-2 : tie.Need-returns-2
