@@ -11,8 +11,10 @@ use borrow.Author.Tests.{eqb-false, ne-eqb, lt-leb}
 use Rattle.words.proofs.Tests.{by-test}
 use Rattle.entries.specs.Entries.{entryCount}
 use Rattle.opcode.specs.declared.instruction.Instruction.{Instruction}
-use Rattle.opcode.specs.declared.instruction.Instruction.the-variants.{LoadConstant, Load, LoadAddress, Store, Pop, Swap, Nop, Signed, Unsigned, Negate, Equal, NotEqual, CompareSigned, CompareUnsigned, Set, Not, Alloc, Free, Jump, JumpC, JumpT, JumpF, Iter, Next, Switch, SwitchX, Leave, Call, Enter, Rtn}
-use Rattle.shape.specs.Counts.{popped, wordsIn}
+use Rattle.opcode.specs.declared.instruction.Instruction.the-variants.{LoadConstant, Load, LoadAddress, Store, Pop, Swap, Nop}
+use Rattle.opcode.specs.declared.instruction.Instruction.the-variants.{Operate, Alloc, Free, Jump, JumpC, JumpT, JumpF, Iter}
+use Rattle.opcode.specs.declared.instruction.Instruction.the-variants.{Next, Switch, SwitchX, Leave, Call, Enter, Rtn}
+use Rattle.shape.specs.Counts.{popped, wordsIn, operands}
 use Rattle.shape.specs.Shape.{shapeOf, needed}
 use Rattle.shape.specs.declared.Shape.the-variants as shape
 use Rattle.shape.specs.Linkage.{calling, returning, linkageOf}
@@ -26,9 +28,10 @@ use Rattle.stackmap.specs.Slots.{Slot}
 use Rattle.stackmap.specs.Ways.{Subject, Way, ways}
 use Rattle.safety.specs.Active.{Configuration}
 use Rattle.safety.proofs.Parts.{registersOf, Doing, Callable, SlotsKept, FindsWords}
-use Rattle.safety.proofs.Traps.{data-number, signed-valued, unsigned-valued, negated-valued}
+use Rattle.safety.proofs.Traps.{data-number, operation-valued}
 use Rattle.safety.proofs.Settling.{good-trap, good-finish, good-go, Good, Goes, good-steps}
-use Rattle.safety.proofs.Plain.{plain-go, plain-valued, plain-load, plain-address, plain-store, plain-inverted, plain-allocated, plain-freed, plain-enters}
+use Rattle.safety.proofs.Plain.{plain-go, plain-valued, plain-load, plain-address}
+use Rattle.safety.proofs.Plain.{plain-store, plain-allocated, plain-freed, plain-enters}
 use Rattle.safety.proofs.Moving.{Start, plain-goes}
 use Rattle.safety.proofs.Jumping.{pop-goes, jump-goes, jump-c-goes, jump-tf-goes}
 use Rattle.safety.proofs.Tables.{in-branches, in-ranges}
@@ -73,18 +76,9 @@ module _ (U : Subject) (c : Configuration) (next p : ℕ) (l : List Slot) (out :
   effect-goes (Pop n) D w call back ws t = pop-goes S next n w
   effect-goes Swap D w call back ws t = plain-goes S next 2 2 _ w (plain-go refl refl)
   effect-goes Nop D w call back ws t = plain-goes S next 0 0 _ w (plain-go refl refl)
-  effect-goes (Signed op) D w call back ws t =
-      plain-goes S next 2 1 _ w (plain-valued (registersOf c) next 2 _ (signed-valued op (read ws 0) (read ws 1)))
-  effect-goes (Unsigned op) D w call back ws t =
-      plain-goes S next 2 1 _ w (plain-valued (registersOf c) next 2 _ (unsigned-valued op (read ws 0) (read ws 1)))
-  effect-goes Negate D w call back ws t =
-      plain-goes S next 1 1 _ w (plain-valued (registersOf c) next 1 _ (negated-valued (read ws 0)))
-  effect-goes Equal D w call back ws t = plain-goes S next 2 1 _ w (plain-go refl refl)
-  effect-goes NotEqual D w call back ws t = plain-goes S next 2 1 _ w (plain-go refl refl)
-  effect-goes (CompareSigned order) D w call back ws t = plain-goes S next 2 1 _ w (plain-go refl refl)
-  effect-goes (CompareUnsigned order) D w call back ws t = plain-goes S next 2 1 _ w (plain-go refl refl)
-  effect-goes (Set op) D w call back ws t = plain-goes S next 2 1 _ w (plain-go refl refl)
-  effect-goes Not D w call back ws t = plain-goes S next 1 1 _ w (plain-inverted (registersOf c) next (read ws 0))
+  effect-goes (Operate op) D w call back ws t =
+      plain-goes S next (operands op) 1 _ w
+      (plain-valued (registersOf c) next (operands op) _ (operation-valued op (read ws 0) (read ws 1)))
   effect-goes Alloc D w call back ws t = plain-goes S next 1 1 _ w (plain-allocated (registersOf c) next (c .memory) (read ws 0))
   effect-goes Free D w call back ws t = plain-goes S next 1 0 _ w (plain-freed (registersOf c) next (read ws 0))
   effect-goes (Jump d) D w call back ws t = jump-goes S next d w

@@ -2,12 +2,14 @@
 -- jumps, makes or uses a label, calls or returns has its own.
 use Prim.Native.Nat.{ℕ, _+_}
 use Rattle.opcode.specs.declared.instruction.Instruction.{Instruction}
-use Rattle.opcode.specs.declared.instruction.Instruction.the-variants.{LoadConstant, Load, LoadAddress, Store, Pop, Swap, Nop, Signed, Unsigned, Negate, Equal, NotEqual, CompareSigned, CompareUnsigned, Set, Not, Alloc, Free, Jump, JumpC, JumpT, JumpF, Iter, Next, Switch, SwitchX, Leave, Call, Enter, Rtn}
+use Rattle.opcode.specs.declared.instruction.Instruction.the-variants.{LoadConstant, Load, LoadAddress, Store, Pop, Swap, Nop}
+use Rattle.opcode.specs.declared.instruction.Instruction.the-variants.{Operate, Alloc, Free, Jump, JumpC, JumpT, JumpF, Iter}
+use Rattle.opcode.specs.declared.instruction.Instruction.the-variants.{Next, Switch, SwitchX, Leave, Call, Enter, Rtn}
 use Rattle.shape.specs.declared.Shape.{Shape}
 use Rattle.shape.specs.declared.Shape.the-variants as shape
 use Rattle.shape.specs.declared.Shape.the-variants.{Straight}
 use Rattle.shape.specs.declared.Table.the-variants.{Branches, Ranges}
-use Rattle.shape.specs.Counts.{popped, wordsIn}
+use Rattle.shape.specs.Counts.{popped, wordsIn, operands}
 
 -- Beside each line the manual's brackets; a two-word value counts two.
 unfoldable pub shapeOf : Instruction → Shape
@@ -18,15 +20,7 @@ shapeOf (Store base mode n) = Straight (popped base + wordsIn mode) 0  -- [ val 
 shapeOf (Pop n) = shape.Pop n  -- [ val (,...) => ]
 shapeOf Swap = Straight 2 2  -- [ val, val => val, val ]
 shapeOf Nop = Straight 0 0  -- [ ]
-shapeOf (Signed op) = Straight 2 1  -- [ val, val => val ]
-shapeOf (Unsigned op) = Straight 2 1  -- [ val, val => val ]
-shapeOf Negate = Straight 1 1  -- [ val => val ]
-shapeOf Equal = Straight 2 1  -- [ val, val => bool ]
-shapeOf NotEqual = Straight 2 1  -- [ val, val => bool ]
-shapeOf (CompareSigned order) = Straight 2 1  -- [ val, val => bool ]
-shapeOf (CompareUnsigned order) = Straight 2 1  -- [ val, val => bool ]
-shapeOf (Set op) = Straight 2 1  -- [ set, set => set ]
-shapeOf Not = Straight 1 1  -- [ bool => bool ]
+shapeOf (Operate op) = Straight (operands op) 1  -- [ val, val => val ], NEG_I and NEG [ val => val ]
 shapeOf Alloc = Straight 1 1  -- [ size => adr ]
 shapeOf Free = Straight 1 0  -- [ size => ]
 shapeOf (Jump d) = shape.Jump d  -- [ ]

@@ -1,10 +1,11 @@
 // What an instruction finds on the stack, and its shape for the check.
 ghost use mathlib.Core.Path.{_≡_};
-ghost use Rattle.shape.specs.Counts.{popped, wordsIn};
+ghost use Rattle.shape.specs.Counts.{popped, wordsIn, operands};
 ghost use Rattle.shape.specs.Shape.{shapeOf, finds, needed};
 use opcode::instruction::Base;
 use opcode::instruction::Instruction;
 use opcode::instruction::Mode;
+use opcode::instruction::Operation;
 
 // Whose table stands behind a switch: SWITCH has branches, SWITCH_X has ranges.
 pub enum Table {
@@ -60,6 +61,23 @@ pub fn words_in(mode: Mode) -> u32
     }
 }
 
+// The words that an operation takes.
+pub fn operand_words(op: Operation) -> u32
+    ensures { λ n. ⌜ n ≡ operands op ⌝ }
+{
+    match op {
+        Operation::Signed(_) => 2,
+        Operation::Unsigned(_) => 2,
+        Operation::Negate => 1,
+        Operation::Equal => 2,
+        Operation::NotEqual => 2,
+        Operation::CompareSigned(_) => 2,
+        Operation::CompareUnsigned(_) => 2,
+        Operation::Set(_) => 2,
+        Operation::Not => 1,
+    }
+}
+
 pub fn shape_of(i: Instruction) -> Shape
     ensures { λ s. ⌜ s ≡ shapeOf i ⌝ }
 {
@@ -73,15 +91,7 @@ pub fn shape_of(i: Instruction) -> Shape
         Instruction::Pop(n) => Shape::Pop(n),
         Instruction::Swap => Shape::Straight(2, 2),
         Instruction::Nop => Shape::Straight(0, 0),
-        Instruction::Signed(_) => Shape::Straight(2, 1),
-        Instruction::Unsigned(_) => Shape::Straight(2, 1),
-        Instruction::Negate => Shape::Straight(1, 1),
-        Instruction::Equal => Shape::Straight(2, 1),
-        Instruction::NotEqual => Shape::Straight(2, 1),
-        Instruction::CompareSigned(_) => Shape::Straight(2, 1),
-        Instruction::CompareUnsigned(_) => Shape::Straight(2, 1),
-        Instruction::Set(_) => Shape::Straight(2, 1),
-        Instruction::Not => Shape::Straight(1, 1),
+        Instruction::Operate(op) => Shape::Straight(operand_words(op), 1),
         Instruction::Alloc => Shape::Straight(1, 1),
         Instruction::Free => Shape::Straight(1, 0),
         Instruction::Jump(distance) => Shape::Jump(distance),
