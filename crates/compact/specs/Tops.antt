@@ -6,7 +6,7 @@ use mathlib.Core.List.{List}
 use Prim.Native.Nat.{ℕ, zero, suc, _+_, _-_, _*_}
 use lib.Dec.{eqb, leb}
 use lib.ListN.{getD}
-use Rattle.stackmap.specs.Ways.{isLoop}
+use Rattle.stackmap.specs.Ways.{isIter}
 use Rattle.compact.specs.declared.top.Top.{Top}
 
 abbrev pub top : ℕ → ℕ → Top
@@ -15,7 +15,7 @@ top height origin = record { height = height; origin = origin }
 -- The height up to and with the topmost label: ITER's label lies on its list, a switch's in place of the word it pops.
 abbrev pub labelHeight : List ℕ → List ℕ → ℕ → ℕ
 labelHeight code w zero = 0
-labelHeight code w (suc m) = cond (isLoop code m) (getD w (4 * m) 0) (getD w (4 * m) 0 - 1)
+labelHeight code w (suc m) = cond (isIter code m) (getD w (4 * m) 0) (getD w (4 * m) 0 - 1)
 
 -- The origin of the next label under the topmost one.
 abbrev pub originUnder : List ℕ → ℕ → ℕ

@@ -1,7 +1,7 @@
 // The height of a list of slots and its topmost label.
 ghost use mathlib.Core.Path.{_≡_};
 ghost use Prim.Native.Nat.{_≤_, _<_};
-ghost use Rattle.stackmap.specs.Ways.{isLoop, isSelect};
+ghost use Rattle.stackmap.specs.Ways.{isIter, isSwitch};
 ghost use Rattle.compact.specs.Tops.{labelHeight, originUnder, poppable, labelled, lowered, loweredBy};
 
 // `origin` is 1 plus the offset of the topmost label's origin, 0 if there is no label.
@@ -11,14 +11,14 @@ pub struct Top {
 }
 
 // Whether ITER, or a switch, stands at an offset.
-pub fn is_loop(code: &[u8], at: usize) -> bool
-    ensures { λ b. ⌜ b ≡ isLoop (now (code .entry)) at ⌝ }
+pub fn is_iter(code: &[u8], at: usize) -> bool
+    ensures { λ b. ⌜ b ≡ isIter (now (code .entry)) at ⌝ }
 {
     words::byte_at(code, at) == 0xE0
 }
 
-pub fn is_select(code: &[u8], at: usize) -> bool
-    ensures { λ b. ⌜ b ≡ isSelect (now (code .entry)) at ⌝ }
+pub fn is_switch(code: &[u8], at: usize) -> bool
+    ensures { λ b. ⌜ b ≡ isSwitch (now (code .entry)) at ⌝ }
 {
     let opcode = words::byte_at(code, at);
     if opcode == 0xE2 {
@@ -36,7 +36,7 @@ fn label_height(code: &[u8], w: &[u16], origin: u16) -> u32
     }
     let at = (origin - 1) as usize;
     let shown = workspace::half_at(w, 4 * at) as u32;
-    if is_loop(code, at) {
+    if is_iter(code, at) {
         return shown;
     }
     if shown == 0 {

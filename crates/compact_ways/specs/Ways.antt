@@ -5,10 +5,10 @@ use Prim.Native.Nat.{ℕ, zero, suc, _+_, _-_}
 use lib.Dec.{eqb, leb}
 use Rattle.operand.specs.Distance.{placeAt}
 use Rattle.shape.specs.declared.Shape.{Shape}
-use Rattle.shape.specs.declared.Shape.the-variants.{Straight, Drop, Goto, Branch, Keep, Loop, Again, Select, Exit, Invoke, Begin, Return}
+use Rattle.shape.specs.declared.Shape.the-variants.{Straight, Pop, Jump, JumpC, JumpTF, Iter, Next, Switch, Leave, Call, Enter, Rtn}
 use Rattle.shape.specs.declared.Table.{Table}
 use Rattle.switch_table.specs.Switch.{exitLabel}
-use Rattle.stackmap.specs.Ways.{isLoop, isSelect, loopStart, parametersIn, resultsIn}
+use Rattle.stackmap.specs.Ways.{isIter, isSwitch, iterStart, parametersIn, resultsIn}
 use Rattle.compact.specs.declared.top.Top.{Top}
 use Rattle.compact_ways.specs.declared.Way.{Way}
 use Rattle.compact_ways.specs.declared.Ways.{Ways}
@@ -28,56 +28,56 @@ unfoldable pub straightWays : List ℕ → List ℕ → ℕ → Top → ℕ → 
 straightWays code w next t pops pushes =
     cond (poppable code w t pops) (One (way next (t .height - pops + pushes) (t .origin))) Broken
 
-unfoldable pub dropWays : List ℕ → List ℕ → ℕ → Top → ℕ → Ways
-dropWays code w next t n = cond (leb n (t .height)) (One (toward next (loweredBy code w n t))) Broken
+unfoldable pub popWays : List ℕ → List ℕ → ℕ → Top → ℕ → Ways
+popWays code w next t n = cond (leb n (t .height)) (One (toward next (loweredBy code w n t))) Broken
 
-unfoldable pub branchWays : List ℕ → List ℕ → ℕ → ℕ → Top → ℕ → Ways
-branchWays code w at next t d =
+unfoldable pub jumpCWays : List ℕ → List ℕ → ℕ → ℕ → Top → ℕ → Ways
+jumpCWays code w at next t d =
     cond (poppable code w t 1) (inOrder (way next (t .height - 1) (t .origin)) (way (placeAt at d) (t .height - 1) (t .origin))) Broken
 
-unfoldable pub keepWays : List ℕ → List ℕ → ℕ → ℕ → Top → ℕ → Ways
-keepWays code w at next t d =
+unfoldable pub jumpTFWays : List ℕ → List ℕ → ℕ → ℕ → Top → ℕ → Ways
+jumpTFWays code w at next t d =
     cond (poppable code w t 1) (inOrder (way next (t .height - 1) (t .origin)) (toward (placeAt at d) t)) Broken
 
-unfoldable pub loopWays : List ℕ → List ℕ → ℕ → ℕ → Top → ℕ → Ways
-loopWays code w at next t d =
+unfoldable pub iterWays : List ℕ → List ℕ → ℕ → ℕ → Top → ℕ → Ways
+iterWays code w at next t d =
     cond (poppable code w t 4) (inOrder (way next (t .height + 1) (at + 1)) (way (placeAt at d) (t .height - 4) (t .origin))) Broken
 
 -- The label on top, and its origin ITER.
-abbrev pub againFrom : List ℕ → List ℕ → ℕ → Top → ℕ → Ways
-againFrom code w next t zero = Broken
-againFrom code w next t (suc m) =
-    cond (isLoop code m && labelled code w t)
-    (inOrder (way next (t .height - 5) (originUnder w (suc m))) (toward (loopStart m) t)) Broken
+abbrev pub nextFrom : List ℕ → List ℕ → ℕ → Top → ℕ → Ways
+nextFrom code w next t zero = Broken
+nextFrom code w next t (suc m) =
+    cond (isIter code m && labelled code w t)
+    (inOrder (way next (t .height - 5) (originUnder w (suc m))) (toward (iterStart m) t)) Broken
 
-unfoldable pub againWays : List ℕ → List ℕ → ℕ → Top → Ways
-againWays code w next t = againFrom code w next t (t .origin)
+unfoldable pub nextWays : List ℕ → List ℕ → ℕ → Top → Ways
+nextWays code w next t = nextFrom code w next t (t .origin)
 
 -- The label on top, and its origin a switch.
-abbrev pub exitFrom : List ℕ → List ℕ → Top → ℕ → Ways
-exitFrom code w t zero = Broken
-exitFrom code w t (suc m) =
-    cond (isSelect code m && labelled code w t) (One (way (exitLabel code m) (t .height - 1) (originUnder w (suc m)))) Broken
+abbrev pub leaveFrom : List ℕ → List ℕ → Top → ℕ → Ways
+leaveFrom code w t zero = Broken
+leaveFrom code w t (suc m) =
+    cond (isSwitch code m && labelled code w t) (One (way (exitLabel code m) (t .height - 1) (originUnder w (suc m)))) Broken
 
-unfoldable pub exitWays : List ℕ → List ℕ → Top → Ways
-exitWays code w t = exitFrom code w t (t .origin)
+unfoldable pub leaveWays : List ℕ → List ℕ → Top → Ways
+leaveWays code w t = leaveFrom code w t (t .origin)
 
-unfoldable pub selectWays : List ℕ → List ℕ → ℕ → Top → Table → ℕ → Ways
-selectWays code w at t table n = cond (poppable code w t 1) (Many table n (top (t .height) (at + 1))) Broken
+unfoldable pub switchWays : List ℕ → List ℕ → ℕ → Top → Table → ℕ → Ways
+switchWays code w at t table n = cond (poppable code w t 1) (Many table n (top (t .height) (at + 1))) Broken
 
-unfoldable pub returnWays : Top → ℕ → Ways
-returnWays t results = cond (eqb (t .height) results && eqb (t .origin) 0) Ended Broken
+unfoldable pub rtnWays : Top → ℕ → Ways
+rtnWays t results = cond (eqb (t .height) results && eqb (t .origin) 0) Ended Broken
 
 unfoldable pub waysTop : List ℕ → List ℕ → List ℕ → ℕ → ℕ → ℕ → Shape → Top → Ways
 waysTop code results w p at next (Straight pops pushes) t = straightWays code w next t pops pushes
-waysTop code results w p at next (Drop n) t = dropWays code w next t n
-waysTop code results w p at next (Goto d) t = One (toward (placeAt at d) t)
-waysTop code results w p at next (Branch d) t = branchWays code w at next t d
-waysTop code results w p at next (Keep d) t = keepWays code w at next t d
-waysTop code results w p at next (Loop d) t = loopWays code w at next t d
-waysTop code results w p at next Again t = againWays code w next t
-waysTop code results w p at next (Select table n) t = selectWays code w at t table n
-waysTop code results w p at next Exit t = exitWays code w t
-waysTop code results w p at next (Invoke c) t = straightWays code w next t (parametersIn code c) (resultsIn results c)
-waysTop code results w p at next (Begin par) t = straightWays code w next t par 0
-waysTop code results w p at next Return t = returnWays t (resultsIn results p)
+waysTop code results w p at next (Pop n) t = popWays code w next t n
+waysTop code results w p at next (Jump d) t = One (toward (placeAt at d) t)
+waysTop code results w p at next (JumpC d) t = jumpCWays code w at next t d
+waysTop code results w p at next (JumpTF d) t = jumpTFWays code w at next t d
+waysTop code results w p at next (Iter d) t = iterWays code w at next t d
+waysTop code results w p at next Next t = nextWays code w next t
+waysTop code results w p at next (Switch table n) t = switchWays code w at t table n
+waysTop code results w p at next Leave t = leaveWays code w t
+waysTop code results w p at next (Call c) t = straightWays code w next t (parametersIn code c) (resultsIn results c)
+waysTop code results w p at next (Enter par) t = straightWays code w next t par 0
+waysTop code results w p at next Rtn t = rtnWays t (resultsIn results p)

@@ -2,7 +2,7 @@
 ghost use mathlib.Core.Path.{_≡_};
 ghost use Prim.Native.Nat.{_<_};
 ghost use Rattle.stackmap.specs.Ways.{parametersIn, resultsIn};
-ghost use Rattle.compact_ways.specs.Ways.{toward, inOrder, straightWays, dropWays, branchWays, keepWays, loopWays, againWays, exitWays, selectWays, returnWays, waysTop};
+ghost use Rattle.compact_ways.specs.Ways.{toward, inOrder, straightWays, popWays, jumpCWays, jumpTFWays, iterWays, nextWays, leaveWays, switchWays, rtnWays, waysTop};
 use compact::top;
 use compact::top::Top;
 use shape::Shape;
@@ -74,8 +74,8 @@ fn straight_ways(code: &[u8], w: &[u16], next: usize, t: Top, pops: u32, pushes:
     })
 }
 
-fn drop_ways(code: &[u8], w: &[u16], next: usize, t: Top, n: u32) -> Ways
-    ensures { λ a. ⌜ a ≡ dropWays (now (code .entry)) (now (w .entry)) next t n ⌝ }
+fn pop_ways(code: &[u8], w: &[u16], next: usize, t: Top, n: u32) -> Ways
+    ensures { λ a. ⌜ a ≡ popWays (now (code .entry)) (now (w .entry)) next t n ⌝ }
 {
     if t.height < n {
         return Ways::Broken;
@@ -83,9 +83,9 @@ fn drop_ways(code: &[u8], w: &[u16], next: usize, t: Top, n: u32) -> Ways
     Ways::One(way_toward(next, t.lowered_by(code, w, n)))
 }
 
-fn branch_ways(code: &[u8], w: &[u16], at: usize, next: usize, t: Top, distance: u32) -> Ways
+fn jump_c_ways(code: &[u8], w: &[u16], at: usize, next: usize, t: Top, distance: u32) -> Ways
     requires { ⌜ at < 65535 ⌝ }
-    ensures { λ a. ⌜ a ≡ branchWays (now (code .entry)) (now (w .entry)) at next t distance ⌝ }
+    ensures { λ a. ⌜ a ≡ jumpCWays (now (code .entry)) (now (w .entry)) at next t distance ⌝ }
 {
     if !t.is_poppable(code, w, 1) {
         return Ways::Broken;
@@ -104,9 +104,9 @@ fn branch_ways(code: &[u8], w: &[u16], at: usize, next: usize, t: Top, distance:
     in_order(on, away)
 }
 
-fn keep_ways(code: &[u8], w: &[u16], at: usize, next: usize, t: Top, distance: u32) -> Ways
+fn jump_tf_ways(code: &[u8], w: &[u16], at: usize, next: usize, t: Top, distance: u32) -> Ways
     requires { ⌜ at < 65535 ⌝ }
-    ensures { λ a. ⌜ a ≡ keepWays (now (code .entry)) (now (w .entry)) at next t distance ⌝ }
+    ensures { λ a. ⌜ a ≡ jumpTFWays (now (code .entry)) (now (w .entry)) at next t distance ⌝ }
 {
     if !t.is_poppable(code, w, 1) {
         return Ways::Broken;
@@ -119,9 +119,9 @@ fn keep_ways(code: &[u8], w: &[u16], at: usize, next: usize, t: Top, distance: u
     in_order(on, way_toward(successors::place_at(at, distance), t))
 }
 
-fn loop_ways(code: &[u8], w: &[u16], at: usize, next: usize, t: Top, distance: u32) -> Ways
+fn iter_ways(code: &[u8], w: &[u16], at: usize, next: usize, t: Top, distance: u32) -> Ways
     requires { ⌜ at < 65535 ⌝ }
-    ensures { λ a. ⌜ a ≡ loopWays (now (code .entry)) (now (w .entry)) at next t distance ⌝ }
+    ensures { λ a. ⌜ a ≡ iterWays (now (code .entry)) (now (w .entry)) at next t distance ⌝ }
 {
     if !t.is_poppable(code, w, 4) {
         return Ways::Broken;
@@ -140,14 +140,14 @@ fn loop_ways(code: &[u8], w: &[u16], at: usize, next: usize, t: Top, distance: u
     in_order(on, away)
 }
 
-fn again_ways(code: &[u8], w: &[u16], next: usize, t: Top) -> Ways
-    ensures { λ a. ⌜ a ≡ againWays (now (code .entry)) (now (w .entry)) next t ⌝ }
+fn next_ways(code: &[u8], w: &[u16], next: usize, t: Top) -> Ways
+    ensures { λ a. ⌜ a ≡ nextWays (now (code .entry)) (now (w .entry)) next t ⌝ }
 {
     if t.origin == 0 {
         return Ways::Broken;
     }
     let origin = (t.origin - 1) as usize;
-    if !top::is_loop(code, origin) {
+    if !top::is_iter(code, origin) {
         return Ways::Broken;
     }
     if !t.is_labelled(code, w) {
@@ -166,14 +166,14 @@ fn again_ways(code: &[u8], w: &[u16], next: usize, t: Top) -> Ways
     in_order(on, way_toward(origin + 3, t))
 }
 
-fn exit_ways(code: &[u8], w: &[u16], t: Top) -> Ways
-    ensures { λ a. ⌜ a ≡ exitWays (now (code .entry)) (now (w .entry)) t ⌝ }
+fn leave_ways(code: &[u8], w: &[u16], t: Top) -> Ways
+    ensures { λ a. ⌜ a ≡ leaveWays (now (code .entry)) (now (w .entry)) t ⌝ }
 {
     if t.origin == 0 {
         return Ways::Broken;
     }
     let origin = (t.origin - 1) as usize;
-    if !top::is_select(code, origin) {
+    if !top::is_switch(code, origin) {
         return Ways::Broken;
     }
     if !t.is_labelled(code, w) {
@@ -192,9 +192,9 @@ fn exit_ways(code: &[u8], w: &[u16], t: Top) -> Ways
     })
 }
 
-fn select_ways(code: &[u8], w: &[u16], at: usize, t: Top, table: Table, n: u32) -> Ways
+fn switch_ways(code: &[u8], w: &[u16], at: usize, t: Top, table: Table, n: u32) -> Ways
     requires { ⌜ at < 65535 ⌝ }
-    ensures { λ a. ⌜ a ≡ selectWays (now (code .entry)) (now (w .entry)) at t table n ⌝ }
+    ensures { λ a. ⌜ a ≡ switchWays (now (code .entry)) (now (w .entry)) at t table n ⌝ }
 {
     if !t.is_poppable(code, w, 1) {
         return Ways::Broken;
@@ -209,8 +209,8 @@ fn select_ways(code: &[u8], w: &[u16], at: usize, t: Top, table: Table, n: u32) 
     )
 }
 
-fn return_ways(t: Top, results: u32) -> Ways
-    ensures { λ a. ⌜ a ≡ returnWays t results ⌝ }
+fn rtn_ways(t: Top, results: u32) -> Ways
+    ensures { λ a. ⌜ a ≡ rtnWays t results ⌝ }
 {
     if t.height != results {
         return Ways::Broken;
@@ -237,15 +237,15 @@ pub fn ways_of(
 {
     match shape {
         Shape::Straight(pops, pushes) => straight_ways(code, w, next, t, pops, pushes),
-        Shape::Drop(n) => drop_ways(code, w, next, t, n),
-        Shape::Goto(distance) => Ways::One(way_toward(successors::place_at(at, distance), t)),
-        Shape::Branch(distance) => branch_ways(code, w, at, next, t, distance),
-        Shape::Keep(distance) => keep_ways(code, w, at, next, t, distance),
-        Shape::Loop(distance) => loop_ways(code, w, at, next, t, distance),
-        Shape::Again => again_ways(code, w, next, t),
-        Shape::Select(table, n) => select_ways(code, w, at, t, table, n),
-        Shape::Exit => exit_ways(code, w, t),
-        Shape::Invoke(c) => {
+        Shape::Pop(n) => pop_ways(code, w, next, t, n),
+        Shape::Jump(distance) => Ways::One(way_toward(successors::place_at(at, distance), t)),
+        Shape::JumpC(distance) => jump_c_ways(code, w, at, next, t, distance),
+        Shape::JumpTF(distance) => jump_tf_ways(code, w, at, next, t, distance),
+        Shape::Iter(distance) => iter_ways(code, w, at, next, t, distance),
+        Shape::Next => next_ways(code, w, next, t),
+        Shape::Switch(table, n) => switch_ways(code, w, at, t, table, n),
+        Shape::Leave => leave_ways(code, w, t),
+        Shape::Call(c) => {
             straight_ways(
                 code,
                 w,
@@ -255,7 +255,7 @@ pub fn ways_of(
                 callee_results(results, c),
             )
         }
-        Shape::Begin(parameters) => straight_ways(code, w, next, t, parameters, 0),
-        Shape::Return => return_ways(t, callee_results(results, p)),
+        Shape::Enter(parameters) => straight_ways(code, w, next, t, parameters, 0),
+        Shape::Rtn => rtn_ways(t, callee_results(results, p)),
     }
 }

@@ -13,7 +13,7 @@ use Rattle.switch_table.specs.Switch.{exitDistance, elseDistance, branchDistanc
 use Rattle.opcode.specs.Table.{rowOf}
 use Rattle.shape.specs.Shape.{shapeOf}
 use Rattle.layout.specs.Cut.{cutOf}
-use Rattle.successors.specs.Successors.{selectTargets}
+use Rattle.successors.specs.Successors.{switchTargets}
 use Rattle.faults.specs.Faults.{strays, misplaced, uncallable, anywhere, codeNumber}
 use Rattle.stackmap.specs.Ways.{ways}
 use Rattle.stackmap.specs.StackMap.{waysAt}
@@ -21,8 +21,9 @@ use Rattle.stackmap.specs.Walk.{visited, walkOf}
 use Rattle.verifier.specs.Check.{resultsSound, listNumber, verdictOf, checkOf}
 use Rattle.operate.specs.Arithmetic.{modZ, signedValue, unsignedValue, negatedValue}
 use Rattle.operate.specs.Sets.{setWord}
-use Rattle.operate.specs.Value.{signedWord, unsignedWord}
-use Rattle.effect.specs.Data.{loadFrom, addressOf, storeTo, inverted, allocated, freed}
+use Rattle.operate.specs.Value.{signedWord, unsignedWord, invertedValue}
+use Rattle.operate.specs.Operation.{operationValue}
+use Rattle.effect.specs.Data.{loadFrom, addressOf, storeTo, allocated, freed}
 use Rattle.registers.specs.Memory.{live, protects}
 use Rattle.control.specs.Control.{jumps, jumpsIfFalse, jumpsKeeping, iterates, nextSum, repeats, switches, searches, calls, enters, returns}
 use Rattle.execute.specs.Execute.{execute}
@@ -33,5 +34,5 @@ use Rattle.step.specs.Step.{settled, performed, stepOf}
 use Rattle.conformance.specs.Cases.{recordFor, checked, played, table, Stands}
 
 pub stands : Stands
-unfolding halfwordAt wordAt entryAt entryCount countSound entriesInOrder entriesSound regionEnd headerOf sizesFit codeAt constantsAt relocationAt versionsAt sourcesAt recordLength codeOf recordNumber readingOf sourceOffsets sourceSound issueAt versionSound instructionAt decodeIn decodeAt lengthIn lengthAt extended exitDistance elseDistance branchDistance rangeDistance rangeHolds searchDistance rowOf modZ signedValue unsignedValue negatedValue setWord signedWord unsignedWord loadFrom addressOf storeTo inverted allocated freed live protects jumps jumpsIfFalse jumpsKeeping iterates nextSum repeats switches searches calls enters returns execute sizesTaken headerKept registersFit fits constantWords initialData loadedMemory startOf loadNumber loadOf runNumber runOf settled performed stepOf recordFor played table shapeOf cutOf selectTargets strays misplaced uncallable anywhere codeNumber ways waysAt visited walkOf resultsSound listNumber verdictOf checkOf checked
+unfolding halfwordAt wordAt entryAt entryCount countSound entriesInOrder entriesSound regionEnd headerOf sizesFit codeAt constantsAt relocationAt versionsAt sourcesAt recordLength codeOf recordNumber readingOf sourceOffsets sourceSound issueAt versionSound instructionAt decodeIn decodeAt lengthIn lengthAt extended exitDistance elseDistance branchDistance rangeDistance rangeHolds searchDistance rowOf modZ signedValue unsignedValue negatedValue invertedValue setWord operationValue signedWord unsignedWord loadFrom addressOf storeTo allocated freed live protects jumps jumpsIfFalse jumpsKeeping iterates nextSum repeats switches searches calls enters returns execute sizesTaken headerKept registersFit fits constantWords initialData loadedMemory startOf loadNumber loadOf runNumber runOf settled performed stepOf recordFor played table shapeOf cutOf switchTargets strays misplaced uncallable anywhere codeNumber ways waysAt visited walkOf resultsSound listNumber verdictOf checkOf checked
 stands = (refl, refl)

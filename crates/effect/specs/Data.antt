@@ -1,5 +1,5 @@
--- Loads, load addresses, stores, a value pushed, NEG, ALLOC and FREE (5.2.4.1 to 5.2.4.4, 5.2.4.7 to 5.2.4.10): q are the registers,
--- m is the memory, and `next` is the place after the instruction.
+-- Loads, load addresses, stores, a value pushed, ALLOC and FREE (5.2.4.1 to 5.2.4.4, 5.2.4.7 to 5.2.4.10): q are the registers, m is
+-- the memory, and `next` is the place after the instruction.
 use mathlib.Core.Bool.{Bool, cond, _||_}
 use mathlib.Core.List.{List}
 use Prim.Native.Nat.{ℕ, _+_, _-_}
@@ -11,6 +11,7 @@ use Rattle.opcode.specs.declared.instruction.Base.{Base}
 use Rattle.opcode.specs.declared.instruction.Base.the-variants.{Local, Global, Constant, Popped}
 use Rattle.operate.specs.declared.Value.{Value}
 use Rattle.operate.specs.declared.Value.the-variants.{Word, Trap}
+use Rattle.operate.specs.Value.{isBoolean}
 use Rattle.shape.specs.Counts.{wordsIn}
 use Rattle.registers.specs.declared.Registers.{Registers}
 use Rattle.effect.specs.declared.effect.Push.{Push}
@@ -77,11 +78,7 @@ valued q next gone (Trap n) = trap n
 
 -- 34 is "not a boolean".
 abbrev pub boolean : ℕ → Effect → Effect
-boolean b e = cond (ltb b 2) e (trap 34)
-
--- NEG.
-unfoldable pub inverted : Registers → ℕ → ℕ → Effect
-inverted q next b = boolean b (gives q next 1 (1 - b))
+boolean b e = cond (isBoolean b) e (trap 34)
 
 -- ALLOC: POP (L); PUSH (MP); MP := MP + L. 35 is "memory full".
 unfoldable pub allocated : Registers → List ℕ → ℕ → ℕ → Effect

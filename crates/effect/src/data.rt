@@ -3,7 +3,7 @@ ghost use mathlib.Core.Path.{_≡_};
 ghost use mathlib.Core.Bool.{true};
 ghost use Prim.Native.Nat.{_≤_};
 ghost use lib.ListN.{length};
-ghost use Rattle.effect.specs.Data.{baseOf, loadFrom, addressOf, storeTo, gives, valued, inverted, allocated, freed};
+ghost use Rattle.effect.specs.Data.{baseOf, loadFrom, addressOf, storeTo, gives, valued, allocated, freed};
 ghost use Rattle.registers.specs.Memory.{chained};
 ghost use Rattle.registers.specs.Program.{framesStart};
 use crate::effect::Effect;
@@ -135,16 +135,6 @@ pub fn valued(q: Registers, next: u32, gone: u32, v: Value) -> Effect
         Value::Word(x) => given(q, next, gone, x),
         Value::Trap(n) => Effect::Trap(n),
     }
-}
-
-// NEG.
-pub fn inverted(q: Registers, next: u32, b: u32) -> Effect
-    ensures { λ e. ⌜ e ≡ inverted q next b ⌝ }
-{
-    if 1 < b {
-        return Effect::Trap(34);
-    }
-    given(q, next, 1, 1 - b)
 }
 
 // ALLOC.

@@ -1,26 +1,32 @@
--- An instruction whose tag is none of a group's is not of the group: what the last arm of a match over the group is told. By a table
--- of the groups by tag; that none of the told tags is the group's is computed.
-use mathlib.Core.Bool.{Bool, true, not, _&&_, and-eq-true-iff}
+-- An instruction whose tag is none of a group's is not of the group: what the last arm of a match over the group is told. By the list
+-- of groups; that none of the other tags is the group's is computed.
+use mathlib.Core.Bool.{Bool, true, false, not, _&&_, and-eq-true-iff}
 use mathlib.Core.Logic.{inl, inr}
 use mathlib.Core.Path.{_≡_, _∙_, refl, sym, ap}
 use mathlib.Core.List.{List, [], _∷_}
-use Prim.Native.Nat.{ℕ}
+use Prim.Native.Nat.{ℕ, _+_}
 use lib.Dec.{eqb}
 use lib.ListN.{getD}
 use borrow.Author.Tests.{eqb-false, not-true}
 use denote.Enum.Declared.{tagOf}
 use types.Run.{OneOf}
 use Rattle.opcode.specs.declared.instruction.Instruction.{Instruction}
-use Rattle.opcode.specs.declared.instruction.Instruction.the-variants.{LoadConstant, Load, LoadAddress, Store, Pop, Swap, Nop, Signed, Unsigned, Negate, Equal, NotEqual, CompareSigned, CompareUnsigned, Set, Not, Alloc, Free, Jump, JumpC, JumpT, JumpF, Iter, Next, Switch, SwitchX, Leave, Call, Enter, Rtn}
+use Rattle.opcode.specs.declared.instruction.Instruction.the-variants.{LoadConstant, Load, LoadAddress, Store, Pop, Swap, Nop}
+use Rattle.opcode.specs.declared.instruction.Instruction.the-variants.{Operate, Alloc, Free, Jump, JumpC, JumpT, JumpF, Iter}
+use Rattle.opcode.specs.declared.instruction.Instruction.the-variants.{Next, Switch, SwitchX, Leave, Call, Enter, Rtn}
 use Rattle.opcode.proofs.instruction.Instruction.{the-type}
 use Rattle.execute.specs.declared.Group.{Group as Kind}
 use Rattle.execute.specs.declared.Group.the-variants.{Gives, Goes, Stores, Others}
 use Rattle.execute.specs.Group.{groupOf}
 
--- The group of each tag, and a number for each group.
+-- The groups in the order of the enum, and a number for each group.
+abbrev groups : List Kind
+groups =
+    Gives ∷ Gives ∷ Gives ∷ Stores ∷ Goes ∷ Gives ∷ Goes ∷ Gives ∷ Others ∷ Others ∷ Goes ∷ Goes ∷ Goes ∷ Goes ∷ Others ∷ Others ∷
+    Others ∷ Others ∷ Goes ∷ Others ∷ Others ∷ Others ∷ []
+
 abbrev groupAt : ℕ → Kind
-groupAt tag =
-    getD (Gives ∷ Gives ∷ Gives ∷ Stores ∷ Goes ∷ Gives ∷ Goes ∷ Gives ∷ Gives ∷ Gives ∷ Gives ∷ Gives ∷ Gives ∷ Gives ∷ Gives ∷ Gives ∷ Others ∷ Others ∷ Goes ∷ Goes ∷ Goes ∷ Goes ∷ Others ∷ Others ∷ Others ∷ Others ∷ Goes ∷ Others ∷ Others ∷ Others ∷ []) tag Others
+groupAt tag = getD groups tag Others
 
 abbrev numberOf : Kind → ℕ
 numberOf Gives = 0
@@ -36,15 +42,7 @@ tagged (Store base mode n) = refl
 tagged (Pop n) = refl
 tagged Swap = refl
 tagged Nop = refl
-tagged (Signed op) = refl
-tagged (Unsigned op) = refl
-tagged Negate = refl
-tagged Equal = refl
-tagged NotEqual = refl
-tagged (CompareSigned order) = refl
-tagged (CompareUnsigned order) = refl
-tagged (Set op) = refl
-tagged Not = refl
+tagged (Operate op) = refl
 tagged Alloc = refl
 tagged Free = refl
 tagged (Jump d) = refl
@@ -78,5 +76,23 @@ none g (k ∷ j ∷ ks) a t (inl o) e = other g k (apart g (j ∷ ks)) a t o e
 none g (k ∷ j ∷ ks) a t (inr o) e =
     none g (j ∷ ks) (and-eq-true-iff (not (eqb (numberOf (groupAt k)) (numberOf g))) (apart g (j ∷ ks)) .0 a .1) t o e
 
-pub told : (g : Kind) (ks : List ℕ) → apart g ks ≡ true → (i : Instruction) → OneOf ks (tagOf the-type i) → groupOf i ≡ g → ⊥
-told g ks a i o e = none g ks a (tagOf the-type i) o (tagged i ∙ e)
+-- The tags of all other groups.
+abbrev unless : Bool → ℕ → List ℕ → List ℕ
+unless true k ks = ks
+unless false k ks = k ∷ ks
+
+abbrev othersFrom : Kind → ℕ → List Kind → List ℕ
+othersFrom g k [] = []
+othersFrom g k (h ∷ rest) = unless (eqb (numberOf h) (numberOf g)) k (othersFrom g (k + 1) rest)
+
+abbrev pub others : Kind → List ℕ
+others g = othersFrom g 0 groups
+
+others-apart : (g : Kind) → apart g (others g) ≡ true
+others-apart Gives = refl
+others-apart Goes = refl
+others-apart Stores = refl
+others-apart Others = refl
+
+pub told : (g : Kind) (i : Instruction) → OneOf (others g) (tagOf the-type i) → groupOf i ≡ g → ⊥
+told g i o e = none g (others g) (others-apart g) (tagOf the-type i) o (tagged i ∙ e)

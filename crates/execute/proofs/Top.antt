@@ -9,8 +9,13 @@ use Rattle.opcode.specs.declared.instruction.Mode.{Mode}
 use Rattle.opcode.specs.declared.instruction.Mode.the-variants.{Normal, Double}
 use Rattle.opcode.specs.declared.instruction.Base.{Base}
 use Rattle.opcode.specs.declared.instruction.Base.the-variants.{Local, Global, Constant, Popped}
+use Rattle.opcode.specs.declared.instruction.Operation.{Operation}
+use Rattle.opcode.specs.declared.instruction.Operation.the-variants.{Signed, Unsigned, Negate, Equal, NotEqual}
+use Rattle.opcode.specs.declared.instruction.Operation.the-variants.{CompareSigned, CompareUnsigned, Set, Not}
 use Rattle.opcode.specs.declared.instruction.Instruction.the-variants.{Store, Iter, Next}
-use Rattle.shape.specs.Counts.{popped, wordsIn}
+use Rattle.operate.specs.declared.Value.{Value}
+use Rattle.operate.specs.Operation.{operationValue}
+use Rattle.shape.specs.Counts.{popped, wordsIn, operands}
 use Rattle.registers.specs.declared.Registers.{Registers}
 use Rattle.registers.specs.Program.{Program}
 use Rattle.registers.specs.Memory.{read}
@@ -23,6 +28,31 @@ pub found : (s : List ℕ) (h n j : ℕ) → n ≤ h → j < n → read (topWord
 found s h n j l k =
     let e : h - n + j ≡ h - (n - j) = omega arith in
     getD-take n (drop (h - n) s) j 0 k ∙ (getD-drop (h - n) s j 0 ∙ ap (read s) e)
+
+pub top-found : (s : List ℕ) (h : ℕ) → 1 ≤ h → read (topWords 1 h s) 0 ≡ read s (h - 1)
+top-found s h l = found s h 1 0 l (omega arith)
+
+-- What looks at two words, or at one.
+two-found : (f : ℕ → ℕ → Value) (s : List ℕ) (h : ℕ) → 2 ≤ h
+    → f (read (topWords 2 h s) 0) (read (topWords 2 h s) 1) ≡ f (read s (h - 2)) (read s (h - 1))
+two-found f s h l = rw (found s h 2 0 l (omega arith), found s h 2 1 l (omega arith))
+
+one-found : (f : ℕ → Value) (s : List ℕ) (h : ℕ) → 1 ≤ h → f (read (topWords 1 h s) 0) ≡ f (read s (h - 1))
+one-found f s h l = ap f (top-found s h l)
+
+pub operation-found : (op : Operation) (s : List ℕ) (h : ℕ) → operands op ≤ h
+    → let ws = topWords (operands op) h s in
+    operationValue op (read ws 0) (read ws 1) ≡ operationValue op (read s (h - operands op)) (read s (h - 1))
+unfolding operationValue
+operation-found (Signed op) = two-found (operationValue (Signed op))
+operation-found (Unsigned op) = two-found (operationValue (Unsigned op))
+operation-found Negate = one-found (λ x. operationValue Negate x 0)
+operation-found Equal = two-found (operationValue Equal)
+operation-found NotEqual = two-found (operationValue NotEqual)
+operation-found (CompareSigned order) = two-found (operationValue (CompareSigned order))
+operation-found (CompareUnsigned order) = two-found (operationValue (CompareUnsigned order))
+operation-found (Set op) = two-found (operationValue (Set op))
+operation-found Not = one-found (λ x. operationValue Not x 0)
 
 pub base-found : (q : Registers) (m s : List ℕ) (base : Base) → popped base ≤ q .height
     → baseOf q m (read (topWords (popped base) (q .height) s) 0) base ≡ baseOf q m (read s (q .height - 1)) base

@@ -1,16 +1,13 @@
 -- What each instruction does with the words ws that it finds, which are in the order of the manual's brackets, the lowest first:
 -- one line an instruction, in the order of the enum.
-use mathlib.Core.Bool.{not}
 use mathlib.Core.List.{List}
 use Prim.Native.Nat.{ℕ, _+_}
-use lib.Dec.{eqb}
 use Rattle.opcode.specs.declared.instruction.Instruction.{Instruction}
-use Rattle.opcode.specs.declared.instruction.Instruction.the-variants.{LoadConstant, Load, LoadAddress, Store, Pop, Swap, Nop, Signed, Unsigned, Negate, Equal, NotEqual, CompareSigned, CompareUnsigned, Set, Not, Alloc, Free, Jump, JumpC, JumpT, JumpF, Iter, Next, Switch, SwitchX, Leave, Call, Enter, Rtn}
-use Rattle.operate.specs.Value.{truthOf}
-use Rattle.operate.specs.Arithmetic.{signedValue, unsignedValue, negatedValue}
-use Rattle.operate.specs.Compare.{signedTest, unsignedTest}
-use Rattle.operate.specs.Sets.{setWord}
-use Rattle.shape.specs.Counts.{popped, wordsIn}
+use Rattle.opcode.specs.declared.instruction.Instruction.the-variants.{LoadConstant, Load, LoadAddress, Store, Pop, Swap, Nop}
+use Rattle.opcode.specs.declared.instruction.Instruction.the-variants.{Operate, Alloc, Free, Jump, JumpC, JumpT, JumpF, Iter}
+use Rattle.opcode.specs.declared.instruction.Instruction.the-variants.{Next, Switch, SwitchX, Leave, Call, Enter, Rtn}
+use Rattle.operate.specs.Operation.{operationValue}
+use Rattle.shape.specs.Counts.{popped, wordsIn, operands}
 use Rattle.registers.specs.declared.Registers.{Registers}
 use Rattle.effect.specs.declared.effect.Push.the-variants.{NoPush, PushTwo}
 use Rattle.effect.specs.declared.effect.Write.the-variants.{NoWrite}
@@ -19,8 +16,9 @@ use Rattle.effect.specs.declared.effect.Effect.the-variants.{Go}
 use Rattle.registers.specs.Program.{Program}
 use Rattle.registers.specs.Memory.{read}
 use Rattle.registers.specs.Changes.{moved}
-use Rattle.effect.specs.Data.{baseOf, loadFrom, addressOf, storeTo, gives, valued, inverted, allocated, freed}
-use Rattle.control.specs.Control.{jumps, jumpsIfFalse, jumpsKeeping, iterates, repeats, switches, searches, calls, enters, returns}
+use Rattle.effect.specs.Data.{baseOf, loadFrom, addressOf, storeTo, gives, valued, allocated, freed}
+use Rattle.control.specs.Control.{jumps, jumpsIfFalse, jumpsKeeping, iterates, repeats}
+use Rattle.control.specs.Control.{switches, searches, calls, enters, returns}
 
 unfoldable pub execute : Program → Registers → List ℕ → ℕ → List ℕ → Instruction → Effect
 execute P q m next ws (LoadConstant n) = gives q next 0 n
@@ -32,15 +30,7 @@ execute P q m next ws (Store base mode n) =
 execute P q m next ws (Pop n) = Go n NoPush NoWrite (moved q next)
 execute P q m next ws Swap = Go 2 (PushTwo (read ws 1) (read ws 0)) NoWrite (moved q next)
 execute P q m next ws Nop = Go 0 NoPush NoWrite (moved q next)
-execute P q m next ws (Signed op) = valued q next 2 (signedValue op (read ws 0) (read ws 1))
-execute P q m next ws (Unsigned op) = valued q next 2 (unsignedValue op (read ws 0) (read ws 1))
-execute P q m next ws Negate = valued q next 1 (negatedValue (read ws 0))
-execute P q m next ws Equal = gives q next 2 (truthOf (eqb (read ws 0) (read ws 1)))
-execute P q m next ws NotEqual = gives q next 2 (truthOf (not (eqb (read ws 0) (read ws 1))))
-execute P q m next ws (CompareSigned order) = gives q next 2 (truthOf (signedTest order (read ws 0) (read ws 1)))
-execute P q m next ws (CompareUnsigned order) = gives q next 2 (truthOf (unsignedTest order (read ws 0) (read ws 1)))
-execute P q m next ws (Set op) = gives q next 2 (setWord op (read ws 0) (read ws 1))
-execute P q m next ws Not = inverted q next (read ws 0)
+execute P q m next ws (Operate op) = valued q next (operands op) (operationValue op (read ws 0) (read ws 1))
 execute P q m next ws Alloc = allocated q m next (read ws 0)
 execute P q m next ws Free = freed q next (read ws 0)
 execute P q m next ws (Jump d) = jumps q d

@@ -1,7 +1,9 @@
 -- What a step does for an instruction: it pushes words over those that it finds, goes to a place, writes the words that it finds to
 -- memory, or anything else.
 use Rattle.opcode.specs.declared.instruction.Instruction.{Instruction}
-use Rattle.opcode.specs.declared.instruction.Instruction.the-variants.{LoadConstant, Load, LoadAddress, Store, Pop, Swap, Nop, Signed, Unsigned, Negate, Equal, NotEqual, CompareSigned, CompareUnsigned, Set, Not, Alloc, Free, Jump, JumpC, JumpT, JumpF, Iter, Next, Switch, SwitchX, Leave, Call, Enter, Rtn}
+use Rattle.opcode.specs.declared.instruction.Instruction.the-variants.{LoadConstant, Load, LoadAddress, Store, Pop, Swap, Nop}
+use Rattle.opcode.specs.declared.instruction.Instruction.the-variants.{Operate, Alloc, Free, Jump, JumpC, JumpT, JumpF, Iter}
+use Rattle.opcode.specs.declared.instruction.Instruction.the-variants.{Next, Switch, SwitchX, Leave, Call, Enter, Rtn}
 use Rattle.execute.specs.declared.Group.{Group as Kind}
 use Rattle.execute.specs.declared.Group.the-variants.{Gives, Goes, Stores, Others}
 
@@ -13,15 +15,7 @@ groupOf (Store base mode n) = Stores
 groupOf (Pop n) = Goes
 groupOf Swap = Gives
 groupOf Nop = Goes
-groupOf (Signed op) = Gives
-groupOf (Unsigned op) = Gives
-groupOf Negate = Gives
-groupOf Equal = Gives
-groupOf NotEqual = Gives
-groupOf (CompareSigned order) = Gives
-groupOf (CompareUnsigned order) = Gives
-groupOf (Set op) = Gives
-groupOf Not = Gives
+groupOf (Operate op) = Gives
 groupOf Alloc = Others
 groupOf Free = Others
 groupOf (Jump d) = Goes

@@ -3,7 +3,8 @@ ghost use mathlib.Core.Path.{_≡_};
 ghost use mathlib.Core.Bool.{true};
 ghost use Prim.Native.Nat.{_≤_, _<_, _+_, _-_};
 ghost use lib.ListN.{length};
-ghost use Rattle.shape.specs.Counts.{popped, needed};
+ghost use Rattle.shape.specs.Counts.{popped};
+ghost use Rattle.shape.specs.Shape.{needed};
 ghost use Rattle.registers.specs.Memory.{read, chained};
 ghost use Rattle.effect.specs.Data.{baseOf, loadFrom, addressOf};
 ghost use Rattle.control.specs.Control.{iterates, repeats};
@@ -12,7 +13,7 @@ ghost use Prim.Native.Nat.{ℕ};
 ghost use Rattle.execute.specs.Execute.{execute};
 ghost use Rattle.execute.specs.Group.{groupOf};
 ghost use Rattle.registers.specs.Program.{Program, framesStart, program};
-ghost use Rattle.execute.specs.Depth.{topWords, deep, storedEffect, iteratedEffect, repeatedEffect};
+ghost use Rattle.execute.specs.Depth.{topWords, deep, operatedEffect, storedEffect, iteratedEffect, repeatedEffect};
 use effect::data;
 use effect::effect::Effect;
 use effect::effect::Push;
@@ -20,6 +21,7 @@ use effect::effect::Write;
 use opcode::instruction::Base;
 use opcode::instruction::Instruction;
 use opcode::instruction::Mode;
+use opcode::instruction::Operation;
 use registers::Areas;
 use registers::Registers;
 use registers::access;
@@ -113,6 +115,21 @@ fn deep_word(s: &[u32], q: Registers, depth: u32) -> u32
     stack_word(s, q.height, depth)
 }
 
+// An operation: its words go, and the word that it gives comes.
+fn operation_effect(q: Registers, s: &[u32], next: u32, op: Operation) -> Effect
+    ensures { λ e. ⌜ e ≡ operatedEffect q (now (s .entry)) next op ⌝ }
+{
+    let words = shape::operand_words(op);
+    let x = deep_word(s, q, words);
+    let y = deep_word(s, q, 1);
+    data::valued(
+        q,
+        next,
+        words,
+        operate::operation::operation_value(op, x, y),
+    )
+}
+
 // What a step does for an instruction.
 pub enum Group {
     // pushes words over those that it finds
@@ -136,15 +153,7 @@ pub fn group_of(i: Instruction) -> Group
         Instruction::Pop(_) => Group::Goes,
         Instruction::Swap => Group::Gives,
         Instruction::Nop => Group::Goes,
-        Instruction::Signed(_) => Group::Gives,
-        Instruction::Unsigned(_) => Group::Gives,
-        Instruction::Negate => Group::Gives,
-        Instruction::Equal => Group::Gives,
-        Instruction::NotEqual => Group::Gives,
-        Instruction::CompareSigned(_) => Group::Gives,
-        Instruction::CompareUnsigned(_) => Group::Gives,
-        Instruction::Set(_) => Group::Gives,
-        Instruction::Not => Group::Gives,
+        Instruction::Operate(_) => Group::Gives,
         Instruction::Alloc => Group::Others,
         Instruction::Free => Group::Others,
         Instruction::Jump(_) => Group::Goes,
@@ -193,67 +202,7 @@ pub fn given_effect(q: Registers, m: &[u32], s: &[u32], next: u32, i: Instructio
             Write::NoWrite,
             q.moved(next),
         ),
-        Instruction::Signed(op) => data::valued(
-            q,
-            next,
-            2,
-            operate::arithmetic::signed_value(op, deep_word(s, q, 2), deep_word(s, q, 1)),
-        ),
-        Instruction::Unsigned(op) => data::valued(
-            q,
-            next,
-            2,
-            operate::arithmetic::unsigned_value(op, deep_word(s, q, 2), deep_word(s, q, 1)),
-        ),
-        Instruction::Negate => data::valued(
-            q,
-            next,
-            1,
-            operate::arithmetic::negated_value(deep_word(s, q, 1)),
-        ),
-        Instruction::Equal => data::given(
-            q,
-            next,
-            2,
-            operate::truth(deep_word(s, q, 2) == deep_word(s, q, 1)),
-        ),
-        Instruction::NotEqual => data::given(
-            q,
-            next,
-            2,
-            operate::truth(deep_word(s, q, 2) != deep_word(s, q, 1)),
-        ),
-        Instruction::CompareSigned(order) => {
-            data::given(
-                q,
-                next,
-                2,
-                operate::truth(operate::compare::signed_test(
-                    order,
-                    deep_word(s, q, 2),
-                    deep_word(s, q, 1),
-                )),
-            )
-        }
-        Instruction::CompareUnsigned(order) => {
-            data::given(
-                q,
-                next,
-                2,
-                operate::truth(operate::compare::unsigned_test(
-                    order,
-                    deep_word(s, q, 2),
-                    deep_word(s, q, 1),
-                )),
-            )
-        }
-        Instruction::Set(op) => data::given(
-            q,
-            next,
-            2,
-            operate::sets::set_word(op, deep_word(s, q, 2), deep_word(s, q, 1)),
-        ),
-        Instruction::Not => data::inverted(q, next, deep_word(s, q, 1)),
+        Instruction::Operate(op) => operation_effect(q, s, next, op),
         _ => Effect::Finish,
     }
 }

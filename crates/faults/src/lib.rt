@@ -6,7 +6,7 @@ ghost use lib.Dec.{eqb};
 ghost use Prim.Native.Nat.{_≤_, _<_, _-_};
 ghost use lib.ListN.{length};
 ghost use Rattle.entries.specs.Entries.{entryAt, entryCount};
-ghost use Rattle.successors.specs.Successors.{tableSize, tableFrom, selectTargets};
+ghost use Rattle.successors.specs.Successors.{tableSize, tableFrom, switchTargets};
 ghost use Rattle.switch_table.specs.Switch.{exitLabel};
 ghost use Rattle.faults.specs.Faults.{allStart, bare, strays, misplacedBy, misplaced, uncallable, codeNumber};
 ghost use Rattle.shape.specs.Linkage.{entering};
@@ -49,11 +49,11 @@ fn table_starts(code: &[u8], w: &[u16], p: u32, at: usize, table: Table, n: u32)
     true
 }
 
-fn select_starts(code: &[u8], w: &[u16], p: u32, at: usize, table: Table, n: u32) -> bool
+fn switch_starts(code: &[u8], w: &[u16], p: u32, at: usize, table: Table, n: u32) -> bool
     requires { ⌜ length (now code) ≤ 65535 ⌝ }
     requires { ⌜ p < 65535 ⌝ }
     requires { ⌜ at < 65536 ⌝ }
-    ensures { λ b. ⌜ b ≡ allStart (marksIn (now (w .entry)) (length (now (code .entry)))) p (exitLabel (now (code .entry)) at ∷ selectTargets (now (code .entry)) at table n) ⌝ }
+    ensures { λ b. ⌜ b ≡ allStart (marksIn (now (w .entry)) (length (now (code .entry)))) p (exitLabel (now (code .entry)) at ∷ switchTargets (now (code .entry)) at table n) ⌝ }
 {
     if !both_start(
         w,
@@ -76,40 +76,40 @@ fn is_stray(code: &[u8], w: &[u16], p: u32, at: usize, next: usize, shape: Shape
 {
     match shape {
         Shape::Straight(_, _) => !marks::starts_in(w, code.len(), p, next),
-        Shape::Drop(_) => !marks::starts_in(w, code.len(), p, next),
-        Shape::Goto(distance) => !marks::starts_in(
+        Shape::Pop(_) => !marks::starts_in(w, code.len(), p, next),
+        Shape::Jump(distance) => !marks::starts_in(
             w,
             code.len(),
             p,
             successors::place_at(at, distance),
         ),
-        Shape::Branch(distance) => !both_start(
-            w,
-            code.len(),
-            p,
-            next,
-            successors::place_at(at, distance),
-        ),
-        Shape::Keep(distance) => !both_start(
+        Shape::JumpC(distance) => !both_start(
             w,
             code.len(),
             p,
             next,
             successors::place_at(at, distance),
         ),
-        Shape::Loop(distance) => !both_start(
+        Shape::JumpTF(distance) => !both_start(
             w,
             code.len(),
             p,
             next,
             successors::place_at(at, distance),
         ),
-        Shape::Again => !marks::starts_in(w, code.len(), p, next),
-        Shape::Select(table, n) => !select_starts(code, w, p, at, table, n),
-        Shape::Exit => false,
-        Shape::Invoke(_) => !marks::starts_in(w, code.len(), p, next),
-        Shape::Begin(_) => !marks::starts_in(w, code.len(), p, next),
-        Shape::Return => false,
+        Shape::Iter(distance) => !both_start(
+            w,
+            code.len(),
+            p,
+            next,
+            successors::place_at(at, distance),
+        ),
+        Shape::Next => !marks::starts_in(w, code.len(), p, next),
+        Shape::Switch(table, n) => !switch_starts(code, w, p, at, table, n),
+        Shape::Leave => false,
+        Shape::Call(_) => !marks::starts_in(w, code.len(), p, next),
+        Shape::Enter(_) => !marks::starts_in(w, code.len(), p, next),
+        Shape::Rtn => false,
     }
 }
 
@@ -141,17 +141,17 @@ fn is_misplaced(code: &[u8], p: u32, at: usize, next: usize, shape: Shape) -> bo
 {
     match shape {
         Shape::Straight(_, _) => is_bare(code, p, at),
-        Shape::Drop(_) => is_bare(code, p, at),
-        Shape::Goto(_) => is_bare(code, p, at),
-        Shape::Branch(_) => is_bare(code, p, at),
-        Shape::Keep(_) => is_bare(code, p, at),
-        Shape::Loop(_) => is_bare(code, p, at),
-        Shape::Again => is_bare(code, p, at),
-        Shape::Select(_, _) => is_bare(code, p, at),
-        Shape::Exit => is_bare(code, p, at),
-        Shape::Invoke(_) => is_bare(code, p, at),
-        Shape::Begin(parameters) => enter_misplaced(code, p, at, parameters),
-        Shape::Return => is_bare(code, p, at),
+        Shape::Pop(_) => is_bare(code, p, at),
+        Shape::Jump(_) => is_bare(code, p, at),
+        Shape::JumpC(_) => is_bare(code, p, at),
+        Shape::JumpTF(_) => is_bare(code, p, at),
+        Shape::Iter(_) => is_bare(code, p, at),
+        Shape::Next => is_bare(code, p, at),
+        Shape::Switch(_, _) => is_bare(code, p, at),
+        Shape::Leave => is_bare(code, p, at),
+        Shape::Call(_) => is_bare(code, p, at),
+        Shape::Enter(parameters) => enter_misplaced(code, p, at, parameters),
+        Shape::Rtn => is_bare(code, p, at),
     }
 }
 
@@ -161,17 +161,17 @@ fn is_uncallable(code: &[u8], p: u32, at: usize, next: usize, shape: Shape) -> b
 {
     match shape {
         Shape::Straight(_, _) => false,
-        Shape::Drop(_) => false,
-        Shape::Goto(_) => false,
-        Shape::Branch(_) => false,
-        Shape::Keep(_) => false,
-        Shape::Loop(_) => false,
-        Shape::Again => false,
-        Shape::Select(_, _) => false,
-        Shape::Exit => false,
-        Shape::Invoke(c) => entries::is_no_callee(code, c),
-        Shape::Begin(_) => false,
-        Shape::Return => false,
+        Shape::Pop(_) => false,
+        Shape::Jump(_) => false,
+        Shape::JumpC(_) => false,
+        Shape::JumpTF(_) => false,
+        Shape::Iter(_) => false,
+        Shape::Next => false,
+        Shape::Switch(_, _) => false,
+        Shape::Leave => false,
+        Shape::Call(c) => entries::is_no_callee(code, c),
+        Shape::Enter(_) => false,
+        Shape::Rtn => false,
     }
 }
 

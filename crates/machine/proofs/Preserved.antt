@@ -13,12 +13,15 @@ use borrow.Author.Tests.{leb-true, leb-false, eqb-false}
 use Rattle.words.proofs.Tests.{by-test}
 use Rattle.entries.specs.Entries.{entryAt, noCallee}
 use Rattle.opcode.specs.declared.instruction.Instruction.{Instruction}
-use Rattle.opcode.specs.declared.instruction.Instruction.the-variants.{LoadConstant, Load, LoadAddress, Store, Pop, Swap, Nop, Signed, Unsigned, Negate, Equal, NotEqual, CompareSigned, CompareUnsigned, Set, Not, Alloc, Free, Jump, JumpC, JumpT, JumpF, Iter, Next, Switch, SwitchX, Leave, Call, Enter, Rtn}
+use Rattle.opcode.specs.declared.instruction.Instruction.the-variants.{LoadConstant, Load, LoadAddress, Store, Pop, Swap, Nop}
+use Rattle.opcode.specs.declared.instruction.Instruction.the-variants.{Operate, Alloc, Free, Jump, JumpC, JumpT, JumpF, Iter}
+use Rattle.opcode.specs.declared.instruction.Instruction.the-variants.{Next, Switch, SwitchX, Leave, Call, Enter, Rtn}
 use Rattle.opcode.specs.declared.instruction.Mode.the-variants.{Normal}
-use Rattle.operate.specs.Arithmetic.{signedValue, unsignedValue, negatedValue}
+use Rattle.operate.specs.Operation.{operationValue}
 use Rattle.operate.specs.declared.Value.{Value}
 use Rattle.operate.specs.declared.Value.the-variants.{Word, Trap as Stop}
-use Rattle.shape.specs.Counts.{needed, popped, wordsIn}
+use Rattle.shape.specs.Counts.{popped, wordsIn, operands}
+use Rattle.shape.specs.Shape.{needed}
 use Rattle.effect.specs.declared.effect.Effect.{Effect}
 use Rattle.effect.specs.declared.effect.Effect.the-variants.{Trap, Finish, Go}
 use Rattle.effect.specs.declared.effect.Push.{Push}
@@ -29,10 +32,11 @@ use Rattle.registers.specs.declared.Areas.{Areas}
 use Rattle.registers.specs.declared.Registers.{Registers}
 use Rattle.registers.specs.Program.{program}
 use Rattle.registers.specs.Memory.{read, live, protects}
-use Rattle.effect.specs.Data.{pushes, baseOf, loaded, loadFrom, addressOf, storeTo, valued, inverted, allocated, freed}
+use Rattle.effect.specs.Data.{pushes, baseOf, loaded, loadFrom, addressOf, storeTo, valued, allocated, freed}
 use Rattle.registers.specs.Changes.{moved, called}
 use Rattle.operand.specs.Distance.{placeAt}
-use Rattle.control.specs.Control.{jumps, jumpsIfFalse, jumpsKeeping, beyond, iterates, nextSum, wentRound, summed, repeats, switches, searches, calls, enters, returns}
+use Rattle.control.specs.Control.{jumps, jumpsIfFalse, jumpsKeeping, beyond, iterates, nextSum, wentRound}
+use Rattle.control.specs.Control.{summed, repeats, switches, searches, calls, enters, returns}
 use Rattle.execute.specs.Depth.{topWords}
 use Rattle.execute.specs.Execute.{execute}
 use Rattle.step.specs.Step.{After, written, pushed, stepOf}
@@ -40,7 +44,8 @@ use Rattle.step.proofs.Leaving.{carriedOut, step-leaves}
 use Rattle.step.specs.declared.Machine.{Machine}
 use Rattle.state.specs.Fits.{fits}
 use Rattle.state.proofs.Fitting.{Fitting, fitting, fitted}
-use Rattle.machine.proofs.Keeping.{Steady, Keeps, sized-keeps, moved-keeps, stored-keeps, storable-keeps, mode-keeps, entered-keeps, called-keeps, returned-keeps}
+use Rattle.machine.proofs.Keeping.{Steady, Keeps, sized-keeps, moved-keeps, stored-keeps}
+use Rattle.machine.proofs.Keeping.{storable-keeps, mode-keeps, entered-keeps, called-keeps, returned-keeps}
 
 module _ (code : List ℕ) (A : Areas) (q : Registers) (m s : List ℕ) (F : Fitting A q m s) where
   value-keeps : (next gone : ℕ) (v : Value) → Keeps A q m (valued q next gone v)
@@ -82,7 +87,7 @@ module _ (code : List ℕ) (A : Areas) (q : Registers) (m s : List ℕ) (F : Fit
       (λ r. called-keeps A q m s F 0 NoPush next (entryAt code p) (leb-false 64 (q .calls) d) (leb-true (q .mp + 2) (length m) r))))
 
   execute-keeps : (next : ℕ) (ws : List ℕ) (i : Instruction) → Keeps A q m (execute (program code A) q m next ws i)
-  unfolding execute loadFrom addressOf storeTo inverted allocated freed jumps jumpsIfFalse iterates repeats switches searches enters returns
+  unfolding execute loadFrom addressOf storeTo allocated freed jumps jumpsIfFalse iterates repeats switches searches enters returns
   execute-keeps next ws (LoadConstant n) = moved-keeps A q m s F 0 (PushOne n) next
   execute-keeps next ws (Load base mode n) =
       tested (live q (baseOf q m (read ws 0) base + n) (wordsIn mode)) _ 32
@@ -97,15 +102,7 @@ module _ (code : List ℕ) (A : Areas) (q : Registers) (m s : List ℕ) (F : Fit
   execute-keeps next ws (Pop n) = moved-keeps A q m s F n NoPush next
   execute-keeps next ws Swap = moved-keeps A q m s F 2 NoPush next
   execute-keeps next ws Nop = moved-keeps A q m s F 0 NoPush next
-  execute-keeps next ws (Signed op) = value-keeps next 2 (signedValue op (read ws 0) (read ws 1))
-  execute-keeps next ws (Unsigned op) = value-keeps next 2 (unsignedValue op (read ws 0) (read ws 1))
-  execute-keeps next ws Negate = value-keeps next 1 (negatedValue (read ws 0))
-  execute-keeps next ws Equal = moved-keeps A q m s F 2 NoPush next
-  execute-keeps next ws NotEqual = moved-keeps A q m s F 2 NoPush next
-  execute-keeps next ws (CompareSigned order) = moved-keeps A q m s F 2 NoPush next
-  execute-keeps next ws (CompareUnsigned order) = moved-keeps A q m s F 2 NoPush next
-  execute-keeps next ws (Set op) = moved-keeps A q m s F 2 NoPush next
-  execute-keeps next ws Not = tested (ltb (read ws 0) 2) _ 34 (λ l. moved-keeps A q m s F 1 (PushOne (1 - read ws 0)) next)
+  execute-keeps next ws (Operate op) = value-keeps next (operands op) (operationValue op (read ws 0) (read ws 1))
   execute-keeps next ws Alloc =
       tested (leb (q .mp + read ws 0) (length m)) _ 35
       (λ l. sized-keeps A q m s F 1 (PushOne (q .mp)) next (q .mp + read ws 0) (omega (arith, F .frame))

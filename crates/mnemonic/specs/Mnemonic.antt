@@ -9,9 +9,15 @@ use Rattle.opcode.specs.declared.instruction.Arithmetic.the-variants.{Add, Subt
 use Rattle.opcode.specs.declared.instruction.Order.{Order}
 use Rattle.opcode.specs.declared.instruction.Order.the-variants.{Less, Greater, LessEqual, GreaterEqual}
 use Rattle.opcode.specs.declared.instruction.SetOperation.{SetOperation}
-use Rattle.opcode.specs.declared.instruction.SetOperation.the-variants.{Union, Difference, Intersection, Subset, Superset, Member}
+use Rattle.opcode.specs.declared.instruction.SetOperation.the-variants.{Union, Difference, Intersection}
+use Rattle.opcode.specs.declared.instruction.SetOperation.the-variants.{Subset, Superset, Member}
+use Rattle.opcode.specs.declared.instruction.Operation.{Operation}
+use Rattle.opcode.specs.declared.instruction.Operation.the-variants.{Signed, Unsigned, Negate, Equal, NotEqual}
+use Rattle.opcode.specs.declared.instruction.Operation.the-variants.{CompareSigned, CompareUnsigned, Set, Not}
 use Rattle.opcode.specs.declared.instruction.Instruction.{Instruction}
-use Rattle.opcode.specs.declared.instruction.Instruction.the-variants.{LoadConstant, Load, LoadAddress, Store, Pop, Swap, Nop, Signed, Unsigned, Negate, Equal, NotEqual, CompareSigned, CompareUnsigned, Set, Not, Alloc, Free, Jump, JumpC, JumpT, JumpF, Iter, Next, Switch, SwitchX, Leave, Call, Enter, Rtn}
+use Rattle.opcode.specs.declared.instruction.Instruction.the-variants.{LoadConstant, Load, LoadAddress, Store, Pop, Swap, Nop}
+use Rattle.opcode.specs.declared.instruction.Instruction.the-variants.{Operate, Alloc, Free, Jump, JumpC, JumpT, JumpF, Iter}
+use Rattle.opcode.specs.declared.instruction.Instruction.the-variants.{Next, Switch, SwitchX, Leave, Call, Enter, Rtn}
 use Rattle.mnemonic.specs.declared.Parts.{Parts}
 
 -- The places of mnemonics that stand in a row.
@@ -42,6 +48,17 @@ setPlace Subset = 3  -- LEQ_S
 setPlace Superset = 4  -- GEQ_S
 setPlace Member = 5  -- TEST
 
+abbrev pub operationNumber : Operation → ℕ
+operationNumber (Signed op) = 21 + arithmeticPlace op  -- 21 .. 25 ADD_I, SUB_I, MUL_I, DIV_I, MOD_I
+operationNumber (Unsigned op) = 26 + arithmeticPlace op  -- 26 .. 30 ADD_U, SUB_U, MUL_U, DIV_U, MOD_U
+operationNumber Negate = 31  -- NEG_I
+operationNumber Equal = 32  -- EQU
+operationNumber NotEqual = 33  -- NEQ
+operationNumber (CompareSigned order) = 34 + orderPlace order  -- 34 .. 37 LES_I, GRT_I, LEQ_I, GEQ_I
+operationNumber (CompareUnsigned order) = 38 + orderPlace order  -- 38 .. 41 LES_U, GRT_U, LEQ_U, GEQ_U
+operationNumber (Set op) = 42 + setPlace op  -- 42 .. 47 ADD_S, SUB_S, MUL_S, LEQ_S, GEQ_S, TEST
+operationNumber Not = 48  -- NEG
+
 abbrev pub modePlace : Mode → ℕ
 modePlace Normal = 0
 modePlace Double = 1
@@ -64,15 +81,7 @@ partsOf (Call n) = parts 17 0 n 0  -- CALL
 partsOf (Pop n) = parts 18 0 n 0  -- POP
 partsOf Swap = parts 19 0 0 0  -- SWAP
 partsOf Nop = parts 20 0 0 0  -- NOP
-partsOf (Signed op) = parts (21 + arithmeticPlace op) 0 0 0  -- 21 .. 25 ADD_I, SUB_I, MUL_I, DIV_I, MOD_I
-partsOf (Unsigned op) = parts (26 + arithmeticPlace op) 0 0 0  -- 26 .. 30 ADD_U, SUB_U, MUL_U, DIV_U, MOD_U
-partsOf Negate = parts 31 0 0 0  -- NEG_I
-partsOf Equal = parts 32 0 0 0  -- EQU
-partsOf NotEqual = parts 33 0 0 0  -- NEQ
-partsOf (CompareSigned order) = parts (34 + orderPlace order) 0 0 0  -- 34 .. 37 LES_I, GRT_I, LEQ_I, GEQ_I
-partsOf (CompareUnsigned order) = parts (38 + orderPlace order) 0 0 0  -- 38 .. 41 LES_U, GRT_U, LEQ_U, GEQ_U
-partsOf (Set op) = parts (42 + setPlace op) 0 0 0  -- 42 .. 47 ADD_S, SUB_S, MUL_S, LEQ_S, GEQ_S, TEST
-partsOf Not = parts 48 0 0 0  -- NEG
+partsOf (Operate op) = parts (operationNumber op) 0 0 0  -- 21 .. 48
 partsOf Alloc = parts 49 0 0 0  -- ALLOC
 partsOf Free = parts 50 0 0 0  -- FREE
 partsOf (Iter n) = parts 51 0 n 0  -- ITER

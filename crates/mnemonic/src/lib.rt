@@ -1,12 +1,13 @@
 // What a listing shows of an instruction, as numbers.
 ghost use mathlib.Core.Path.{_≡_};
 ghost use Prim.Native.Nat.{_+_, _<_};
-ghost use Rattle.mnemonic.specs.Mnemonic.{basePlace, arithmeticPlace, orderPlace, setPlace, modePlace};
+ghost use Rattle.mnemonic.specs.Mnemonic.{basePlace, arithmeticPlace, orderPlace, setPlace, operationNumber, modePlace};
 ghost use Rattle.mnemonic.specs.Mnemonic.{parts, partsOf};
 use opcode::instruction::Arithmetic;
 use opcode::instruction::Base;
 use opcode::instruction::Instruction;
 use opcode::instruction::Mode;
+use opcode::instruction::Operation;
 use opcode::instruction::Order;
 use opcode::instruction::SetOperation;
 
@@ -69,6 +70,22 @@ fn set_place(op: SetOperation) -> u32
     }
 }
 
+fn operation_number(op: Operation) -> u32
+    ensures { λ n. ⌜ n ≡ operationNumber op ⌝ }
+{
+    match op {
+        Operation::Signed(op) => 21 + arithmetic_place(op),
+        Operation::Unsigned(op) => 26 + arithmetic_place(op),
+        Operation::Negate => 31,
+        Operation::Equal => 32,
+        Operation::NotEqual => 33,
+        Operation::CompareSigned(order) => 34 + order_place(order),
+        Operation::CompareUnsigned(order) => 38 + order_place(order),
+        Operation::Set(op) => 42 + set_place(op),
+        Operation::Not => 48,
+    }
+}
+
 fn mode_place(mode: Mode) -> u32
     ensures { λ n. ⌜ n ≡ modePlace mode ⌝ }
 {
@@ -119,15 +136,7 @@ pub fn parts_of(i: Instruction) -> Parts
         Instruction::Pop(n) => plain(18, n),
         Instruction::Swap => plain(19, 0),
         Instruction::Nop => plain(20, 0),
-        Instruction::Signed(op) => plain(21 + arithmetic_place(op), 0),
-        Instruction::Unsigned(op) => plain(26 + arithmetic_place(op), 0),
-        Instruction::Negate => plain(31, 0),
-        Instruction::Equal => plain(32, 0),
-        Instruction::NotEqual => plain(33, 0),
-        Instruction::CompareSigned(order) => plain(34 + order_place(order), 0),
-        Instruction::CompareUnsigned(order) => plain(38 + order_place(order), 0),
-        Instruction::Set(op) => plain(42 + set_place(op), 0),
-        Instruction::Not => plain(48, 0),
+        Instruction::Operate(op) => plain(operation_number(op), 0),
         Instruction::Alloc => plain(49, 0),
         Instruction::Free => plain(50, 0),
         Instruction::Iter(n) => plain(51, n),

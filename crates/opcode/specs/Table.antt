@@ -11,9 +11,15 @@ use Rattle.opcode.specs.declared.instruction.Mode.the-variants.{Normal, 
 use Rattle.opcode.specs.declared.instruction.Base.the-variants.{Local, Global, Constant, Popped}
 use Rattle.opcode.specs.declared.instruction.Arithmetic.the-variants.{Add, Subtract, Multiply, Divide, Modulus}
 use Rattle.opcode.specs.declared.instruction.Order.the-variants.{Less, Greater, LessEqual, GreaterEqual}
-use Rattle.opcode.specs.declared.instruction.SetOperation.the-variants.{Union, Difference, Intersection, Subset, Superset, Member}
+use Rattle.opcode.specs.declared.instruction.SetOperation.the-variants.{Union, Difference, Intersection}
+use Rattle.opcode.specs.declared.instruction.SetOperation.the-variants.{Subset, Superset, Member}
+use Rattle.opcode.specs.declared.instruction.Operation.the-variants.{Signed, Unsigned, Negate, Equal, NotEqual}
+use Rattle.opcode.specs.declared.instruction.Operation.the-variants.{CompareSigned, CompareUnsigned, Set, Not}
 use Rattle.opcode.specs.declared.instruction.Instruction.{Instruction}
-use Rattle.opcode.specs.declared.instruction.Instruction.the-variants.{LoadConstant, Load, LoadAddress, Store, Pop, Swap, Nop, Signed, Unsigned, Negate, Equal, NotEqual, CompareSigned, CompareUnsigned, Set, Not, Alloc, Free, Jump, JumpC, JumpT, JumpF, Iter, Next, Switch, SwitchX, Leave, Call, Enter, Rtn}
+use Rattle.opcode.specs.declared.instruction.Instruction.the-variants.{LoadConstant, Load, LoadAddress, Store, Pop, Swap}
+use Rattle.opcode.specs.declared.instruction.Instruction.the-variants.{Nop, Operate, Alloc, Free, Jump, JumpC}
+use Rattle.opcode.specs.declared.instruction.Instruction.the-variants.{JumpT, JumpF, Iter, Next, Switch, SwitchX}
+use Rattle.opcode.specs.declared.instruction.Instruction.the-variants.{Leave, Call, Enter, Rtn}
 
 -- The modes that a code is served in. 01: "DOUBLE stands only before LOAD_L, _G, _F, _T, STOR_L, _G, _F".
 pub data Modes : Type 0 where
@@ -74,34 +80,34 @@ dataTable =
 -- 5.2.4.7 to 5.2.4.10: numerical, comparison, boolean, allocation.
 abbrev pub operationTable : List Entry
 operationTable =
-    entry 0xA0 (row none normal (λ m n k. Signed Add)) ∷  -- ADD_I
-    entry 0xA1 (row none normal (λ m n k. Signed Subtract)) ∷  -- SUB_I
-    entry 0xA2 (row none normal (λ m n k. Signed Multiply)) ∷  -- MUL_I
-    entry 0xA3 (row none normal (λ m n k. Signed Divide)) ∷  -- DIV_I
-    entry 0xA5 (row none normal (λ m n k. Signed Modulus)) ∷  -- MOD_I
-    entry 0xA6 (row none normal (λ m n k. Negate)) ∷  -- NEG_I
-    entry 0xA8 (row none normal (λ m n k. Unsigned Add)) ∷  -- ADD_U
-    entry 0xA9 (row none normal (λ m n k. Unsigned Subtract)) ∷  -- SUB_U
-    entry 0xAA (row none normal (λ m n k. Unsigned Multiply)) ∷  -- MUL_U
-    entry 0xAB (row none normal (λ m n k. Unsigned Divide)) ∷  -- DIV_U
-    entry 0xAD (row none normal (λ m n k. Unsigned Modulus)) ∷  -- MOD_U
-    entry 0xB8 (row none normal (λ m n k. Set Union)) ∷  -- ADD_S
-    entry 0xB9 (row none normal (λ m n k. Set Difference)) ∷  -- SUB_S
-    entry 0xBA (row none normal (λ m n k. Set Intersection)) ∷  -- MUL_S
-    entry 0xBE (row none normal (λ m n k. Equal)) ∷  -- EQU
-    entry 0xBF (row none normal (λ m n k. NotEqual)) ∷  -- NEQ
-    entry 0xC0 (row none normal (λ m n k. CompareSigned Less)) ∷  -- LES_I
-    entry 0xC1 (row none normal (λ m n k. CompareSigned Greater)) ∷  -- GRT_I
-    entry 0xC2 (row none normal (λ m n k. CompareSigned LessEqual)) ∷  -- LEQ_I
-    entry 0xC3 (row none normal (λ m n k. CompareSigned GreaterEqual)) ∷  -- GEQ_I
-    entry 0xC4 (row none normal (λ m n k. CompareUnsigned Less)) ∷  -- LES_U
-    entry 0xC5 (row none normal (λ m n k. CompareUnsigned Greater)) ∷  -- GRT_U
-    entry 0xC6 (row none normal (λ m n k. CompareUnsigned LessEqual)) ∷  -- LEQ_U
-    entry 0xC7 (row none normal (λ m n k. CompareUnsigned GreaterEqual)) ∷  -- GEQ_U
-    entry 0xD0 (row none normal (λ m n k. Set Subset)) ∷  -- LEQ_S
-    entry 0xD1 (row none normal (λ m n k. Set Superset)) ∷  -- GEQ_S
-    entry 0xD2 (row none normal (λ m n k. Set Member)) ∷  -- TEST
-    entry 0xD7 (row none normal (λ m n k. Not)) ∷  -- NEG
+    entry 0xA0 (row none normal (λ m n k. Operate (Signed Add))) ∷  -- ADD_I
+    entry 0xA1 (row none normal (λ m n k. Operate (Signed Subtract))) ∷  -- SUB_I
+    entry 0xA2 (row none normal (λ m n k. Operate (Signed Multiply))) ∷  -- MUL_I
+    entry 0xA3 (row none normal (λ m n k. Operate (Signed Divide))) ∷  -- DIV_I
+    entry 0xA5 (row none normal (λ m n k. Operate (Signed Modulus))) ∷  -- MOD_I
+    entry 0xA6 (row none normal (λ m n k. Operate Negate)) ∷  -- NEG_I
+    entry 0xA8 (row none normal (λ m n k. Operate (Unsigned Add))) ∷  -- ADD_U
+    entry 0xA9 (row none normal (λ m n k. Operate (Unsigned Subtract))) ∷  -- SUB_U
+    entry 0xAA (row none normal (λ m n k. Operate (Unsigned Multiply))) ∷  -- MUL_U
+    entry 0xAB (row none normal (λ m n k. Operate (Unsigned Divide))) ∷  -- DIV_U
+    entry 0xAD (row none normal (λ m n k. Operate (Unsigned Modulus))) ∷  -- MOD_U
+    entry 0xB8 (row none normal (λ m n k. Operate (Set Union))) ∷  -- ADD_S
+    entry 0xB9 (row none normal (λ m n k. Operate (Set Difference))) ∷  -- SUB_S
+    entry 0xBA (row none normal (λ m n k. Operate (Set Intersection))) ∷  -- MUL_S
+    entry 0xBE (row none normal (λ m n k. Operate Equal)) ∷  -- EQU
+    entry 0xBF (row none normal (λ m n k. Operate NotEqual)) ∷  -- NEQ
+    entry 0xC0 (row none normal (λ m n k. Operate (CompareSigned Less))) ∷  -- LES_I
+    entry 0xC1 (row none normal (λ m n k. Operate (CompareSigned Greater))) ∷  -- GRT_I
+    entry 0xC2 (row none normal (λ m n k. Operate (CompareSigned LessEqual))) ∷  -- LEQ_I
+    entry 0xC3 (row none normal (λ m n k. Operate (CompareSigned GreaterEqual))) ∷  -- GEQ_I
+    entry 0xC4 (row none normal (λ m n k. Operate (CompareUnsigned Less))) ∷  -- LES_U
+    entry 0xC5 (row none normal (λ m n k. Operate (CompareUnsigned Greater))) ∷  -- GRT_U
+    entry 0xC6 (row none normal (λ m n k. Operate (CompareUnsigned LessEqual))) ∷  -- LEQ_U
+    entry 0xC7 (row none normal (λ m n k. Operate (CompareUnsigned GreaterEqual))) ∷  -- GEQ_U
+    entry 0xD0 (row none normal (λ m n k. Operate (Set Subset))) ∷  -- LEQ_S
+    entry 0xD1 (row none normal (λ m n k. Operate (Set Superset))) ∷  -- GEQ_S
+    entry 0xD2 (row none normal (λ m n k. Operate (Set Member))) ∷  -- TEST
+    entry 0xD7 (row none normal (λ m n k. Operate Not)) ∷  -- NEG
     entry 0xD8 (row none normal (λ m n k. Alloc)) ∷  -- ALLOC
     entry 0xD9 (row none normal (λ m n k. Free)) ∷  -- FREE
     []

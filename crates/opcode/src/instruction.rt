@@ -39,15 +39,8 @@ pub enum SetOperation {
     Member,
 }
 
-// Operands are words: a signed one is the word that holds it.
-pub enum Instruction {
-    LoadConstant(u32),
-    Load(Base, Mode, u32),
-    LoadAddress(Base, u32),
-    Store(Base, Mode, u32),
-    Pop(u32),
-    Swap,
-    Nop,
+// What takes words and gives one word: 5.2.4.7 to 5.2.4.9.
+pub enum Operation {
     Signed(Arithmetic),
     Unsigned(Arithmetic),
     Negate,
@@ -57,6 +50,18 @@ pub enum Instruction {
     CompareUnsigned(Order),
     Set(SetOperation),
     Not,
+}
+
+// Operands are words: a signed one is the word that holds it.
+pub enum Instruction {
+    LoadConstant(u32),
+    Load(Base, Mode, u32),
+    LoadAddress(Base, u32),
+    Store(Base, Mode, u32),
+    Pop(u32),
+    Swap,
+    Nop,
+    Operate(Operation),
     Alloc,
     Free,
     Jump(u32),

@@ -1,7 +1,7 @@
 -- A word or a trap, and when a number is a word. 01: "An arithmetic result outside its 32-bit range traps"; 31 is "number does not
 -- fit".
 use mathlib.Core.Bool.{Bool, cond}
-use Prim.Native.Nat.{ℕ}
+use Prim.Native.Nat.{ℕ, _-_}
 use lib.Dec.{ltb}
 use lib.IntN.{ℤ, pos, negsuc}
 use lib.Signed.{mag}
@@ -20,3 +20,10 @@ unsignedWord (negsuc n) = Trap 31
 -- 01: "A boolean is 0 or 1."
 abbrev pub truthOf : Bool → ℕ
 truthOf t = cond t 1 0
+
+abbrev pub isBoolean : ℕ → Bool
+isBoolean b = ltb b 2
+
+-- NEG. 34 is "not a boolean".
+unfoldable pub invertedValue : ℕ → Value
+invertedValue b = cond (isBoolean b) (Word (1 - b)) (Trap 34)

@@ -4,6 +4,7 @@ ghost use Rattle.operate.specs.Value.{signedWord, truthOf};
 
 pub mod arithmetic;
 pub mod compare;
+pub mod operation;
 pub mod sets;
 
 pub enum Value {

@@ -8,15 +8,14 @@ use Prim.Native.Nat.{ℕ, _≤_, _<_}
 use native.Mathlib.Omega.{arith}
 use lib.ListN.{length, getD}
 use Rattle.opcode.specs.declared.instruction.Instruction.{Instruction}
-use Rattle.shape.specs.Counts.{needed}
-use Rattle.shape.specs.Shape.{shapeOf}
+use Rattle.shape.specs.Shape.{shapeOf, needed}
 use Rattle.shape.specs.declared.Shape.{Shape}
-use Rattle.shape.specs.declared.Shape.the-variants.{Straight, Drop, Goto, Branch, Keep, Loop, Again, Select, Exit, Invoke, Begin, Return}
+use Rattle.shape.specs.declared.Shape.the-variants.{Straight, Pop, Jump, JumpC, JumpTF, Iter, Next, Switch, Leave, Call, Enter, Rtn}
 use Rattle.shape.specs.Linkage.{Linkage, inside, calling, entering, returning, linkageOf}
 use Rattle.registers.specs.declared.Areas.{Areas}
 use Rattle.registers.specs.declared.Registers.{Registers}
 use Rattle.registers.specs.Program.{framesStart}
-use Rattle.stackmap.specs.Ways.{Module, ways}
+use Rattle.stackmap.specs.Ways.{Subject, ways}
 use Rattle.stackmap.specs.StackMap.{stepped}
 use Rattle.step.specs.declared.Outcome.{Outcome}
 use Rattle.step.specs.declared.Outcome.the-variants.{Went}
@@ -36,70 +35,70 @@ use Rattle.safety.proofs.Suspending.{suspended-kept, returns-inside, re
 -- What calls or returns has one shape.
 abbrev Is : Shape → Linkage → Type 0
 Is s inside = Unit {0}
-Is s (calling p) = s ≡ Invoke p
+Is s (calling p) = s ≡ Call p
 Is s (entering par) = Unit {0}
-Is s returning = s ≡ Return
+Is s returning = s ≡ Rtn
 
 shape-is : (s : Shape) → Is s (linkageOf s)
 shape-is (Straight pops pushes) = tt
-shape-is (Drop n) = tt
-shape-is (Goto d) = tt
-shape-is (Branch d) = tt
-shape-is (Keep d) = tt
-shape-is (Loop d) = tt
-shape-is Again = tt
-shape-is (Select t n) = tt
-shape-is Exit = tt
-shape-is (Invoke p) = refl
-shape-is (Begin par) = tt
-shape-is Return = refl
+shape-is (Pop n) = tt
+shape-is (Jump d) = tt
+shape-is (JumpC d) = tt
+shape-is (JumpTF d) = tt
+shape-is (Iter d) = tt
+shape-is Next = tt
+shape-is (Switch t n) = tt
+shape-is Leave = tt
+shape-is (Call p) = refl
+shape-is (Enter par) = tt
+shape-is Rtn = refl
 
-module _ (M : Module) (C : Checked M) (A : Areas) (c : Configuration) (I : Inv M A c) where
+module _ (U : Subject) (C : Checked U) (A : Areas) (c : Configuration) (I : Inv U A c) where
   abbrev q : Registers
   q = registersOf c
 
   -- What is about to be done.
-  pub at-place : AtPlace M (running (c .calls)) (q .pc) (I .placed .slots)
-  at-place = placed M C (running (c .calls)) (I .placed .procedure) (q .pc) (I .placed .slots) (I .placed .reached)
+  pub at-place : AtPlace U (running (c .calls)) (q .pc) (I .placed .slots)
+  at-place = placed U C (running (c .calls)) (I .placed .procedure) (q .pc) (I .placed .slots) (I .placed .reached)
 
   abbrev i : Instruction
   i = at-place .instruction
 
-  doing : Doing M c i (at-place .next)
+  doing : Doing U c i (at-place .next)
   doing = record { decoded = at-place .decoded }
 
-  pub unread : (s' : List ℕ) → SameFrom (shareOf (c .calls)) (c .stack) s' → Unread M c s'
+  pub unread : (s' : List ℕ) → SameFrom (shareOf (c .calls)) (c .stack) s' → Unread U c s'
   unread =
       let enough : needed i ≤ length (I .placed .slots) =
-      finds-words M (running (c .calls)) (q .pc) (at-place .next) i (I .placed .slots) (at-place .out) (at-place .ways-out) in
-      step-unread M c i (at-place .next) doing (omega (arith, I .placed .height))
+      finds-words U (running (c .calls)) (q .pc) (at-place .next) (shapeOf i) (I .placed .slots) (at-place .out) (at-place .ways-out) in
+      step-unread U c i (at-place .next) doing (omega (arith, I .placed .height))
 
-  pub steps : Steps M c (at-place .out) (linkageOf (shapeOf i)) (stepOn M c .stepped .outcome)
+  pub steps : Steps U c (at-place .out) (linkageOf (shapeOf i)) (stepOn U c .stepped .outcome)
   steps =
-      slots-kept finds-words M A c i (at-place .next) (running (c .calls)) (I .placed .slots) (at-place .out) doing (I .areas) (I .fitted) (I .placed .height)
+      slots-kept finds-words U A c i (at-place .next) (running (c .calls)) (I .placed .slots) (at-place .out) doing (I .areas) (I .fitted) (I .placed .height)
       (I .placed .holds) (at-place .ways-out) (at-place .stays) (at-place .callable)
-      (λ e some. returns-inside M C (c .memory) (c .stack) (framesStart A) (q .fp) (c .calls) (I .framed) (I .placed .suspended)
+      (λ e some. returns-inside U C (c .memory) (c .stack) (framesStart A) (q .fp) (c .calls) (I .framed) (I .placed .suspended)
       (omega (arith, I .counted)))
 
   -- Nothing below the share changes.
-  kept-below : (n : ℕ) → n < shareOf (c .calls) → getD (stepOn M c .stack) n 0 ≡ getD (c .stack) n 0
+  kept-below : (n : ℕ) → n < shareOf (c .calls) → getD (stepOn U c .stack) n 0 ≡ getD (c .stack) n 0
   kept-below = unread (c .stack) (record { room = refl; above = λ n h. refl }) .keeps-own
 
-  module _ (w : stepOn M c .stepped .outcome ≡ Went) where
+  module _ (w : stepOn U c .stepped .outcome ≡ Went) where
     abbrev q' : Registers
-    q' = stepOn M c .stepped .machine .registers
+    q' = stepOn U c .stepped .machine .registers
 
     abbrev s' : List ℕ
-    s' = stepOn M c .stack
+    s' = stepOn U c .stack
 
     -- RTN goes on only where a call is active.
-    active : shapeOf i ≡ Return → length (c .calls) ≡ 0 → ⊥
+    active : shapeOf i ≡ Rtn → length (c .calls) ≡ 0 → ⊥
     active e none =
-        let did = step-did M c i (at-place .next) doing w in
+        let did = step-did U c i (at-place .next) doing w in
         subst (λ (x : Shape). Framing q (c .memory) (at-place .next) (linkageOf x) (did .write) (did .registers)) e (did .done) .active
         (omega (arith, I .counted))
 
-    within-placed : Within (M .code) (shareOf (c .calls)) (at-place .out) q' s' → Placed M (c .calls) q' s'
+    within-placed : Within (U .code) (shareOf (c .calls)) (at-place .out) q' s' → Placed U (c .calls) q' s'
     within-placed W =
         record {
           procedure = I .placed .procedure;
@@ -107,35 +106,35 @@ module _ (M : Module) (C : Checked M) (A : Areas) (c : Configuration) (I : Inv M
           reached = stepped (I .placed .reached) (at-place .found) (W .among);
           height = W .height;
           holds = W .holds;
-          suspended = suspended-kept M (c .stack) s' (c .calls) kept-below (I .placed .suspended);
+          suspended = suspended-kept U (c .stack) s' (c .calls) kept-below (I .placed .suspended);
         }
 
     -- By what the instruction does with procedures, as the active calls are.
-    placed-after : (k : Linkage) → Is (shapeOf i) k → Moves M c (at-place .out) q' s' k
-        → Placed M (callsBy M q (at-place .next) k (c .calls)) q' s'
+    placed-after : (k : Linkage) → Is (shapeOf i) k → Moves U c (at-place .out) q' s' k
+        → Placed U (callsBy U q (at-place .next) k (c .calls)) q' s'
     unfolding ways
     placed-after inside e m = within-placed m
     placed-after (calling d) e m =
         rw (m .0 .same-stack)
-        (called-placed M C (c .stack) (c .calls) (I .placed .slots) (at-place .out) q q' (at-place .next) d (at-place .callable d e .1)
+        (called-placed U C (c .stack) (c .calls) (I .placed .slots) (at-place .out) q q' (at-place .next) d (at-place .callable d e .1)
         (rw e at (at-place .ways-out)) (λ k a. stepped (I .placed .reached) (at-place .found) a) (I .placed .height) (I .placed .holds) (I .placed .suspended)
         (m .0 .same-height) (m .1))
     placed-after (entering par) e m = within-placed m
     placed-after returning e m =
         rw (m .0 .same-stack)
-        (returned-placed M C (c .memory) (c .stack) (framesStart A) (q .fp) (q .height) (c .calls) (I .placed .slots) (at-place .out) q' (I .framed)
+        (returned-placed U C (c .memory) (c .stack) (framesStart A) (q .fp) (q .height) (c .calls) (I .placed .slots) (at-place .out) q' (I .framed)
         (I .placed .suspended) (active e) (rw e at (at-place .ways-out)) (I .placed .height) (m .0 .same-height) (m .1))
 
-    pub advances : Inv M A (advance M c)
+    pub advances : Inv U A (advance U c)
     advances =
-        let moves : Moves M c (at-place .out) q' s' (linkageOf (shapeOf i)) =
-        subst (λ (o : Outcome). Steps M c (at-place .out) (linkageOf (shapeOf i)) o) w steps in
-        let P : Placed M (advance M c .calls) q' s' = rw (doing .decoded) (placed-after (linkageOf (shapeOf i)) (shape-is (shapeOf i)) moves) in
-        let (framed, counted) = frames-kept M A c i (at-place .next) doing (I .areas) (I .fitted) (I .framed) (I .counted) w in
-        let H = step-holds (M .code) (c .machine) (c .memory) (c .stack) (rw (I .areas) (I .fitted)) in
+        let moves : Moves U c (at-place .out) q' s' (linkageOf (shapeOf i)) =
+        subst (λ (o : Outcome). Steps U c (at-place .out) (linkageOf (shapeOf i)) o) w steps in
+        let P : Placed U (advance U c .calls) q' s' = rw (doing .decoded) (placed-after (linkageOf (shapeOf i)) (shape-is (shapeOf i)) moves) in
+        let (framed, counted) = frames-kept U A c i (at-place .next) doing (I .areas) (I .fitted) (I .framed) (I .counted) w in
+        let H = step-holds (U .code) (c .machine) (c .memory) (c .stack) (rw (I .areas) (I .fitted)) in
         record {
           areas = H .areas ∙ I .areas;
-          fitted = subst (λ (B : Areas). fits B q' (stepOn M c .memory) s' ≡ true) (I .areas) (H .fit);
+          fitted = subst (λ (B : Areas). fits B q' (stepOn U c .memory) s' ≡ true) (I .areas) (H .fit);
           framed = framed;
           counted = counted;
           placed = P;

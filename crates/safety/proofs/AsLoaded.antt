@@ -10,7 +10,7 @@ use Rattle.registers.specs.declared.Registers.{Registers}
 use Rattle.registers.specs.Memory.{read, isLink, protects}
 use Rattle.registers.specs.Program.{constantsStart, framesStart}
 use Rattle.registers.proofs.Protected.{constant}
-use Rattle.stackmap.specs.Ways.{Module}
+use Rattle.stackmap.specs.Ways.{Subject}
 use Rattle.state.specs.Fits.{fits}
 use Rattle.state.proofs.Fitting.{fitting}
 use Rattle.machine.proofs.Preserved.{step-holds}
@@ -26,20 +26,20 @@ unfolding protects
 link-protected A q m a h =
     rw (h, or-true (leb (constantsStart A) a && ltb a (framesStart A))) (or-true (ltb a 3))
 
-module _ (M : Module) (A : Areas) (c : Configuration) (e : c .machine .areas ≡ A)
+module _ (U : Subject) (A : Areas) (c : Configuration) (e : c .machine .areas ≡ A)
     (f : fits A (registersOf c) (c .memory) (c .stack) ≡ true) where
-  protected-kept : (a : ℕ) → protects A (registersOf c) (c .memory) a ≡ true → read (stepOn M c .memory) a ≡ read (c .memory) a
+  protected-kept : (a : ℕ) → protects A (registersOf c) (c .memory) a ≡ true → read (stepOn U c .memory) a ≡ read (c .memory) a
   protected-kept a p =
-      step-holds (M .code) (c .machine) (c .memory) (c .stack) (rw e f) .spared a (rw e p)
+      step-holds (U .code) (c .machine) (c .memory) (c .stack) (rw e f) .spared a (rw e p)
 
-  pub header-kept : (a : ℕ) → a < 3 → read (stepOn M c .memory) a ≡ read (c .memory) a
+  pub header-kept : (a : ℕ) → a < 3 → read (stepOn U c .memory) a ≡ read (c .memory) a
   header-kept a l = protected-kept a (header-protected A (registersOf c) (c .memory) a l)
 
-  pub constants-kept : (a : ℕ) → constantsStart A ≤ a → a < framesStart A → read (stepOn M c .memory) a ≡ read (c .memory) a
+  pub constants-kept : (a : ℕ) → constantsStart A ≤ a → a < framesStart A → read (stepOn U c .memory) a ≡ read (c .memory) a
   constants-kept a l r =
       protected-kept a
       (constant A (registersOf c) (c .memory) a (fitting A (registersOf c) (c .memory) (c .stack) f .links) l r)
 
   pub links-kept : (a : ℕ) → isLink (c .memory) (registersOf c .fp) (registersOf c .calls) a ≡ true
-      → read (stepOn M c .memory) a ≡ read (c .memory) a
+      → read (stepOn U c .memory) a ≡ read (c .memory) a
   links-kept a h = protected-kept a (link-protected A (registersOf c) (c .memory) a h)

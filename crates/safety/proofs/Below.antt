@@ -12,7 +12,7 @@ use borrow.Author.Tests.{eqb-true, eqb-false, ltb-true, ltb-false}
 use Rattle.words.proofs.Sets.{sets-other}
 use Rattle.opcode.specs.declared.Decoded.the-variants.{At}
 use Rattle.opcode.specs.declared.instruction.Instruction.{Instruction}
-use Rattle.shape.specs.Counts.{needed}
+use Rattle.shape.specs.Shape.{needed}
 use Rattle.effect.specs.declared.effect.Effect.{Effect}
 use Rattle.effect.specs.declared.effect.Effect.the-variants.{Trap, Finish, Go}
 use Rattle.effect.specs.declared.effect.Write.{Write}
@@ -98,8 +98,8 @@ module _ (share : ℕ) (M : Machine) (m s s' : List ℕ) (same : SameFrom share 
 
 pub step-unread : StepUnread
 unfolding stepOf
-step-unread M c i next D h s' same =
+step-unread U c i next D h s' same =
     let share : ℕ = shareOf (c .calls) in
-    let a : Alike share s' (stepOf (M .code) (c .machine) (c .memory) (c .stack)) (stepOf (M .code) (c .machine) (c .memory) s') =
-    rw (D .decoded) (performed-alike share (c .machine) (c .memory) (c .stack) s' same (M .code) i next h) in
+    let a : Alike share s' (stepOf (U .code) (c .machine) (c .memory) (c .stack)) (stepOf (U .code) (c .machine) (c .memory) s') =
+    rw (D .decoded) (performed-alike share (c .machine) (c .memory) (c .stack) s' same (U .code) i next h) in
     record { same-step = a .step; same-memory = a .memory; same-share = a .above; keeps-own = a .own }

@@ -12,14 +12,16 @@ use borrow.Author.Tests.{leb-true, eqb-false}
 use Rattle.words.proofs.Tests.{by-test}
 use Rattle.entries.specs.Entries.{noCallee}
 use Rattle.opcode.specs.declared.instruction.Instruction.{Instruction}
-use Rattle.opcode.specs.declared.instruction.Instruction.the-variants.{LoadConstant, Load, LoadAddress, Store, Pop, Swap, Nop, Signed, Unsigned, Negate, Equal, NotEqual, CompareSigned, CompareUnsigned, Set, Not, Alloc, Free, Jump, JumpC, JumpT, JumpF, Iter, Next, Switch, SwitchX, Leave, Call, Enter, Rtn}
+use Rattle.opcode.specs.declared.instruction.Instruction.the-variants.{LoadConstant, Load, LoadAddress, Store, Pop, Swap, Nop}
+use Rattle.opcode.specs.declared.instruction.Instruction.the-variants.{Operate, Alloc, Free, Jump, JumpC, JumpT, JumpF, Iter}
+use Rattle.opcode.specs.declared.instruction.Instruction.the-variants.{Next, Switch, SwitchX, Leave, Call, Enter, Rtn}
 use Rattle.opcode.specs.declared.instruction.Mode.{Mode}
 use Rattle.opcode.specs.declared.instruction.Mode.the-variants.{Normal}
-use Rattle.operate.specs.Arithmetic.{signedValue, unsignedValue, negatedValue}
+use Rattle.operate.specs.Operation.{operationValue}
 use Rattle.operate.specs.declared.Value.{Value}
 use Rattle.operate.specs.declared.Value.the-variants.{Word, Trap as Stop}
-use Rattle.shape.specs.Counts.{needed, popped, wordsIn}
-use Rattle.shape.specs.Shape.{shapeOf}
+use Rattle.shape.specs.Counts.{popped, wordsIn, operands}
+use Rattle.shape.specs.Shape.{shapeOf, needed}
 use Rattle.shape.specs.Linkage.{Linkage, inside, calling, entering, returning, linkageOf}
 use Rattle.effect.specs.declared.effect.Effect.{Effect}
 use Rattle.effect.specs.declared.effect.Effect.the-variants.{Trap, Finish, Go}
@@ -30,9 +32,10 @@ use Rattle.registers.specs.declared.Areas.{Areas}
 use Rattle.registers.specs.declared.Registers.{Registers}
 use Rattle.registers.specs.Program.{Program}
 use Rattle.registers.specs.Memory.{read, savedFp, live, protects}
-use Rattle.effect.specs.Data.{protectsAny, baseOf, loadFrom, addressOf, storable, storeTo, valued, inverted, allocated, freed}
+use Rattle.effect.specs.Data.{protectsAny, baseOf, loadFrom, addressOf, storable, storeTo, valued, allocated, freed}
 use Rattle.registers.specs.Changes.{moved, sized}
-use Rattle.control.specs.Control.{jumps, jumpsIfFalse, jumpsKeeping, beyond, iterates, nextSum, summed, repeats, switches, searches, calls, enters, returns}
+use Rattle.control.specs.Control.{jumps, jumpsIfFalse, jumpsKeeping, beyond, iterates, nextSum, summed}
+use Rattle.control.specs.Control.{repeats, switches, searches, calls, enters, returns}
 use Rattle.execute.specs.Execute.{execute}
 
 -- An effect traps or finishes; or at most k words go, and P holds of its write and its registers.
@@ -47,14 +50,14 @@ pub record Stays (q q' : Registers) : Type 0 where
   pub calls : q' .calls ≡ q .calls
 
 -- CALL: the two link words at MP, and the new frame above them.
-pub record Begins (q : Registers) (m : List ℕ) (next : ℕ) (write : Write) (q' : Registers) : Type 0 where
+pub record Links (q : Registers) (m : List ℕ) (next : ℕ) (write : Write) (q' : Registers) : Type 0 where
   pub wrote : write ≡ WriteTwo (q .mp) (q .fp) next
   pub room : q .mp + 2 ≤ length m
   pub fp : q' .fp ≡ q .mp + 2
   pub calls : q' .calls ≡ q .calls + 1
 
 -- RTN of an active call: the saved FP.
-pub record Leaves (q : Registers) (m : List ℕ) (write : Write) (q' : Registers) : Type 0 where
+pub record Unlinks (q : Registers) (m : List ℕ) (write : Write) (q' : Registers) : Type 0 where
   pub active : q .calls ≡ 0 → ⊥
   pub wrote : write ≡ NoWrite
   pub fp : q' .fp ≡ savedFp m (q .fp)
@@ -65,9 +68,9 @@ Still q = λ write q'. Stays q q'
 
 abbrev pub Framing : Registers → List ℕ → ℕ → Linkage → Write → Registers → Type 0
 Framing q m next inside = Still q
-Framing q m next (calling p) = Begins q m next
+Framing q m next (calling p) = Links q m next
 Framing q m next (entering par) = Still q
-Framing q m next returning = Leaves q m
+Framing q m next returning = Unlinks q m
 
 module _ (q : Registers) (m : List ℕ) (next : ℕ) where
   stays : (k gone : ℕ) (push : Push) (write : Write) (place mp : ℕ) → gone ≤ k → Does k (Still q) (Go gone push write (sized q place mp))
@@ -100,22 +103,22 @@ module _ (q : Registers) (m : List ℕ) (next : ℕ) where
       (λ d. goes-on 5 0 _ _ label (omega arith)))
   summed-does A a l s label (Stop n) = traps
 
-  call-does : (code : List ℕ) (p : ℕ) → Does 0 (Begins q m next) (calls code q m next p)
+  call-does : (code : List ℕ) (p : ℕ) → Does 0 (Links q m next) (calls code q m next p)
   unfolding calls
   call-does code p =
-      by-test (Does 0 (Begins q m next)) (noCallee code p) (Trap 23) _ (λ e. traps)
-      (λ e. by-test (Does 0 (Begins q m next)) (leb 64 (q .calls)) (Trap 37) _ (λ d. traps)
-      (λ d. by-test (Does 0 (Begins q m next)) (leb (q .mp + 2) (length m)) _ (Trap 35)
+      by-test (Does 0 (Links q m next)) (noCallee code p) (Trap 23) _ (λ e. traps)
+      (λ e. by-test (Does 0 (Links q m next)) (leb 64 (q .calls)) (Trap 37) _ (λ d. traps)
+      (λ d. by-test (Does 0 (Links q m next)) (leb (q .mp + 2) (length m)) _ (Trap 35)
       (λ r. goes (omega arith) (record { wrote = refl; room = leb-true (q .mp + 2) (length m) r; fp = refl; calls = refl })) (λ r. traps)))
 
-  return-does : Does 0 (Leaves q m) (returns q m)
+  rtn-does : Does 0 (Unlinks q m) (returns q m)
   unfolding returns
-  return-does =
-      by-test (Does 0 (Leaves q m)) (eqb (q .calls) 0) Finish _ (λ e. finishes)
+  rtn-does =
+      by-test (Does 0 (Unlinks q m)) (eqb (q .calls) 0) Finish _ (λ e. finishes)
       (λ e. goes (omega arith) (record { active = eqb-false (q .calls) 0 e; wrote = refl; fp = refl; calls = refl }))
 
   pub execute-does : (P : Program) (ws : List ℕ) (i : Instruction) → Does (needed i) (Framing q m next (linkageOf (shapeOf i))) (execute P q m next ws i)
-  unfolding execute shapeOf loadFrom addressOf storeTo inverted allocated freed jumps jumpsIfFalse iterates repeats switches searches enters
+  unfolding execute shapeOf loadFrom addressOf storeTo allocated freed jumps jumpsIfFalse iterates repeats switches searches enters
   execute-does P ws (LoadConstant n) = goes-on 0 0 _ _ next (omega arith)
   execute-does P ws (Load base mode n) =
       tested (popped base) (live q (baseOf q m (read ws 0) base + n) (wordsIn mode)) _ 32
@@ -129,15 +132,8 @@ module _ (q : Registers) (m : List ℕ) (next : ℕ) where
   execute-does P ws (Pop n) = goes-on n n _ _ next (omega arith)
   execute-does P ws Swap = goes-on 2 2 _ _ next (omega arith)
   execute-does P ws Nop = goes-on 0 0 _ _ next (omega arith)
-  execute-does P ws (Signed op) = value-does 2 2 (signedValue op (read ws 0) (read ws 1)) (omega arith)
-  execute-does P ws (Unsigned op) = value-does 2 2 (unsignedValue op (read ws 0) (read ws 1)) (omega arith)
-  execute-does P ws Negate = value-does 1 1 (negatedValue (read ws 0)) (omega arith)
-  execute-does P ws Equal = goes-on 2 2 _ _ next (omega arith)
-  execute-does P ws NotEqual = goes-on 2 2 _ _ next (omega arith)
-  execute-does P ws (CompareSigned order) = goes-on 2 2 _ _ next (omega arith)
-  execute-does P ws (CompareUnsigned order) = goes-on 2 2 _ _ next (omega arith)
-  execute-does P ws (Set op) = goes-on 2 2 _ _ next (omega arith)
-  execute-does P ws Not = tested 1 (ltb (read ws 0) 2) _ 34 (goes-on 1 1 _ _ next (omega arith))
+  execute-does P ws (Operate op) =
+      value-does (operands op) (operands op) (operationValue op (read ws 0) (read ws 1)) (omega arith)
   execute-does P ws Alloc = tested 1 (leb (q .mp + read ws 0) (length m)) _ 35 (stays 1 1 _ _ next _ (omega arith))
   execute-does P ws Free = tested 1 (leb (q .fp + read ws 0) (q .mp)) _ 38 (stays 1 1 _ _ next _ (omega arith))
   execute-does P ws (Jump d) = goes-on 0 0 _ _ _ (omega arith)
@@ -157,4 +153,4 @@ module _ (q : Registers) (m : List ℕ) (next : ℕ) where
   execute-does P ws (Call p) = call-does (P .code) p
   execute-does P ws (Enter par dat) =
       tested par (leb (q .mp + par + dat) (length m)) _ 35 (stays par par _ _ next _ (omega arith))
-  execute-does P ws Rtn = return-does
+  execute-does P ws Rtn = rtn-does

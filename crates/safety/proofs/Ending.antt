@@ -7,7 +7,7 @@ use Rattle.shape.specs.Shape.{shapeOf}
 use Rattle.shape.specs.Linkage.{linkageOf}
 use Rattle.registers.specs.declared.Areas.{Areas}
 use Rattle.registers.specs.Program.{areasOf}
-use Rattle.stackmap.specs.Ways.{Module}
+use Rattle.stackmap.specs.Ways.{Subject}
 use Rattle.verifier.specs.Exact.{subject}
 use Rattle.verifier.proofs.Exactly.{accepts-only}
 use Rattle.machine.specs.declared.run.End.the-variants.{Finished as finish, Spent, Trapped as stop}
@@ -23,26 +23,26 @@ use Rattle.safety.proofs.Places.{Checked, checked}
 use Rattle.safety.proofs.Advancing.{at-place, steps}
 use Rattle.safety.proofs.Throughout.{keeps, at-load, run-safe}
 
-module _ (M : Module) (C : Checked M) (A : Areas) (first : Configuration) (I : Inv M A first) where
-  ended-at : {n : ℕ} {c : Configuration} → Visits M first n c → (left : ℕ) → Inv M A c → (o : Outcome) → stepOn M c .stepped .outcome ≡ o
-      → (stepOn M c .stepped .outcome ≡ Went
-      → Ends M first (runFrom (M .code) left (suc n) (advance M c .machine) (advance M c .memory) (advance M c .stack)))
-      → Ends M first (proceed (runFrom (M .code) left (n + 1)) n o (stepOn M c .stepped .machine) (stepOn M c .memory) (stepOn M c .stack))
+module _ (U : Subject) (C : Checked U) (A : Areas) (first : Configuration) (I : Inv U A first) where
+  ended-at : {n : ℕ} {c : Configuration} → Visits U first n c → (left : ℕ) → Inv U A c → (o : Outcome) → stepOn U c .stepped .outcome ≡ o
+      → (stepOn U c .stepped .outcome ≡ Went
+      → Ends U first (runFrom (U .code) left (suc n) (advance U c .machine) (advance U c .memory) (advance U c .stack)))
+      → Ends U first (proceed (runFrom (U .code) left (n + 1)) n o (stepOn U c .stepped .machine) (stepOn U c .memory) (stepOn U c .stack))
   ended-at {n = n} v left J Went e later = let z : n + 1 ≡ suc n = omega arith in rw z (later e)
   ended-at {n = n} {c = c} v left J Finished e later =
-      let U = step-stops (c .machine) (c .memory) (c .stack) (M .code) (λ w. let z : _≡_ {A = ℕ} 0 1 = cc in omega arith) in
-      record { steps = n; last = c; visited = v; ending = finish; proper = finished; ends = rw (U .machine, U .memory, U .stack) }
+      let T = step-stops (c .machine) (c .memory) (c .stack) (U .code) (λ w. let z : _≡_ {A = ℕ} 0 1 = cc in omega arith) in
+      record { steps = n; last = c; visited = v; ending = finish; proper = finished; ends = rw (T .machine, T .memory, T .stack) }
   ended-at {n = n} {c = c} v left J (Trapped k) e later =
-      let U = step-stops (c .machine) (c .memory) (c .stack) (M .code) (λ w. let z : _≡_ {A = ℕ} 0 1 = cc in omega arith) in
+      let T = step-stops (c .machine) (c .memory) (c .stack) (U .code) (λ w. let z : _≡_ {A = ℕ} 0 1 = cc in omega arith) in
       let d : DataTrap k =
-      subst (λ (x : Outcome). Steps M c (at-place M C A c J .out) (linkageOf (shapeOf (at-place M C A c J .instruction))) x) e (steps M C A c J) in
-      record { steps = n; last = c; visited = v; ending = stop k; proper = d; ends = rw (U .machine, U .memory, U .stack) }
+      subst (λ (x : Outcome). Steps U c (at-place U C A c J .out) (linkageOf (shapeOf (at-place U C A c J .instruction))) x) e (steps U C A c J) in
+      record { steps = n; last = c; visited = v; ending = stop k; proper = d; ends = rw (T .machine, T .memory, T .stack) }
 
-  ended : (left : ℕ) {n : ℕ} {c : Configuration} → Visits M first n c
-      → Ends M first (runFrom (M .code) left n (c .machine) (c .memory) (c .stack))
+  ended : (left : ℕ) {n : ℕ} {c : Configuration} → Visits U first n c
+      → Ends U first (runFrom (U .code) left n (c .machine) (c .memory) (c .stack))
   ended zero {n = n} {c = c} v = record { steps = n; last = c; visited = v; ending = Spent; proper = spent; ends = refl }
   ended (suc left) {c = c} v =
-      ended-at v left (keeps M C A first I v .inv) (stepOn M c .stepped .outcome) refl (λ w. ended left (one-more v w))
+      ended-at v left (keeps U C A first I v .inv) (stepOn U c .stepped .outcome) refl (λ w. ended left (one-more v w))
 
 pub claim : Claim
 unfolding runOf runNumber

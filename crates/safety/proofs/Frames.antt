@@ -9,8 +9,7 @@ use lib.Dec.{eqb}
 use lib.ListN.{length}
 use lib.Seq.{sets}
 use Rattle.opcode.specs.declared.instruction.Instruction.{Instruction}
-use Rattle.shape.specs.Counts.{needed}
-use Rattle.shape.specs.Shape.{shapeOf}
+use Rattle.shape.specs.Shape.{shapeOf, needed}
 use Rattle.shape.specs.Linkage.{Linkage, inside, calling, entering, returning, linkageOf}
 use Rattle.effect.specs.declared.effect.Effect.the-variants.{Go}
 use Rattle.effect.specs.declared.effect.Push.{Push}
@@ -20,7 +19,7 @@ use Rattle.registers.specs.Memory.{read, savedFp, isLink}
 use Rattle.registers.specs.Program.{program, framesStart}
 use Rattle.registers.proofs.Links.{link-near}
 use Rattle.execute.specs.Depth.{topWords}
-use Rattle.stackmap.specs.Ways.{Module}
+use Rattle.stackmap.specs.Ways.{Subject}
 use Rattle.step.specs.declared.Machine.{Machine}
 use Rattle.step.specs.declared.Outcome.the-variants.{Went}
 use Rattle.step.specs.Step.{After, written, stepOf}
@@ -28,7 +27,7 @@ use Rattle.step.proofs.Leaving.{carriedOut, performed-leaves}
 use Rattle.machine.proofs.Stored.{two-stored}
 use Rattle.safety.specs.Active.{Call, Configuration, begun, callers, callsBy, stepOn}
 use Rattle.safety.proofs.AsLoaded.{links-kept}
-use Rattle.safety.proofs.Effects.{Does, goes, Stays, Begins, Leaves, Framing, execute-does}
+use Rattle.safety.proofs.Effects.{Does, goes, Stays, Links, Unlinks, Framing, execute-does}
 use Rattle.safety.proofs.Parts.{Framed, no-frame, a-frame, registersOf, Doing, FramesKept}
 
 -- What a completed step did: a write and registers of which P holds.
@@ -54,15 +53,15 @@ did-go M m s k P gone push write next (goes l p) =
       calls = refl;
     }
 
-pub step-did : (M : Module) (c : Configuration) (i : Instruction) (next : ℕ) → Doing M c i next → stepOn M c .stepped .outcome ≡ Went
-    → Did (Framing (registersOf c) (c .memory) next (linkageOf (shapeOf i))) (c .memory) (stepOn M c)
+pub step-did : (U : Subject) (c : Configuration) (i : Instruction) (next : ℕ) → Doing U c i next → stepOn U c .stepped .outcome ≡ Went
+    → Did (Framing (registersOf c) (c .memory) next (linkageOf (shapeOf i))) (c .memory) (stepOn U c)
 unfolding stepOf
-step-did M c i next D =
+step-did U c i next D =
     let P : Write → Registers → Type 0 = Framing (registersOf c) (c .memory) next (linkageOf (shapeOf i)) in
     rw (D .decoded) (performed-leaves (c .machine) (c .memory) (c .stack)
     (λ a. a .stepped .outcome ≡ Went → Did P (c .memory) a) (Does (needed i) P) (λ o n w. absurd (n w))
-    (λ gone push write q h room w. did-go (c .machine) (c .memory) (c .stack) (needed i) P gone push write q h) (M .code) i next
-    (execute-does (registersOf c) (c .memory) next (program (M .code) (c .machine .areas)) _ i))
+    (λ gone push write q h room w. did-go (c .machine) (c .memory) (c .stack) (needed i) P gone push write q h) (U .code) i next
+    (execute-does (registersOf c) (c .memory) next (program (U .code) (c .machine .areas)) _ i))
 
 saved-fp : (m : List ℕ) (fp link saved : ℕ) → fp ≡ link + 2 → read m link ≡ saved → savedFp m fp ≡ saved
 saved-fp m fp link saved e r =
@@ -89,7 +88,7 @@ frame-below m start fp n (c ∷ calls) (a-frame e r t rest) h count =
 abbrev InStep : List ℕ → ℕ → Registers → List Call → Type 0
 InStep m start q calls = Framed m start (q .fp) calls × (length calls ≡ q .calls)
 
-module _ (M : Module) (start next : ℕ) (m n gone : List ℕ) (q : Registers) (calls : List Call) (F : Framed m start (q .fp) calls)
+module _ (U : Subject) (start next : ℕ) (m n gone : List ℕ) (q : Registers) (calls : List Call) (F : Framed m start (q .fp) calls)
     (count : length calls ≡ q .calls) (kept : (b : ℕ) → isLink m (q .fp) (q .calls) b ≡ true → read n b ≡ read m b) where
   same-frames : Framed n start (q .fp) calls
   same-frames = framed-kept m n start (q .fp) calls F (λ b h. kept b (rw (← count) h))
@@ -97,34 +96,34 @@ module _ (M : Module) (start next : ℕ) (m n gone : List ℕ) (q : Registers) (
   stays-framed : (q' : Registers) → Stays q q' → InStep n start q' calls
   stays-framed q' y = (rw (y .fp) same-frames, count ∙ sym (y .calls))
 
-  begins-framed : (p : ℕ) (write : Write) (q' : Registers) → Begins q m next write q' → n ≡ written m gone write
-      → InStep n start q' (begun M q p next calls)
-  begins-framed p write q' y e =
+  links-framed : (p : ℕ) (write : Write) (q' : Registers) → Links q m next write q' → n ≡ written m gone write
+      → InStep n start q' (begun U q p next calls)
+  links-framed p write q' y e =
       let made : n ≡ sets m (q .mp) (q .fp ∷ next ∷ []) = e ∙ rw (y .wrote) in
       let two = two-stored m (q .mp) (q .fp) next (y .room) in
       let first : read n (q .mp) ≡ q .fp = rw made (two .0) in
       let back : read n (q .mp + 1) ≡ next = rw made (two .1) in
       (a-frame (y .fp) first back same-frames, omega (arith, count, y .calls))
 
-  leaves-framed : (write : Write) (q' : Registers) → Leaves q m write q' → n ≡ written m gone write
+  unlinks-framed : (write : Write) (q' : Registers) → Unlinks q m write q' → n ≡ written m gone write
       → InStep n start q' (callers calls)
-  leaves-framed write q' y e =
+  unlinks-framed write q' y e =
       let made : n ≡ m = e ∙ rw (y .wrote) in
       let f = frame-below m start (q .fp) (q .calls) calls F (y .active) count in
       (rw (y .fp, made) (f .0), f .1 ∙ sym (y .calls))
 
   -- By what the instruction does with procedures, as the active calls are.
   framed-after : (k : Linkage) (write : Write) (q' : Registers) → Framing q m next k write q' → n ≡ written m gone write
-      → InStep n start q' (callsBy M q next k calls)
+      → InStep n start q' (callsBy U q next k calls)
   framed-after inside write q' y e = stays-framed q' y
-  framed-after (calling p) write q' y e = begins-framed p write q' y e
+  framed-after (calling p) write q' y e = links-framed p write q' y e
   framed-after (entering par) write q' y e = stays-framed q' y
-  framed-after returning write q' y e = leaves-framed write q' y e
+  framed-after returning write q' y e = unlinks-framed write q' y e
 
 pub frames-kept : FramesKept
-frames-kept M A c i next D e f F count w =
-    let did = step-did M c i next D w in
+frames-kept U A c i next D e f F count w =
+    let did = step-did U c i next D w in
     let t =
-    framed-after M (framesStart A) next (c .memory) (stepOn M c .memory) (did .gone) (registersOf c) (c .calls) F count
-    (links-kept M A c e f) (linkageOf (shapeOf i)) (did .write) (did .registers) (did .done) (did .memory) in
+    framed-after U (framesStart A) next (c .memory) (stepOn U c .memory) (did .gone) (registersOf c) (c .calls) F count
+    (links-kept U A c e f) (linkageOf (shapeOf i)) (did .write) (did .registers) (did .done) (did .memory) in
     rw (D .decoded, did .fp, did .calls) t

@@ -12,7 +12,7 @@ use Rattle.effect.specs.declared.effect.Push.the-variants.{NoPush}
 use Rattle.effect.specs.declared.effect.Write.the-variants.{NoWrite}
 use Rattle.registers.specs.Changes.{moved}
 use Rattle.control.specs.Control.{jumps, jumpsIfFalse, jumpsKeeping}
-use Rattle.stackmap.specs.Slots.{Slot, popWords, dropSlots}
+use Rattle.stackmap.specs.Slots.{Slot, popWords, popSlots}
 use Rattle.stackmap.specs.Ways.{Way, _gets_, after, both}
 use Rattle.stackmap.specs.StackMap.{Among, here, there}
 use Rattle.safety.specs.Active.{Configuration}
@@ -31,10 +31,10 @@ among-either true t u k = among-away t u k k
 among-either false t u k = among-on t u k k
 
 module _ {code : List ℕ} {c : Configuration} {l : List Slot} {out : List Way} {Done : Type 0} (S : Start code c l out) (next : ℕ) where
-  pub drop-goes : (n : ℕ) → after (dropSlots n l) (λ rest. next gets rest ∷ []) ≡ some out
+  pub pop-goes : (n : ℕ) → after (popSlots n l) (λ rest. next gets rest ∷ []) ≡ some out
       → Stays code c out Done (Go n NoPush NoWrite (moved (registersOf c) next))
-  drop-goes n w =
-      let T : Taken (dropSlots n l) (λ rest. next gets rest ∷ []) out = taken (dropSlots n l) (λ rest. next gets rest ∷ []) out w in
+  pop-goes n w =
+      let T : Taken (popSlots n l) (λ rest. next gets rest ∷ []) out = taken (popSlots n l) (λ rest. next gets rest ∷ []) out w in
       words-go S n NoPush NoWrite (moved (registersOf c) next) (T .rest) (T .found) (among-taken T next (T .rest) here)
 
   pub jump-goes : (d : ℕ) → some (placeAt (registersOf c .pc) d gets l ∷ []) ≡ some out → Stays code c out Done (jumps (registersOf c) d)
@@ -43,19 +43,19 @@ module _ {code : List ℕ} {c : Configuration} {l : List Slot} {out : List Way} 
       let T : Taken (some l) (λ rest. placeAt (registersOf c .pc) d gets l ∷ []) out = taken (some l) _ out w in
       words-go S 0 NoPush NoWrite (moved (registersOf c) (placeAt (registersOf c .pc) d)) l refl (among-taken T (placeAt (registersOf c .pc) d) l here)
 
-  pub branch-goes : (d b : ℕ) → after (popWords 1 l) (λ rest. both (next gets rest) (placeAt (registersOf c .pc) d gets rest)) ≡ some out
+  pub jump-c-goes : (d b : ℕ) → after (popWords 1 l) (λ rest. both (next gets rest) (placeAt (registersOf c .pc) d gets rest)) ≡ some out
       → Stays code c out Done (jumpsIfFalse (registersOf c) next d b)
   unfolding jumpsIfFalse
-  branch-goes d b w =
+  jump-c-goes d b w =
       let away : ℕ = placeAt (registersOf c .pc) d in
       let T : Taken (popWords 1 l) (λ rest. both (next gets rest) (away gets rest)) out = taken (popWords 1 l) _ out w in
       good-boolean b _
       (popped-go S 1 _ T NoPush NoWrite (moved (registersOf c) (cond (eqb b 0) away next)) (among-either (eqb b 0) next away (T .rest)))
 
-  pub keep-goes : (when d b : ℕ) → after (popWords 1 l) (λ rest. both (next gets rest) (placeAt (registersOf c .pc) d gets l)) ≡ some out
+  pub jump-tf-goes : (when d b : ℕ) → after (popWords 1 l) (λ rest. both (next gets rest) (placeAt (registersOf c .pc) d gets l)) ≡ some out
       → Stays code c out Done (jumpsKeeping (registersOf c) next when d b)
   unfolding jumpsKeeping
-  keep-goes when d b w =
+  jump-tf-goes when d b w =
       let away : ℕ = placeAt (registersOf c .pc) d in
       let T : Taken (popWords 1 l) (λ rest. both (next gets rest) (away gets l)) out = taken (popWords 1 l) _ out w in
       good-boolean b _

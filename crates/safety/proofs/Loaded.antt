@@ -21,7 +21,7 @@ use Rattle.state.specs.Fits.{sizesTaken}
 use Rattle.load.specs.Load.{Loading, loadedMemory, startOf, loadNumber, loadOf}
 use Rattle.state.proofs.Fitting.{Fitting, sizes-taken, fitted}
 use Rattle.load.proofs.Loading.{loaded-word, loaded-length, word-low, word-third}
-use Rattle.stackmap.specs.Ways.{Module}
+use Rattle.stackmap.specs.Ways.{Subject}
 use Rattle.stackmap.specs.StackMap.{entered}
 use Rattle.safety.specs.Demand3.{loadedConfiguration, holds-none}
 use Rattle.safety.proofs.Parts.{no-frame, no-caller, Inv}
@@ -76,10 +76,10 @@ module _ (r parameters m s : List ℕ) (q : Registers) (sound : recordNumber r �
           links = eq-eqb (framesStart A) (framesStart A) refl;
         })
 
-    pub loaded-holds : (M : Module) → M .code ≡ codeOf r → 0 < entryCount (M .code)
-        → Inv M (areasOf r) (loadedConfiguration r q (loadOf r parameters m s .memory) s)
+    pub loaded-holds : (U : Subject) → U .code ≡ codeOf r → 0 < entryCount (U .code)
+        → Inv U (areasOf r) (loadedConfiguration r q (loadOf r parameters m s .memory) s)
     unfolding startOf
-    loaded-holds M same some =
+    loaded-holds U same some =
         let T = load-taken ready in
         let F = fitted (areasOf r) q (loadOf r parameters m s .memory) s loaded-fits in
         record {

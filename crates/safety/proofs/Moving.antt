@@ -12,7 +12,7 @@ use Rattle.effect.specs.declared.effect.Push.the-variants.{PushOne}
 use Rattle.effect.specs.declared.effect.Write.{Write}
 use Rattle.registers.specs.declared.Registers.{Registers}
 use Rattle.effect.specs.Data.{pushes}
-use Rattle.stackmap.specs.Slots.{Slot, label, pushWords, popWords, dropSlots}
+use Rattle.stackmap.specs.Slots.{Slot, label, pushWords, popWords, popSlots}
 use Rattle.stackmap.specs.Ways.{Way, _gets_, after, straight, labelWord}
 use Rattle.stackmap.specs.StackMap.{Among, here}
 use Rattle.step.specs.Step.{pushed}
@@ -20,7 +20,7 @@ use Rattle.safety.specs.Active.{shareOf, Configuration}
 use Rattle.safety.specs.Demand3.{Holds}
 use Rattle.safety.proofs.Parts.{registersOf, Within, InCode}
 use Rattle.stackmap.proofs.Pushing.{pushed-height}
-use Rattle.safety.proofs.Sharing.{nothing, holds-under, dropped-size, popped-drops, holds-words, holds-below, holds-made}
+use Rattle.safety.proofs.Sharing.{nothing, holds-under, popped-size, popped-words, holds-words, holds-below, holds-made}
 use Rattle.safety.proofs.Settling.{Good, good-trap, good-go}
 use Rattle.safety.proofs.Plain.{Plain, plain-trap, plain-go}
 
@@ -46,17 +46,17 @@ among-taken T t k a = subst (λ (ws : List Way). Among t k ws) (T .ways) a
 
 -- What the share has where so many slots go.
 left : {code : List ℕ} {c : Configuration} {l : List Slot} {out : List Way} → Start code c l out → (n : ℕ) (rest : List Slot)
-    → dropSlots n l ≡ some rest
+    → popSlots n l ≡ some rest
     → (registersOf c .height - n ≡ shareOf (c .calls) + length rest) × Holds code (c .stack) (shareOf (c .calls)) rest
 left {l = l} S n rest e =
-    (omega (arith, S .height, dropped-size n l rest e), holds-under n l rest e (S .holds))
+    (omega (arith, S .height, popped-size n l rest e), holds-under n l rest e (S .holds))
 
 abbrev pub Stays : List ℕ → Configuration → List Way → Type 0 → Effect → Type 0
 Stays code c out Done e = Good code c Done (Within code (shareOf (c .calls)) out) e
 
 module _ {code : List ℕ} {c : Configuration} {l : List Slot} {out : List Way} {Done : Type 0} (S : Start code c l out) where
   -- Words that go, and words that come.
-  pub words-go : (gone : ℕ) (push : Push) (write : Write) (q : Registers) (rest : List Slot) → dropSlots gone l ≡ some rest
+  pub words-go : (gone : ℕ) (push : Push) (write : Write) (q : Registers) (rest : List Slot) → popSlots gone l ≡ some rest
       → Among (q .pc) (pushWords (pushes push) rest) out → Stays code c out Done (Go gone push write q)
   words-go gone push write q rest e a =
       let (h, k) = left S gone rest e in
@@ -69,7 +69,7 @@ module _ {code : List ℕ} {c : Configuration} {l : List Slot} {out : List Way} 
       })
 
   -- Words that go, and a label that comes.
-  pub label-goes : (gone x origin : ℕ) (write : Write) (q : Registers) (rest : List Slot) → dropSlots gone l ≡ some rest
+  pub label-goes : (gone x origin : ℕ) (write : Write) (q : Registers) (rest : List Slot) → popSlots gone l ≡ some rest
       → x ≡ labelWord code origin → Among (q .pc) (label origin ∷ rest) out → Stays code c out Done (Go gone (PushOne x) write q)
   label-goes gone x origin write q rest e w a =
       let (h, k) = left S gone rest e in
@@ -85,7 +85,7 @@ module _ {code : List ℕ} {c : Configuration} {l : List Slot} {out : List Way} 
   pub popped-go : (gone : ℕ) (f : List Slot → List Way) (T : Taken (popWords gone l) f out) (push : Push) (write : Write) (q : Registers)
       → Among (q .pc) (pushWords (pushes push) (T .rest)) (f (T .rest)) → Stays code c out Done (Go gone push write q)
   popped-go gone f T push write q a =
-      words-go gone push write q (T .rest) (popped-drops gone l (T .rest) (T .found)) (among-taken T (q .pc) _ a)
+      words-go gone push write q (T .rest) (popped-words gone l (T .rest) (T .found)) (among-taken T (q .pc) _ a)
 
   -- The instructions that take and give words alone.
   pub plain-goes : (next gone come : ℕ) (e : Effect) → straight next gone come l ≡ some out → Plain next gone come e

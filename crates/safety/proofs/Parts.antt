@@ -9,16 +9,16 @@ use Rattle.entries.specs.Entries.{entryAt, entryCount}
 use Rattle.opcode.specs.Decode.{decodeAt}
 use Rattle.opcode.specs.declared.Decoded.the-variants.{At}
 use Rattle.opcode.specs.declared.instruction.Instruction.{Instruction}
-use Rattle.shape.specs.Counts.{needed}
-use Rattle.shape.specs.Shape.{shapeOf}
-use Rattle.shape.specs.declared.Shape.the-variants.{Invoke, Return}
+use Rattle.shape.specs.Shape.{shapeOf, finds, needed}
+use Rattle.shape.specs.declared.Shape.{Shape}
+use Rattle.shape.specs.declared.Shape.the-variants as shape
 use Rattle.shape.specs.Linkage.{Linkage, inside, calling, entering, returning, linkageOf}
 use Rattle.registers.specs.Memory.{read}
 use Rattle.registers.specs.Program.{framesStart}
 use Rattle.registers.specs.declared.Areas.{Areas}
 use Rattle.registers.specs.declared.Registers.{Registers}
 use Rattle.stackmap.specs.Slots.{Slot, pushWords}
-use Rattle.stackmap.specs.Ways.{Module, Way, resultsIn, ways}
+use Rattle.stackmap.specs.Ways.{Subject, Way, resultsIn, ways}
 use Rattle.stackmap.specs.StackMap.{Reached, Among}
 use Rattle.step.specs.declared.Outcome.{Outcome}
 use Rattle.step.specs.declared.Outcome.the-variants.{Went, Finished, Trapped}
@@ -37,45 +37,45 @@ pub data Framed (m : List ℕ) (start : ℕ) : ℕ → List Call → Type 0 wher
   a-frame : {fp : ℕ} {c : Call} {calls : List Call} → fp ≡ c .link + 2 → read m (c .link) ≡ c .savedFp → read m (c .link + 1) ≡ c .back → Framed m start (c .savedFp) calls → Framed m start fp (c ∷ calls)
 
 -- What each active call's caller has on its share of the stack, under the callee's, and finds when it goes on.
-pub data Suspended (M : Module) (s : List ℕ) : List Call → Type 0 where
-  no-caller : Suspended M s []
-  a-caller : {c : Call} {calls : List Call} (l : List Slot) → Reached M (running calls) (c .back) (pushWords (resultsIn (M .results) (c .procedure)) l) → c .share ≡ shareOf calls + length l → Holds (M .code) s (shareOf calls) l → c .procedure < entryCount (M .code) → Suspended M s calls → Suspended M s (c ∷ calls)
+pub data Suspended (U : Subject) (s : List ℕ) : List Call → Type 0 where
+  no-caller : Suspended U s []
+  a-caller : {c : Call} {calls : List Call} (l : List Slot) → Reached U (running calls) (c .back) (pushWords (resultsIn (U .results) (c .procedure)) l) → c .share ≡ shareOf calls + length l → Holds (U .code) s (shareOf calls) l → c .procedure < entryCount (U .code) → Suspended U s calls → Suspended U s (c ∷ calls)
 
 -- Where control is: the running procedure, the slots that its picture has there and its share holds, and its callers.
-pub record Placed (M : Module) (calls : List Call) (q : Registers) (s : List ℕ) : Type 0 where
-  pub procedure : running calls < entryCount (M .code)
+pub record Placed (U : Subject) (calls : List Call) (q : Registers) (s : List ℕ) : Type 0 where
+  pub procedure : running calls < entryCount (U .code)
   pub slots : List Slot
-  pub reached : Reached M (running calls) (q .pc) slots
+  pub reached : Reached U (running calls) (q .pc) slots
   pub height : q .height ≡ shareOf calls + length slots
-  pub holds : Holds (M .code) s (shareOf calls) slots
-  pub suspended : Suspended M s calls
+  pub holds : Holds (U .code) s (shareOf calls) slots
+  pub suspended : Suspended U s calls
 
 -- The invariant.
-pub record Inv (M : Module) (A : Areas) (c : Configuration) : Type 0 where
+pub record Inv (U : Subject) (A : Areas) (c : Configuration) : Type 0 where
   pub areas : c .machine .areas ≡ A
   pub fitted : fits A (registersOf c) (c .memory) (c .stack) ≡ true
   pub framed : Framed (c .memory) (framesStart A) (registersOf c .fp) (c .calls)
   pub counted : length (c .calls) ≡ registersOf c .calls
-  pub placed : Placed M (c .calls) (registersOf c) (c .stack)
+  pub placed : Placed U (c .calls) (registersOf c) (c .stack)
 
 -- The instruction that a configuration is about to do.
-pub record Doing (M : Module) (c : Configuration) (i : Instruction) (next : ℕ) : Type 0 where
-  pub decoded : decodeAt (M .code) (length (M .code)) (registersOf c .pc) ≡ At i next
+pub record Doing (U : Subject) (c : Configuration) (i : Instruction) (next : ℕ) : Type 0 where
+  pub decoded : decodeAt (U .code) (length (U .code)) (registersOf c .pc) ≡ At i next
 
 -- Part 1: a completed step keeps the frames in step with the active calls.
 abbrev pub FramesKept : Type 0
 FramesKept =
-    (M : Module) (A : Areas) (c : Configuration) (i : Instruction) (next : ℕ) → Doing M c i next → c .machine .areas ≡ A
+    (U : Subject) (A : Areas) (c : Configuration) (i : Instruction) (next : ℕ) → Doing U c i next → c .machine .areas ≡ A
     → fits A (registersOf c) (c .memory) (c .stack) ≡ true → Framed (c .memory) (framesStart A) (registersOf c .fp) (c .calls)
-    → length (c .calls) ≡ registersOf c .calls → stepOn M c .stepped .outcome ≡ Went
-    → Framed (advance M c .memory) (framesStart A) (registersOf (advance M c) .fp) (advance M c .calls)
-    × (length (advance M c .calls) ≡ registersOf (advance M c) .calls)
+    → length (c .calls) ≡ registersOf c .calls → stepOn U c .stepped .outcome ≡ Went
+    → Framed (advance U c .memory) (framesStart A) (registersOf (advance U c) .fp) (advance U c .calls)
+    × (length (advance U c .calls) ≡ registersOf (advance U c) .calls)
 
 -- Part 2: a step whose words lie in the share reads and changes nothing below it.
 abbrev pub StepUnread : Type 0
 StepUnread =
-    (M : Module) (c : Configuration) (i : Instruction) (next : ℕ) → Doing M c i next
-    → shareOf (c .calls) + needed i ≤ registersOf c .height → (s' : List ℕ) → SameFrom (shareOf (c .calls)) (c .stack) s' → Unread M c s'
+    (U : Subject) (c : Configuration) (i : Instruction) (next : ℕ) → Doing U c i next
+    → shareOf (c .calls) + needed i ≤ registersOf c .height → (s' : List ℕ) → SameFrom (shareOf (c .calls)) (c .stack) s' → Unread U c s'
 
 -- Part 3: what a step does to the share, by the shape of its instruction.
 abbrev pub DataTrap : ℕ → Type 0
@@ -93,20 +93,20 @@ pub record Untouched (c : Configuration) (q : Registers) (s : List ℕ) : Type 0
   pub same-height : q .height ≡ registersOf c .height
   pub same-stack : s ≡ c .stack
 
-abbrev pub Moves : Module → Configuration → List Way → Registers → List ℕ → Linkage → Type 0
-Moves M c out q s inside = Within (M .code) (shareOf (c .calls)) out q s
-Moves M c out q s (calling p) = Untouched c q s × (q .pc ≡ entryAt (M .code) p)
-Moves M c out q s (entering par) = Within (M .code) (shareOf (c .calls)) out q s
-Moves M c out q s returning = Untouched c q s × (q .pc ≡ read (c .memory) (registersOf c .fp - 1))
+abbrev pub Moves : Subject → Configuration → List Way → Registers → List ℕ → Linkage → Type 0
+Moves U c out q s inside = Within (U .code) (shareOf (c .calls)) out q s
+Moves U c out q s (calling p) = Untouched c q s × (q .pc ≡ entryAt (U .code) p)
+Moves U c out q s (entering par) = Within (U .code) (shareOf (c .calls)) out q s
+Moves U c out q s returning = Untouched c q s × (q .pc ≡ read (c .memory) (registersOf c .fp - 1))
 
 -- What a step leaves, by its outcome: it moves, finishes, or traps on data.
-abbrev pub Left : Module → Configuration → List Way → Linkage → After → Outcome → Type 0
-Left M c out k a Went = Moves M c out (a .stepped .machine .registers) (a .stack) k
-Left M c out k a Finished = k ≡ returning
-Left M c out k a (Trapped n) = DataTrap n
+abbrev pub Left : Subject → Configuration → List Way → Linkage → After → Outcome → Type 0
+Left U c out k a Went = Moves U c out (a .stepped .machine .registers) (a .stack) k
+Left U c out k a Finished = k ≡ returning
+Left U c out k a (Trapped n) = DataTrap n
 
-abbrev pub Steps : Module → Configuration → List Way → Linkage → Outcome → Type 0
-Steps M c out k o = Left M c out k (stepOn M c) o
+abbrev pub Steps : Subject → Configuration → List Way → Linkage → Outcome → Type 0
+Steps U c out k o = Left U c out k (stepOn U c) o
 
 -- Every way out lies in the code; and a procedure that can be called: there is one, and it begins in the code.
 abbrev pub InCode : List ℕ → List Way → Type 0
@@ -117,16 +117,15 @@ Callable code d = (0 < d) × (d < entryCount code) × (entryAt code d < length c
 
 abbrev pub SlotsKept : Type 0
 SlotsKept =
-    (M : Module) (A : Areas) (c : Configuration) (i : Instruction) (next p : ℕ) (l : List Slot) (out : List Way) → Doing M c i next
+    (U : Subject) (A : Areas) (c : Configuration) (i : Instruction) (next p : ℕ) (l : List Slot) (out : List Way) → Doing U c i next
     → c .machine .areas ≡ A → fits A (registersOf c) (c .memory) (c .stack) ≡ true
-    → registersOf c .height ≡ shareOf (c .calls) + length l → Holds (M .code) (c .stack) (shareOf (c .calls)) l
-    → ways M p (registersOf c .pc) next (shapeOf i) l ≡ some out → InCode (M .code) out
-    → ((d : ℕ) → shapeOf i ≡ Invoke d → Callable (M .code) d)
-    → (shapeOf i ≡ Return → 0 < registersOf c .calls → read (c .memory) (registersOf c .fp - 1) < length (M .code))
-    → Steps M c out (linkageOf (shapeOf i)) (stepOn M c .stepped .outcome)
+    → registersOf c .height ≡ shareOf (c .calls) + length l → Holds (U .code) (c .stack) (shareOf (c .calls)) l
+    → ways U p (registersOf c .pc) next (shapeOf i) l ≡ some out → InCode (U .code) out
+    → ((d : ℕ) → shapeOf i ≡ shape.Call d → Callable (U .code) d)
+    → (shapeOf i ≡ shape.Rtn → 0 < registersOf c .calls → read (c .memory) (registersOf c .fp - 1) < length (U .code))
+    → Steps U c out (linkageOf (shapeOf i)) (stepOn U c .stepped .outcome)
 
--- An instruction finds its words in the share.
+-- An instruction of a shape finds its words in the share.
 abbrev pub FindsWords : Type 0
 FindsWords =
-    (M : Module) (p at next : ℕ) (i : Instruction) (l : List Slot) (out : List Way) → ways M p at next (shapeOf i) l ≡ some out
-    → needed i ≤ length l
+    (U : Subject) (p at next : ℕ) (s : Shape) (l : List Slot) (out : List Way) → ways U p at next s l ≡ some out → finds s ≤ length l

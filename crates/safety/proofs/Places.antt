@@ -17,16 +17,16 @@ use Rattle.opcode.specs.Decode.{decodeAt}
 use Rattle.opcode.specs.declared.Decoded.the-variants.{At}
 use Rattle.opcode.specs.declared.instruction.Instruction.{Instruction}
 use Rattle.shape.specs.Shape.{shapeOf}
-use Rattle.shape.specs.declared.Shape.the-variants.{Invoke}
+use Rattle.shape.specs.declared.Shape.the-variants.{Call}
 use Rattle.shape.proofs.Origins.{decoded-wider}
 use Rattle.layout.specs.Cut.{Marks, startsIn}
 use Rattle.faults.specs.Faults.{strays, misplaced, uncallable, testAt, anyFrom, anywhere, codeNumber}
 use Rattle.layout.proofs.Cutting.{Cutted, cutting-starts, same-marks}
 use Rattle.stackmap.specs.Slots.{Slot}
-use Rattle.stackmap.specs.Ways.{Module, Way, ways}
+use Rattle.stackmap.specs.Ways.{Subject, Way, ways}
 use Rattle.stackmap.specs.StackMap.{waysAt, Map, Obeys, IsMap, Reached, stepped}
 use Rattle.stackmap.proofs.Exact.{has-reached}
-use Rattle.verifier.specs.Check.{moduleOf, checkOf}
+use Rattle.verifier.specs.Check.{subjectOf, checkOf}
 use Rattle.words.specs.Bytes.{Bytes}
 use Rattle.verifier.specs.Exact.{Ruled, subject}
 use Rattle.record.proofs.Sound.{numberless}
@@ -35,10 +35,10 @@ use Rattle.machine.proofs.Stored.{apart}
 use Rattle.safety.proofs.Parts.{InCode, Callable}
 
 -- A module that the check accepts.
-pub record Checked (M : Module) : Type 0 where
-  pub cutted : Cutted (M .code) (M .marks)
-  pub in-order : codeNumber (M .code) (M .marks) ≡ 0
-  pub maps : (p : ℕ) → p < entryCount (M .code) → (π : Map) × IsMap M p π
+pub record Checked (U : Subject) : Type 0 where
+  pub cutted : Cutted (U .code) (U .marks)
+  pub in-order : codeNumber (U .code) (U .marks) ≡ 0
+  pub maps : (p : ℕ) → p < entryCount (U .code) → (π : Map) × IsMap U p π
 
 pub checked : (r results w : List ℕ) → Bytes r → checkOf r results w .number ≡ 0 → (R : Ruled r results) → Checked (subject r results R)
 checked r results w b e R =
@@ -48,7 +48,7 @@ checked r results w b e R =
       cutted = cutting-starts (codeOf r) (R .marks) (numberless r (R .record-sound) .entries) (R .is-cut);
       in-order = R .in-order;
       maps = λ p h.
-          subst (λ (k : Marks). (π : Map) × IsMap (moduleOf (codeOf r) results k) p π) same (maps p h);
+          subst (λ (k : Marks). (π : Map) × IsMap (subjectOf (codeOf r) results k) p π) same (maps p h);
     }
 
 -- A test that fails everywhere fails at each offset.
@@ -76,38 +76,38 @@ all-callable code marks e at h =
     (none-from (λ (k : ℕ). testAt code (marks k) (uncallable code) k) 0 (length code) at (cleared tests refl e .1 .1 .0) h)
 
 -- What stands at a place that is reached with a list.
-pub record AtPlace (M : Module) (p at : ℕ) (l : List Slot) : Type 0 where
-  pub inside : at < length (M .code)
+pub record AtPlace (U : Subject) (p at : ℕ) (l : List Slot) : Type 0 where
+  pub inside : at < length (U .code)
   pub instruction : Instruction
   pub next : ℕ
-  pub decoded : decodeAt (M .code) (length (M .code)) at ≡ At instruction next
+  pub decoded : decodeAt (U .code) (length (U .code)) at ≡ At instruction next
   pub out : List Way
-  pub found : waysAt M p at l ≡ some out
-  pub ways-out : ways M p at next (shapeOf instruction) l ≡ some out
-  pub stays : InCode (M .code) out
-  pub callable : (d : ℕ) → shapeOf instruction ≡ Invoke d → Callable (M .code) d
+  pub found : waysAt U p at l ≡ some out
+  pub ways-out : ways U p at next (shapeOf instruction) l ≡ some out
+  pub stays : InCode (U .code) out
+  pub callable : (d : ℕ) → shapeOf instruction ≡ Call d → Callable (U .code) d
 
-module _ (M : Module) (C : Checked M) (p : ℕ) (h : p < entryCount (M .code)) where
-  obeyed : (at : ℕ) (l : List Slot) → Reached M p at l → Obeys M p (C .maps p h .0) at l
+module _ (U : Subject) (C : Checked U) (p : ℕ) (h : p < entryCount (U .code)) where
+  obeyed : (at : ℕ) (l : List Slot) → Reached U p at l → Obeys U p (C .maps p h .0) at l
   obeyed at l r =
       let (π, is) = C .maps p h in
-      is .obeys at l (has-reached M p π is at l r)
+      is .obeys at l (has-reached U p π is at l r)
 
-  pub reached-inside : (at : ℕ) (l : List Slot) → Reached M p at l → at < length (M .code)
+  pub reached-inside : (at : ℕ) (l : List Slot) → Reached U p at l → at < length (U .code)
   reached-inside at l r = C .cutted .inside p at (obeyed at l r .start)
 
-  calls-only : (at next : ℕ) (i : Instruction) → startsIn (M .marks) p at ≡ true → decodeAt (M .code) (regionEnd (M .code) p) at ≡ At i next
-      → (d : ℕ) → shapeOf i ≡ Invoke d → Callable (M .code) d
+  calls-only : (at next : ℕ) (i : Instruction) → startsIn (U .marks) p at ≡ true → decodeAt (U .code) (regionEnd (U .code) p) at ≡ At i next
+      → (d : ℕ) → shapeOf i ≡ Call d → Callable (U .code) d
   unfolding uncallable
   calls-only at next i s e d k =
-      let mark : M .marks at ≡ suc p = omega (arith, eqb-true (M .marks at) (p + 1) s) in
-      let t : noCallee (M .code) d ≡ false =
-      rw (mark, e, k) at (all-callable (M .code) (M .marks) (C .in-order) at (C .cutted .inside p at s)) in
-      let (low, most) = apart (eqb d 0) (leb (entryCount (M .code)) d) t in
-      let high = leb-false (entryCount (M .code)) d most in
-      (omega (arith, eqb-false d 0 low), high, C .cutted .inside d (entryAt (M .code) d) (C .cutted .entered d high))
+      let mark : U .marks at ≡ suc p = omega (arith, eqb-true (U .marks at) (p + 1) s) in
+      let t : noCallee (U .code) d ≡ false =
+      rw (mark, e, k) at (all-callable (U .code) (U .marks) (C .in-order) at (C .cutted .inside p at s)) in
+      let (low, most) = apart (eqb d 0) (leb (entryCount (U .code)) d) t in
+      let high = leb-false (entryCount (U .code)) d most in
+      (omega (arith, eqb-false d 0 low), high, C .cutted .inside d (entryAt (U .code) d) (C .cutted .entered d high))
 
-  pub placed : (at : ℕ) (l : List Slot) → Reached M p at l → AtPlace M p at l
+  pub placed : (at : ℕ) (l : List Slot) → Reached U p at l → AtPlace U p at l
   unfolding waysAt
   placed at l r =
       let o = obeyed at l r in
@@ -116,7 +116,7 @@ module _ (M : Module) (C : Checked M) (p : ℕ) (h : p < entryCount (M .code)) w
         inside = reached-inside at l r;
         instruction = i;
         next = next;
-        decoded = decoded-wider (M .code) (regionEnd (M .code) p) at next i e (length (M .code)) (C .cutted .ends p h);
+        decoded = decoded-wider (U .code) (regionEnd (U .code) p) at next i e (length (U .code)) (C .cutted .ends p h);
         out = o .out;
         found = o .found;
         ways-out = rw e at (o .found);

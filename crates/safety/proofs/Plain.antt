@@ -18,7 +18,7 @@ use Rattle.effect.specs.declared.effect.Write.{Write}
 use Rattle.registers.specs.declared.Areas.{Areas}
 use Rattle.registers.specs.declared.Registers.{Registers}
 use Rattle.registers.specs.Memory.{live}
-use Rattle.effect.specs.Data.{protectsAny, pushes, loaded, loadFrom, addressOf, storeTo, valued, inverted, allocated, freed}
+use Rattle.effect.specs.Data.{protectsAny, pushes, loaded, loadFrom, addressOf, storeTo, valued, allocated, freed}
 use Rattle.control.specs.Control.{enters}
 use Rattle.safety.proofs.Parts.{DataTrap}
 use Rattle.safety.proofs.Traps.{data-number, Valued, a-trap}
@@ -54,10 +54,6 @@ module _ (q : Registers) (next : ℕ) where
   plain-store A m gone mode a x y =
       either (Plain _ _ _) (live q a (wordsIn mode)) _ _
       (either (Plain _ _ _) (protectsAny A q m a mode) _ _ (plain-number 33 refl refl) (plain-go refl refl)) (plain-number 32 refl refl)
-
-  pub plain-inverted : (b : ℕ) → Plain next 1 1 (inverted q next b)
-  unfolding inverted
-  plain-inverted b = either (Plain _ _ _) (ltb b 2) _ _ (plain-go refl refl) (plain-number 34 refl refl)
 
   pub plain-allocated : (m : List ℕ) (l : ℕ) → Plain next 1 1 (allocated q m next l)
   unfolding allocated

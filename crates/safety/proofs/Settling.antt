@@ -13,7 +13,8 @@ use Rattle.words.proofs.Tests.{by-test}
 use Rattle.opcode.specs.declared.Decoded.{Decoded}
 use Rattle.opcode.specs.declared.instruction.Instruction.{Instruction}
 use Rattle.opcode.specs.declared.instruction.Mode.{Mode}
-use Rattle.shape.specs.Counts.{needed, wordsIn}
+use Rattle.shape.specs.Counts.{wordsIn}
+use Rattle.shape.specs.Shape.{needed}
 use Rattle.shape.specs.Linkage.{Linkage, returning}
 use Rattle.effect.specs.declared.effect.Effect.{Effect}
 use Rattle.effect.specs.declared.effect.Effect.the-variants.{Trap, Finish, Go}
@@ -27,7 +28,7 @@ use Rattle.registers.specs.Program.{program}
 use Rattle.registers.specs.Changes.{raised}
 use Rattle.execute.specs.Depth.{topWords}
 use Rattle.execute.specs.Execute.{execute}
-use Rattle.stackmap.specs.Ways.{Module, Way}
+use Rattle.stackmap.specs.Ways.{Subject, Way}
 use Rattle.step.specs.Step.{After, pushed, settled, performed, stepOf}
 use Rattle.safety.specs.Active.{Configuration, stepOn}
 use Rattle.safety.proofs.Parts.{registersOf, Doing, DataTrap, Moves, Left, Steps}
@@ -53,28 +54,28 @@ module _ {code : List ℕ} {c : Configuration} {Done : Type 0} {Then : Registers
       (λ t. by-test (Good _ _ _ _) (protectsAny A q m a mode) (Trap 33) e (λ u. good-trap (data-number 33 refl refl)) (λ u. h))
       (λ t. good-trap (data-number 32 refl refl))
 
-module _ (M : Module) (c : Configuration) (out : List Way) (k : Linkage) where
+module _ (U : Subject) (c : Configuration) (out : List Way) (k : Linkage) where
   abbrev Leaves : After → Type 0
-  Leaves a = Left M c out k a (a .stepped .outcome)
+  Leaves a = Left U c out k a (a .stepped .outcome)
 
   abbrev pub Goes : Effect → Type 0
-  Goes e = Good (M .code) c (k ≡ returning) (λ q s. Moves M c out q s k) e
+  Goes e = Good (U .code) c (k ≡ returning) (λ q s. Moves U c out q s k) e
 
-  settled-leaves : (e : Effect) → Goes e → Leaves (settled (length (M .code)) (c .machine) (c .memory) (c .stack) e)
+  settled-leaves : (e : Effect) → Goes e → Leaves (settled (length (U .code)) (c .machine) (c .memory) (c .stack) e)
   unfolding settled
   settled-leaves (Trap n) (good-trap d) = d
   settled-leaves Finish (good-finish d) = d
   settled-leaves (Go gone push write q) (good-go l h) =
       let height : ℕ = registersOf c .height - gone + pushes push in
       by-test Leaves (ltb (length (c .stack)) height) _ _ (λ t. data-number 36 refl refl)
-      (λ t. rw (lt-ltb (q .pc) (length (M .code)) l) (h (ltb-false (length (c .stack)) height t)))
+      (λ t. rw (lt-ltb (q .pc) (length (U .code)) l) (h (ltb-false (length (c .stack)) height t)))
 
   -- The words that the instruction needs are there, so that the step is its effect carried out.
-  pub good-steps : (i : Instruction) (next : ℕ) → Doing M c i next → needed i ≤ registersOf c .height
-      → Goes (execute (program (M .code) (c .machine .areas)) (registersOf c) (c .memory) next
-      (topWords (needed i) (registersOf c .height) (c .stack)) i) → Steps M c out k (stepOn M c .stepped .outcome)
+  pub good-steps : (i : Instruction) (next : ℕ) → Doing U c i next → needed i ≤ registersOf c .height
+      → Goes (execute (program (U .code) (c .machine .areas)) (registersOf c) (c .memory) next
+      (topWords (needed i) (registersOf c .height) (c .stack)) i) → Steps U c out k (stepOn U c .stepped .outcome)
   unfolding stepOf performed
   good-steps i next d enough h =
-      subst (λ (x : Decoded). Leaves (performed (M .code) (c .machine) (c .memory) (c .stack) x)) (sym (d .decoded))
+      subst (λ (x : Decoded). Leaves (performed (U .code) (c .machine) (c .memory) (c .stack) x)) (sym (d .decoded))
       (by-test Leaves (ltb (registersOf c .height) (needed i)) _ _
       (λ t. absurd (omega (arith, ltb-true (registersOf c .height) (needed i) t))) (λ t. settled-leaves _ h))

@@ -8,7 +8,7 @@ use native.Mathlib.Omega.{arith}
 use lib.ListN.{length, getD}
 use lib.Seq.{sets, getD-set-same}
 use Rattle.words.proofs.Sets.{sets-other}
-use Rattle.stackmap.specs.Slots.{Slot, word, label, pushWords, popWords, dropSlots}
+use Rattle.stackmap.specs.Slots.{Slot, word, label, pushWords, popWords, popSlots}
 use Rattle.stackmap.specs.Ways.{labelWord}
 use Rattle.safety.specs.Demand3.{Holds, holds-none, holds-word, holds-label}
 
@@ -39,23 +39,23 @@ holds-tail : {code s : List ℕ} {share : ℕ} {x : Slot} {l : List Slot} → Ho
 holds-tail (holds-word h) = h
 holds-tail (holds-label e h) = h
 
-pub holds-under : {code s : List ℕ} {share : ℕ} (n : ℕ) (l rest : List Slot) → dropSlots n l ≡ some rest → Holds code s share l
+pub holds-under : {code s : List ℕ} {share : ℕ} (n : ℕ) (l rest : List Slot) → popSlots n l ≡ some rest → Holds code s share l
     → Holds code s share rest
 holds-under zero l rest e h = let same : l ≡ rest = cc in rw same at h
 holds-under (suc n) [] rest e h = nothing rest e
 holds-under (suc n) (x ∷ l) rest e h = holds-under n l rest e (holds-tail h)
 
-pub dropped-size : (n : ℕ) (l rest : List Slot) → dropSlots n l ≡ some rest → length l ≡ n + length rest
-dropped-size zero l rest e = let same : l ≡ rest = cc in rw same (omega arith)
-dropped-size (suc n) [] rest e = nothing rest e
-dropped-size (suc n) (x ∷ l) rest e = omega (arith, dropped-size n l rest e)
+pub popped-size : (n : ℕ) (l rest : List Slot) → popSlots n l ≡ some rest → length l ≡ n + length rest
+popped-size zero l rest e = let same : l ≡ rest = cc in rw same (omega arith)
+popped-size (suc n) [] rest e = nothing rest e
+popped-size (suc n) (x ∷ l) rest e = omega (arith, popped-size n l rest e)
 
--- Words that can be popped are slots that can be dropped.
-pub popped-drops : (n : ℕ) (l rest : List Slot) → popWords n l ≡ some rest → dropSlots n l ≡ some rest
-popped-drops zero l rest e = e
-popped-drops (suc n) [] rest e = nothing rest e
-popped-drops (suc n) (word ∷ l) rest e = popped-drops n l rest e
-popped-drops (suc n) (label origin ∷ l) rest e = nothing rest e
+-- Words that can be popped are slots that can be popped.
+pub popped-words : (n : ℕ) (l rest : List Slot) → popWords n l ≡ some rest → popSlots n l ≡ some rest
+popped-words zero l rest e = e
+popped-words (suc n) [] rest e = nothing rest e
+popped-words (suc n) (word ∷ l) rest e = popped-words n l rest e
+popped-words (suc n) (label origin ∷ l) rest e = nothing rest e
 
 -- Words may be anything.
 pub holds-words : {code s : List ℕ} {share : ℕ} {l : List Slot} (n : ℕ) → Holds code s share l → Holds code s share (pushWords n l)

@@ -11,10 +11,12 @@ use borrow.Author.Tests.{eqb-false, ne-eqb, lt-leb}
 use Rattle.words.proofs.Tests.{by-test}
 use Rattle.entries.specs.Entries.{entryCount}
 use Rattle.opcode.specs.declared.instruction.Instruction.{Instruction}
-use Rattle.opcode.specs.declared.instruction.Instruction.the-variants.{LoadConstant, Load, LoadAddress, Store, Pop, Swap, Nop, Signed, Unsigned, Negate, Equal, NotEqual, CompareSigned, CompareUnsigned, Set, Not, Alloc, Free, Jump, JumpC, JumpT, JumpF, Iter, Next, Switch, SwitchX, Leave, Call, Enter, Rtn}
-use Rattle.shape.specs.Counts.{needed, popped, wordsIn}
-use Rattle.shape.specs.Shape.{shapeOf}
-use Rattle.shape.specs.declared.Shape.the-variants.{Invoke, Return}
+use Rattle.opcode.specs.declared.instruction.Instruction.the-variants.{LoadConstant, Load, LoadAddress, Store, Pop, Swap, Nop}
+use Rattle.opcode.specs.declared.instruction.Instruction.the-variants.{Operate, Alloc, Free, Jump, JumpC, JumpT, JumpF, Iter}
+use Rattle.opcode.specs.declared.instruction.Instruction.the-variants.{Next, Switch, SwitchX, Leave, Call, Enter, Rtn}
+use Rattle.shape.specs.Counts.{popped, wordsIn, operands}
+use Rattle.shape.specs.Shape.{shapeOf, needed}
+use Rattle.shape.specs.declared.Shape.the-variants as shape
 use Rattle.shape.specs.Linkage.{calling, returning, linkageOf}
 use Rattle.shape.specs.declared.Table.the-variants.{Branches, Ranges}
 use Rattle.registers.specs.Memory.{read}
@@ -23,44 +25,45 @@ use Rattle.control.specs.Control.{switches, searches, calls, returns}
 use Rattle.execute.specs.Depth.{topWords}
 use Rattle.execute.specs.Execute.{execute}
 use Rattle.stackmap.specs.Slots.{Slot}
-use Rattle.stackmap.specs.Ways.{Module, Way, ways}
+use Rattle.stackmap.specs.Ways.{Subject, Way, ways}
 use Rattle.safety.specs.Active.{Configuration}
 use Rattle.safety.proofs.Parts.{registersOf, Doing, Callable, SlotsKept, FindsWords}
-use Rattle.safety.proofs.Traps.{data-number, signed-valued, unsigned-valued, negated-valued}
+use Rattle.safety.proofs.Traps.{data-number, operation-valued}
 use Rattle.safety.proofs.Settling.{good-trap, good-finish, good-go, Good, Goes, good-steps}
-use Rattle.safety.proofs.Plain.{plain-go, plain-valued, plain-load, plain-address, plain-store, plain-inverted, plain-allocated, plain-freed, plain-enters}
+use Rattle.safety.proofs.Plain.{plain-go, plain-valued, plain-load, plain-address}
+use Rattle.safety.proofs.Plain.{plain-store, plain-allocated, plain-freed, plain-enters}
 use Rattle.safety.proofs.Moving.{Start, plain-goes}
-use Rattle.safety.proofs.Jumping.{drop-goes, jump-goes, branch-goes, keep-goes}
+use Rattle.safety.proofs.Jumping.{pop-goes, jump-goes, jump-c-goes, jump-tf-goes}
 use Rattle.safety.proofs.Tables.{in-branches, in-ranges}
-use Rattle.safety.proofs.Labels.{loop-word, select-word, loop-goes, select-goes, again-goes, exit-goes}
+use Rattle.safety.proofs.Labels.{iter-word, switch-word, iter-goes, switch-goes, next-goes, leave-goes}
 
-module _ (M : Module) (c : Configuration) (out : List Way) where
+module _ (U : Subject) (c : Configuration) (out : List Way) where
   -- CALL, of a procedure that there is.
-  call-goes : (next d : ℕ) → Callable (M .code) d
-      → Goes M c out (calling d) (calls (M .code) (registersOf c) (c .memory) next d)
+  call-goes : (next d : ℕ) → Callable (U .code) d
+      → Goes U c out (calling d) (calls (U .code) (registersOf c) (c .memory) next d)
   unfolding calls
   call-goes next d (z, k, h) =
-      rw (ne-eqb d 0 (λ e. omega arith), lt-leb (entryCount (M .code)) d k)
+      rw (ne-eqb d 0 (λ e. omega arith), lt-leb (entryCount (U .code)) d k)
       (by-test (Good _ _ _ _) (leb 64 (registersOf c .calls)) _ _ (λ t. good-trap (data-number 37 refl refl))
       (λ t. by-test (Good _ _ _ _) (leb (registersOf c .mp + 2) (length (c .memory))) _ _
       (λ r. good-go h (λ room. (record { same-height = omega arith; same-stack = refl }, refl)))
       (λ r. good-trap (data-number 35 refl refl))))
 
   -- RTN.
-  return-goes : (0 < registersOf c .calls → read (c .memory) (registersOf c .fp - 1) < length (M .code))
-      → Goes M c out returning (returns (registersOf c) (c .memory))
+  rtn-goes : (0 < registersOf c .calls → read (c .memory) (registersOf c .fp - 1) < length (U .code))
+      → Goes U c out returning (returns (registersOf c) (c .memory))
   unfolding returns
-  return-goes h =
+  rtn-goes h =
       by-test (Good _ _ _ _) (eqb (registersOf c .calls) 0) _ _ (λ t. good-finish refl)
       (λ t. good-go (h (omega (arith, eqb-false (registersOf c .calls) 0 t)))
       (λ room. (record { same-height = omega arith; same-stack = refl }, refl)))
 
-module _ (M : Module) (c : Configuration) (next p : ℕ) (l : List Slot) (out : List Way) (S : Start (M .code) c l out) where
-  effect-goes : (i : Instruction) → Doing M c i next → ways M p (registersOf c .pc) next (shapeOf i) l ≡ some out
-      → ((d : ℕ) → shapeOf i ≡ Invoke d → Callable (M .code) d)
-      → (shapeOf i ≡ Return → 0 < registersOf c .calls → read (c .memory) (registersOf c .fp - 1) < length (M .code)) → (ws : List ℕ)
+module _ (U : Subject) (c : Configuration) (next p : ℕ) (l : List Slot) (out : List Way) (S : Start (U .code) c l out) where
+  effect-goes : (i : Instruction) → Doing U c i next → ways U p (registersOf c .pc) next (shapeOf i) l ≡ some out
+      → ((d : ℕ) → shapeOf i ≡ shape.Call d → Callable (U .code) d)
+      → (shapeOf i ≡ shape.Rtn → 0 < registersOf c .calls → read (c .memory) (registersOf c .fp - 1) < length (U .code)) → (ws : List ℕ)
       → ws ≡ topWords (needed i) (registersOf c .height) (c .stack)
-      → Goes M c out (linkageOf (shapeOf i)) (execute (program (M .code) (c .machine .areas)) (registersOf c) (c .memory) next ws i)
+      → Goes U c out (linkageOf (shapeOf i)) (execute (program (U .code) (c .machine .areas)) (registersOf c) (c .memory) next ws i)
   unfolding execute shapeOf ways switches searches
   effect-goes (LoadConstant n) D w call back ws t = plain-goes S next 0 1 _ w (plain-go refl refl)
   effect-goes (Load base mode n) D w call back ws t =
@@ -70,45 +73,36 @@ module _ (M : Module) (c : Configuration) (next p : ℕ) (l : List Slot) (out : 
   effect-goes (Store base mode n) D w call back ws t =
       plain-goes S next (popped base + wordsIn mode) 0 _ w
       (plain-store (registersOf c) next (c .machine .areas) (c .memory) (popped base + wordsIn mode) mode _ _ _)
-  effect-goes (Pop n) D w call back ws t = drop-goes S next n w
+  effect-goes (Pop n) D w call back ws t = pop-goes S next n w
   effect-goes Swap D w call back ws t = plain-goes S next 2 2 _ w (plain-go refl refl)
   effect-goes Nop D w call back ws t = plain-goes S next 0 0 _ w (plain-go refl refl)
-  effect-goes (Signed op) D w call back ws t =
-      plain-goes S next 2 1 _ w (plain-valued (registersOf c) next 2 _ (signed-valued op (read ws 0) (read ws 1)))
-  effect-goes (Unsigned op) D w call back ws t =
-      plain-goes S next 2 1 _ w (plain-valued (registersOf c) next 2 _ (unsigned-valued op (read ws 0) (read ws 1)))
-  effect-goes Negate D w call back ws t =
-      plain-goes S next 1 1 _ w (plain-valued (registersOf c) next 1 _ (negated-valued (read ws 0)))
-  effect-goes Equal D w call back ws t = plain-goes S next 2 1 _ w (plain-go refl refl)
-  effect-goes NotEqual D w call back ws t = plain-goes S next 2 1 _ w (plain-go refl refl)
-  effect-goes (CompareSigned order) D w call back ws t = plain-goes S next 2 1 _ w (plain-go refl refl)
-  effect-goes (CompareUnsigned order) D w call back ws t = plain-goes S next 2 1 _ w (plain-go refl refl)
-  effect-goes (Set op) D w call back ws t = plain-goes S next 2 1 _ w (plain-go refl refl)
-  effect-goes Not D w call back ws t = plain-goes S next 1 1 _ w (plain-inverted (registersOf c) next (read ws 0))
+  effect-goes (Operate op) D w call back ws t =
+      plain-goes S next (operands op) 1 _ w
+      (plain-valued (registersOf c) next (operands op) _ (operation-valued op (read ws 0) (read ws 1)))
   effect-goes Alloc D w call back ws t = plain-goes S next 1 1 _ w (plain-allocated (registersOf c) next (c .memory) (read ws 0))
   effect-goes Free D w call back ws t = plain-goes S next 1 0 _ w (plain-freed (registersOf c) next (read ws 0))
   effect-goes (Jump d) D w call back ws t = jump-goes S next d w
-  effect-goes (JumpC d) D w call back ws t = branch-goes S next d (read ws 0) w
-  effect-goes (JumpT d) D w call back ws t = keep-goes S next 1 d (read ws 0) w
-  effect-goes (JumpF d) D w call back ws t = keep-goes S next 0 d (read ws 0) w
+  effect-goes (JumpC d) D w call back ws t = jump-c-goes S next d (read ws 0) w
+  effect-goes (JumpT d) D w call back ws t = jump-tf-goes S next 1 d (read ws 0) w
+  effect-goes (JumpF d) D w call back ws t = jump-tf-goes S next 0 d (read ws 0) w
   effect-goes (Iter d) D w call back ws t =
-      loop-goes S (c .machine .areas) (c .memory) next d (read ws 0) (read ws 1) (read ws 2) (read ws 3) (loop-word M c (Iter d) next D refl)
+      iter-goes S (c .machine .areas) (c .memory) next d (read ws 0) (read ws 1) (read ws 2) (read ws 3) (iter-word U c (Iter d) next D refl)
       w
   effect-goes Next D w call back ws t =
-      rw t (again-goes (c .machine .areas) (c .memory) next _ _ _ l S w)
+      rw t (next-goes (c .machine .areas) (c .memory) next _ _ _ l S w)
   effect-goes (Switch n) D w call back ws t =
-      select-goes S Branches n _ (select-word M c (Switch n) next D refl) (in-branches (M .code) (registersOf c .pc) n (read ws 0)) w
+      switch-goes S Branches n _ (switch-word U c (Switch n) next D refl) (in-branches (U .code) (registersOf c .pc) n (read ws 0)) w
   effect-goes (SwitchX n) D w call back ws t =
-      select-goes S Ranges n _ (select-word M c (SwitchX n) next D refl) (in-ranges (M .code) (registersOf c .pc) n (read ws 0)) w
-  effect-goes Leave D w call back ws t = rw t (exit-goes l S w)
-  effect-goes (Call d) D w call back ws t = call-goes M c out next d (call d refl)
+      switch-goes S Ranges n _ (switch-word U c (SwitchX n) next D refl) (in-ranges (U .code) (registersOf c .pc) n (read ws 0)) w
+  effect-goes Leave D w call back ws t = rw t (leave-goes l S w)
+  effect-goes (Call d) D w call back ws t = call-goes U c out next d (call d refl)
   effect-goes (Enter par dat) D w call back ws t =
       plain-goes S next par 0 _ w (plain-enters (registersOf c) next (c .memory) par dat)
-  effect-goes Rtn D w call back ws t = return-goes M c out (back refl)
+  effect-goes Rtn D w call back ws t = rtn-goes U c out (back refl)
 
 -- An instruction finds its words (FindsWords), so that the effect is carried out.
 pub slots-kept : FindsWords → SlotsKept
-slots-kept finds M A c i next p l out D areas fit height holds w inside call back =
-    let S : Start (M .code) c l out = record { height = height; holds = holds; inside = inside } in
-    good-steps M c out (linkageOf (shapeOf i)) i next D (omega (arith, finds M p (registersOf c .pc) next i l out w))
-    (effect-goes M c next p l out S i D w call back _ refl)
+slots-kept finds U A c i next p l out D areas fit height holds w inside call back =
+    let S : Start (U .code) c l out = record { height = height; holds = holds; inside = inside } in
+    good-steps U c out (linkageOf (shapeOf i)) i next D (omega (arith, finds U p (registersOf c .pc) next (shapeOf i) l out w))
+    (effect-goes U c next p l out S i D w call back _ refl)

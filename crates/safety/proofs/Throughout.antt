@@ -7,7 +7,7 @@ use Rattle.registers.specs.declared.Areas.{Areas}
 use Rattle.registers.specs.declared.Registers.{Registers}
 use Rattle.registers.specs.Memory.{read}
 use Rattle.registers.specs.Program.{areasOf, constantsStart, framesStart}
-use Rattle.stackmap.specs.Ways.{Module}
+use Rattle.stackmap.specs.Ways.{Subject}
 use Rattle.verifier.specs.Check.{checkOf}
 use Rattle.words.specs.Bytes.{Bytes}
 use Rattle.verifier.specs.Exact.{Ruled, subject}
@@ -28,20 +28,20 @@ linked m start fp [] (no-frame e) = no-link
 linked m start fp (c ∷ calls) (a-frame e saved back rest) = a-link saved back (linked m start (c .savedFp) calls rest)
 
 -- The invariant, with the protected data as they were.
-pub record Keeps (M : Module) (A : Areas) (m0 : List ℕ) (c : Configuration) : Type 0 where
-  pub inv : Inv M A c
+pub record Keeps (U : Subject) (A : Areas) (m0 : List ℕ) (c : Configuration) : Type 0 where
+  pub inv : Inv U A c
   pub header : (a : ℕ) → a < 3 → read (c .memory) a ≡ read m0 a
   pub constants : (a : ℕ) → constantsStart A ≤ a → a < framesStart A → read (c .memory) a ≡ read m0 a
 
-module _ (M : Module) (C : Checked M) (A : Areas) (first : Configuration) (I : Inv M A first) where
-  pub keeps : {n : ℕ} {c : Configuration} → Visits M first n c → Keeps M A (first .memory) c
+module _ (U : Subject) (C : Checked U) (A : Areas) (first : Configuration) (I : Inv U A first) where
+  pub keeps : {n : ℕ} {c : Configuration} → Visits U first n c → Keeps U A (first .memory) c
   keeps at-first = record { inv = I; header = λ a l. refl; constants = λ a l h. refl }
   keeps (one-more {c = c} v w) =
       let k = keeps v in
       record {
-        inv = advances M C A c (k .inv) w;
-        header = λ a l. header-kept M A c (k .inv .areas) (k .inv .fitted) a l ∙ k .header a l;
-        constants = λ a l h. constants-kept M A c (k .inv .areas) (k .inv .fitted) a l h ∙ k .constants a l h;
+        inv = advances U C A c (k .inv) w;
+        header = λ a l. header-kept U A c (k .inv .areas) (k .inv .fitted) a l ∙ k .header a l;
+        constants = λ a l h. constants-kept U A c (k .inv .areas) (k .inv .fitted) a l h ∙ k .constants a l h;
       }
 
 module _ (r results w parameters m s : List ℕ) (q : Registers) (b : Bytes r) (accepted : checkOf r results w .number ≡ 0)

@@ -1,4 +1,4 @@
--- The traps of an effect are data traps. A value is a word, or 30 or 31 in its place; every other test of the effects' definitions
+-- The traps of an effect are data traps. A value is a word, or 30, 31 or 34 in its place; every other test of the effects' definitions
 -- names its own number.
 use mathlib.Core.Bool.{true, _&&_}
 use mathlib.Core.Path.{_≡_, refl}
@@ -11,9 +11,13 @@ use mir.Val.{toZ}
 use borrow.Author.Tests.{leb-true}
 use Rattle.words.proofs.Tests.{either}
 use Rattle.opcode.specs.declared.instruction.Arithmetic.{Arithmetic}
+use Rattle.opcode.specs.declared.instruction.Operation.{Operation}
+use Rattle.opcode.specs.declared.instruction.Operation.the-variants.{Signed, Unsigned, Negate, Equal, NotEqual}
+use Rattle.opcode.specs.declared.instruction.Operation.the-variants.{CompareSigned, CompareUnsigned, Set, Not}
 use Rattle.operate.specs.declared.Value.{Value}
 use Rattle.operate.specs.declared.Value.the-variants.{Word, Trap as Stop}
-use Rattle.operate.specs.Value.{signedWord, unsignedWord}
+use Rattle.operate.specs.Operation.{operationValue}
+use Rattle.operate.specs.Value.{isBoolean, invertedValue, signedWord, unsignedWord}
 use Rattle.operate.specs.Arithmetic.{signedNumber, unsignedNumber, divides, signedValue, unsignedValue, negatedValue}
 use Rattle.safety.specs.Demand3.{data-trap}
 use Rattle.safety.proofs.Parts.{DataTrap}
@@ -43,11 +47,27 @@ unfolding signedValue
 signed-valued op x y =
     either Valued (divides op && eqb y 0) _ _ (a-trap (data-number 30 refl refl)) (signed-word (signedNumber op (toZ w32 x) (toZ w32 y)))
 
-pub unsigned-valued : (op : Arithmetic) (x y : ℕ) → Valued (unsignedValue op x y)
+unsigned-valued : (op : Arithmetic) (x y : ℕ) → Valued (unsignedValue op x y)
 unfolding unsignedValue
 unsigned-valued op x y =
     either Valued (divides op && eqb y 0) _ _ (a-trap (data-number 30 refl refl)) (unsigned-word (unsignedNumber op x y))
 
-pub negated-valued : (x : ℕ) → Valued (negatedValue x)
+negated-valued : (x : ℕ) → Valued (negatedValue x)
 unfolding negatedValue
 negated-valued x = signed-word (negℤ (toZ w32 x))
+
+inverted-valued : (b : ℕ) → Valued (invertedValue b)
+unfolding invertedValue
+inverted-valued b = either Valued (isBoolean b) _ _ a-word (a-trap (data-number 34 refl refl))
+
+pub operation-valued : (op : Operation) (x y : ℕ) → Valued (operationValue op x y)
+unfolding operationValue
+operation-valued (Signed op) x y = signed-valued op x y
+operation-valued (Unsigned op) x y = unsigned-valued op x y
+operation-valued Negate x y = negated-valued x
+operation-valued Equal x y = a-word
+operation-valued NotEqual x y = a-word
+operation-valued (CompareSigned order) x y = a-word
+operation-valued (CompareUnsigned order) x y = a-word
+operation-valued (Set op) x y = a-word
+operation-valued Not x y = inverted-valued x

@@ -11,7 +11,7 @@ use Rattle.shape.specs.Shape.{shapeOf}
 use Rattle.shape.specs.declared.Shape.{Shape}
 use Rattle.shape.specs.Linkage.{Linkage, inside, calling, entering, returning, linkageOf}
 use Rattle.registers.specs.declared.Registers.{Registers}
-use Rattle.stackmap.specs.Ways.{Module, parametersIn}
+use Rattle.stackmap.specs.Ways.{Subject, parametersIn}
 use Rattle.step.specs.declared.Machine.{Machine}
 use Rattle.step.specs.declared.Outcome.the-variants.{Went}
 use Rattle.step.specs.Step.{After, stepOf}
@@ -41,11 +41,11 @@ pub record Configuration : Type 0 where
   pub stack : List ℕ
   pub calls : List Call
 
-abbrev pub begun : (M : Module) (q : Registers) (p next : ℕ) (calls : List Call) → List Call
-begun M q p next calls =
+abbrev pub begun : (U : Subject) (q : Registers) (p next : ℕ) (calls : List Call) → List Call
+begun U q p next calls =
     record {
       procedure = p;
-      share = q .height - parametersIn (M .code) p;
+      share = q .height - parametersIn (U .code) p;
       link = q .mp;
       savedFp = q .fp;
       back = next;
@@ -57,34 +57,34 @@ callers [] = []
 callers (c ∷ calls) = calls
 
 -- The active calls after a completed step: CALL begins one, RTN ends the last.
-abbrev pub callsBy : Module → Registers → ℕ → Linkage → List Call → List Call
-callsBy M q next inside calls = calls
-callsBy M q next (calling p) calls = begun M q p next calls
-callsBy M q next (entering par) calls = calls
-callsBy M q next returning calls = callers calls
+abbrev pub callsBy : Subject → Registers → ℕ → Linkage → List Call → List Call
+callsBy U q next inside calls = calls
+callsBy U q next (calling p) calls = begun U q p next calls
+callsBy U q next (entering par) calls = calls
+callsBy U q next returning calls = callers calls
 
-abbrev pub callsAfter : Module → Registers → ℕ → Shape → List Call → List Call
-callsAfter M q next s calls = callsBy M q next (linkageOf s) calls
+abbrev pub callsAfter : Subject → Registers → ℕ → Shape → List Call → List Call
+callsAfter U q next s calls = callsBy U q next (linkageOf s) calls
 
-abbrev pub callsDecoded : Module → Registers → List Call → Decoded → List Call
-callsDecoded M q calls Unserved = calls
-callsDecoded M q calls Past = calls
-callsDecoded M q calls (At i next) = callsAfter M q next (shapeOf i) calls
+abbrev pub callsDecoded : Subject → Registers → List Call → Decoded → List Call
+callsDecoded U q calls Unserved = calls
+callsDecoded U q calls Past = calls
+callsDecoded U q calls (At i next) = callsAfter U q next (shapeOf i) calls
 
-abbrev pub stepOn : Module → Configuration → After
-stepOn M c = stepOf (M .code) (c .machine) (c .memory) (c .stack)
+abbrev pub stepOn : Subject → Configuration → After
+stepOn U c = stepOf (U .code) (c .machine) (c .memory) (c .stack)
 
-abbrev pub advance : Module → Configuration → Configuration
-advance M c =
+abbrev pub advance : Subject → Configuration → Configuration
+advance U c =
     let q = c .machine .registers in
     record {
-      machine = stepOn M c .stepped .machine;
-      memory = stepOn M c .memory;
-      stack = stepOn M c .stack;
-      calls = callsDecoded M q (c .calls) (decodeAt (M .code) (length (M .code)) (q .pc));
+      machine = stepOn U c .stepped .machine;
+      memory = stepOn U c .memory;
+      stack = stepOn U c .stack;
+      calls = callsDecoded U q (c .calls) (decodeAt (U .code) (length (U .code)) (q .pc));
     }
 
 -- The configurations of a run: the first, and each after one more completed step that does not finish.
-pub data Visits (M : Module) (first : Configuration) : ℕ → Configuration → Type 0 where
-  at-first : Visits M first 0 first
-  one-more : {n : ℕ} {c : Configuration} → Visits M first n c → stepOn M c .stepped .outcome ≡ Went → Visits M first (suc n) (advance M c)
+pub data Visits (U : Subject) (first : Configuration) : ℕ → Configuration → Type 0 where
+  at-first : Visits U first 0 first
+  one-more : {n : ℕ} {c : Configuration} → Visits U first n c → stepOn U c .stepped .outcome ≡ Went → Visits U first (suc n) (advance U c)

@@ -10,7 +10,7 @@ use Rattle.registers.specs.Memory.{read}
 use Rattle.registers.specs.Program.{areasOf, globalsStart, constantsStart, framesStart}
 use Rattle.registers.specs.declared.Registers.{Registers}
 use Rattle.stackmap.specs.Slots.{Slot, word, label}
-use Rattle.stackmap.specs.Ways.{Module, labelWord}
+use Rattle.stackmap.specs.Ways.{Subject, labelWord}
 use Rattle.stackmap.specs.StackMap.{Reached}
 use Rattle.verifier.specs.Check.{checkOf}
 use Rattle.words.specs.Bytes.{Bytes}
@@ -49,25 +49,25 @@ pub record SameFrom (share : ℕ) (s s' : List ℕ) : Type 0 where
 abbrev pub other : Configuration → List ℕ → Configuration
 other c s' = record { machine = c .machine; memory = c .memory; stack = s'; calls = c .calls }
 
-pub record Unread (M : Module) (c : Configuration) (s' : List ℕ) : Type 0 where
-  pub same-step : stepOn M (other c s') .stepped ≡ stepOn M c .stepped
-  pub same-memory : stepOn M (other c s') .memory ≡ stepOn M c .memory
-  pub same-share : SameFrom (shareOf (c .calls)) (stepOn M c .stack) (stepOn M (other c s') .stack)
-  pub keeps-own : (i : ℕ) → i < shareOf (c .calls) → getD (stepOn M (other c s') .stack) i 0 ≡ getD s' i 0
+pub record Unread (U : Subject) (c : Configuration) (s' : List ℕ) : Type 0 where
+  pub same-step : stepOn U (other c s') .stepped ≡ stepOn U c .stepped
+  pub same-memory : stepOn U (other c s') .memory ≡ stepOn U c .memory
+  pub same-share : SameFrom (shareOf (c .calls)) (stepOn U c .stack) (stepOn U (other c s') .stack)
+  pub keeps-own : (i : ℕ) → i < shareOf (c .calls) → getD (stepOn U (other c s') .stack) i 0 ≡ getD s' i 0
 
 -- What holds of each configuration: w is the workspace as the check left it, m0 the memory as loaded.
-pub record Safe (r : List ℕ) (M : Module) (w m0 : List ℕ) (c : Configuration) : Type 0 where
+pub record Safe (r : List ℕ) (U : Subject) (w m0 : List ℕ) (c : Configuration) : Type 0 where
   -- 01: "The last active call's procedure is the running one; with none, procedure 0." It is one of the record's, and the active calls
   -- are as many as the machine counts.
-  pub procedure : running (c .calls) < entryCount (M .code)
+  pub procedure : running (c .calls) < entryCount (U .code)
   pub active : length (c .calls) ≡ c .machine .registers .calls
   -- "the place is one that the running procedure's stack picture has": what is reached has one list there (stackmap/specs/Theorems,
   -- `HasReached`).
   pub slots : List Slot
-  pub placed : Reached M (running (c .calls)) (c .machine .registers .pc) slots
+  pub placed : Reached U (running (c .calls)) (c .machine .registers .pc) slots
   -- "That procedure's share of the stack has exactly the height and labels of the picture there"
   pub height : c .machine .registers .height ≡ shareOf (c .calls) + length slots
-  pub labels : Holds (M .code) (c .stack) (shareOf (c .calls)) slots
+  pub labels : Holds (U .code) (c .stack) (shareOf (c .calls)) slots
   -- "the check's workspace, as the check left it, shows that height and the topmost label"
   pub shown : Shows w (c .machine .registers .pc) slots
   -- "Header words and constants are as loaded"
@@ -77,7 +77,7 @@ pub record Safe (r : List ℕ) (M : Module) (w m0 : List ℕ) (c : Configuration
   pub links : Linked (c .memory) (c .calls)
   -- "No step, a trapped one included, reads or changes a stack word below the share that it starts with": with the run's own stack for
   -- s', `keeps-own` says that it changes none.
-  pub unread : (s' : List ℕ) → SameFrom (shareOf (c .calls)) (c .stack) s' → Unread M c s'
+  pub unread : (s' : List ℕ) → SameFrom (shareOf (c .calls)) (c .stack) s' → Unread U c s'
 
 abbrev pub loadedConfiguration : List ℕ → Registers → List ℕ → List ℕ → Configuration
 loadedConfiguration r q m s = record { machine = machine (areasOf r) q; memory = m; stack = s; calls = [] }
@@ -92,10 +92,10 @@ counted (Trapped k) n = n
 abbrev pub endedIn : End → ℕ → Configuration → Result
 endedIn ending n c = result ending (counted ending n) (c .machine) (c .memory) (c .stack)
 
-pub record Ends (M : Module) (first : Configuration) (run : Result) : Type 0 where
+pub record Ends (U : Subject) (first : Configuration) (run : Result) : Type 0 where
   pub steps : ℕ
   pub last : Configuration
-  pub visited : Visits M first steps last
+  pub visited : Visits U first steps last
   pub ending : End
   pub proper : Proper ending
   pub ends : run ≡ endedIn ending steps last
@@ -104,9 +104,9 @@ pub record Ends (M : Module) (first : Configuration) (run : Result) : Type 0 whe
 -- The letter: "Take any record that the check accepts and load it fresh, with any parameters, memory and stack that the loader takes;
 -- run it from there, with demand 2's steps and step count and any step budget. .. After every number of its steps, from none to the
 -- last, .."
-pub record Demand3 (r w m0 s : List ℕ) (q : Registers) (M : Module) : Type 0 where
-  pub runs : (budget : ℕ) → Ends M (loadedConfiguration r q m0 s) (runOf r budget q m0 s)
-  pub safe : (n : ℕ) (c : Configuration) → Visits M (loadedConfiguration r q m0 s) n c → Safe r M w m0 c
+pub record Demand3 (r w m0 s : List ℕ) (q : Registers) (U : Subject) : Type 0 where
+  pub runs : (budget : ℕ) → Ends U (loadedConfiguration r q m0 s) (runOf r budget q m0 s)
+  pub safe : (n : ℕ) (c : Configuration) → Visits U (loadedConfiguration r q m0 s) n c → Safe r U w m0 c
 
 abbrev pub Claim : Type 0
 Claim =

@@ -21,24 +21,24 @@ use Rattle.opcode.specs.declared.instruction.Mode.{Mode}
 use Rattle.opcode.specs.declared.instruction.Mode.the-variants.{Normal, Double}
 use Rattle.opcode.specs.declared.instruction.Instruction.{Instruction}
 use Rattle.shape.specs.declared.Shape.{Shape}
-use Rattle.shape.specs.declared.Shape.the-variants.{Straight, Drop, Goto, Branch, Keep, Loop, Again, Select, Exit, Invoke, Begin, Return}
+use Rattle.shape.specs.declared.Shape.the-variants.{Straight, Pop, Jump, JumpC, JumpTF, Iter, Next, Switch, Leave, Call, Enter, Rtn}
 use Rattle.shape.specs.declared.Table.{Table}
 use Rattle.shape.specs.Shape.{shapeOf}
 
 -- Whether the first byte may be the one given, by the shape.
 abbrev begins : Shape → ℕ → Bool
-begins (Loop d) first = eqb first iterCode
-begins (Select t n) first = eqb first switchCode || eqb first switchXCode
-begins (Begin par) first = eqb first 0xE8
+begins (Iter d) first = eqb first iterCode
+begins (Switch t n) first = eqb first switchCode || eqb first switchXCode
+begins (Enter par) first = eqb first 0xE8
 begins (Straight pops pushes) first = true
-begins (Drop n) first = true
-begins (Goto d) first = true
-begins (Branch d) first = true
-begins (Keep d) first = true
-begins Again first = true
-begins Exit first = true
-begins (Invoke p) first = true
-begins Return first = true
+begins (Pop n) first = true
+begins (Jump d) first = true
+begins (JumpC d) first = true
+begins (JumpTF d) first = true
+begins Next first = true
+begins Leave first = true
+begins (Call p) first = true
+begins Rtn first = true
 
 -- A test of every row of a table, with its key, by computing.
 abbrev every : (ℕ → Row → Bool) → List Entry → Bool
@@ -92,24 +92,24 @@ module _ (code : List ℕ) (limit at next : ℕ) (i : Instruction) (e : decodeAt
           let test : ℕ → Row → Bool = λ k. agrees Double code (at + 1) 0xF5 in
           rw (← r .same, f) (agreed Double code (at + 1) (rowOf b) 0xF5 (r .served) (row-passes test b refl refl refl refl refl))
 
-  pub loop-origin : {d : ℕ} → shapeOf i ≡ Loop d → (byteAt code at ≡ 0xE0) × (next ≡ at + 3)
+  pub iter-origin : {d : ℕ} → shapeOf i ≡ Iter d → (byteAt code at ≡ 0xE0) × (next ≡ at + 3)
   unfolding lengthIn rowOf
-  loop-origin s =
+  iter-origin s =
       let f : byteAt code at ≡ 0xE0 = eqb-true (byteAt code at) 0xE0 (rw s at shape-begins) in
       let r = unprefixed (origin code limit i next at e) (λ n. omega arith) in
       (f, omega (arith, rw f at (r .ends)))
 
-  pub select-origin :
+  pub switch-origin :
       {t : Table} {n : ℕ} →
-      shapeOf i ≡ Select t n →
+      shapeOf i ≡ Switch t n →
       (eqb (byteAt code at) 0xE0 ≡ false) × ((eqb (byteAt code at) 0xE2 || eqb (byteAt code at) 0xE3) ≡ true)
-  select-origin s =
+  switch-origin s =
       let b = rw s at shape-begins in
       (ne-eqb (byteAt code at) 0xE0 (λ f. false≢true (rw f at b)), b)
 
-  pub begin-parameters : {par : ℕ} → shapeOf i ≡ Begin par → par ≡ operand enterOperands code at
+  pub enter-parameters : {par : ℕ} → shapeOf i ≡ Enter par → par ≡ operand enterOperands code at
   unfolding instructionAt rowOf shapeOf
-  begin-parameters s =
+  enter-parameters s =
       let f : byteAt code at ≡ 0xE8 = eqb-true (byteAt code at) 0xE8 (rw s at shape-begins) in
       let r = unprefixed (origin code limit i next at e) (λ n. omega arith) in
       cc (rw f at (ap shapeOf (r .same)))

@@ -2,7 +2,7 @@
 -- returns (RTN).
 use Prim.Native.Nat.{ℕ}
 use Rattle.shape.specs.declared.Shape.{Shape}
-use Rattle.shape.specs.declared.Shape.the-variants.{Straight, Drop, Goto, Branch, Keep, Loop, Again, Select, Exit, Invoke, Begin, Return}
+use Rattle.shape.specs.declared.Shape.the-variants.{Straight, Pop, Jump, JumpC, JumpTF, Iter, Next, Switch, Leave, Call, Enter, Rtn}
 
 pub data Linkage : Type 0 where
   inside : Linkage
@@ -12,14 +12,14 @@ pub data Linkage : Type 0 where
 
 abbrev pub linkageOf : Shape → Linkage
 linkageOf (Straight pops pushes) = inside
-linkageOf (Drop n) = inside
-linkageOf (Goto d) = inside
-linkageOf (Branch d) = inside
-linkageOf (Keep d) = inside
-linkageOf (Loop d) = inside
-linkageOf Again = inside
-linkageOf (Select t n) = inside
-linkageOf Exit = inside
-linkageOf (Invoke p) = calling p
-linkageOf (Begin par) = entering par
-linkageOf Return = returning
+linkageOf (Pop n) = inside
+linkageOf (Jump d) = inside
+linkageOf (JumpC d) = inside
+linkageOf (JumpTF d) = inside
+linkageOf (Iter d) = inside
+linkageOf Next = inside
+linkageOf (Switch t n) = inside
+linkageOf Leave = inside
+linkageOf (Call p) = calling p
+linkageOf (Enter par) = entering par
+linkageOf Rtn = returning

@@ -1,41 +1,55 @@
 -- The shape of an instruction: what the check makes of its operands. What takes and gives words alone and goes on is one shape; what
 -- jumps, makes or uses a label, calls or returns has its own.
+use Prim.Native.Nat.{ℕ, _+_}
 use Rattle.opcode.specs.declared.instruction.Instruction.{Instruction}
-use Rattle.opcode.specs.declared.instruction.Instruction.the-variants.{LoadConstant, Load, LoadAddress, Store, Pop, Swap, Nop, Signed, Unsigned, Negate, Equal, NotEqual, CompareSigned, CompareUnsigned, Set, Not, Alloc, Free, Jump, JumpC, JumpT, JumpF, Iter, Next, Switch, SwitchX, Leave, Call, Enter, Rtn}
+use Rattle.opcode.specs.declared.instruction.Instruction.the-variants.{LoadConstant, Load, LoadAddress, Store, Pop, Swap, Nop}
+use Rattle.opcode.specs.declared.instruction.Instruction.the-variants.{Operate, Alloc, Free, Jump, JumpC, JumpT, JumpF, Iter}
+use Rattle.opcode.specs.declared.instruction.Instruction.the-variants.{Next, Switch, SwitchX, Leave, Call, Enter, Rtn}
 use Rattle.shape.specs.declared.Shape.{Shape}
-use Rattle.shape.specs.declared.Shape.the-variants.{Straight, Drop, Goto, Branch, Keep, Loop, Again, Select, Exit, Invoke, Begin, Return}
+use Rattle.shape.specs.declared.Shape.the-variants as shape
+use Rattle.shape.specs.declared.Shape.the-variants.{Straight}
 use Rattle.shape.specs.declared.Table.the-variants.{Branches, Ranges}
-use Rattle.shape.specs.Counts.{wordsIn, needed}
+use Rattle.shape.specs.Counts.{popped, wordsIn, operands}
 
--- `Straight pops pushes`: the words of the manual's brackets, left and right of "=>".
+-- Beside each line the manual's brackets; a two-word value counts two.
 unfoldable pub shapeOf : Instruction → Shape
-shapeOf (LoadConstant n) = Straight (needed (LoadConstant n)) 1
-shapeOf (Load base mode n) = Straight (needed (Load base mode n)) (wordsIn mode)
-shapeOf (LoadAddress base n) = Straight (needed (LoadAddress base n)) 1
-shapeOf (Store base mode n) = Straight (needed (Store base mode n)) 0
-shapeOf (Pop n) = Drop n
-shapeOf Swap = Straight (needed Swap) 2
-shapeOf Nop = Straight (needed Nop) 0
-shapeOf (Signed op) = Straight (needed (Signed op)) 1
-shapeOf (Unsigned op) = Straight (needed (Unsigned op)) 1
-shapeOf Negate = Straight (needed Negate) 1
-shapeOf Equal = Straight (needed Equal) 1
-shapeOf NotEqual = Straight (needed NotEqual) 1
-shapeOf (CompareSigned order) = Straight (needed (CompareSigned order)) 1
-shapeOf (CompareUnsigned order) = Straight (needed (CompareUnsigned order)) 1
-shapeOf (Set op) = Straight (needed (Set op)) 1
-shapeOf Not = Straight (needed Not) 1
-shapeOf Alloc = Straight (needed Alloc) 1
-shapeOf Free = Straight (needed Free) 0
-shapeOf (Jump d) = Goto d
-shapeOf (JumpC d) = Branch d
-shapeOf (JumpT d) = Keep d
-shapeOf (JumpF d) = Keep d
-shapeOf (Iter d) = Loop d
-shapeOf Next = Again
-shapeOf (Switch n) = Select Branches n
-shapeOf (SwitchX n) = Select Ranges n
-shapeOf Leave = Exit
-shapeOf (Call p) = Invoke p
-shapeOf (Enter par dat) = Begin par
-shapeOf Rtn = Return
+shapeOf (LoadConstant n) = Straight 0 1  -- [ => val ]
+shapeOf (Load base mode n) = Straight (popped base) (wordsIn mode)  -- [ => val ], LOAD_F [ adr => val ]
+shapeOf (LoadAddress base n) = Straight (popped base) 1  -- [ => adr ], LOAD_A_F [ adr => adr ]
+shapeOf (Store base mode n) = Straight (popped base + wordsIn mode) 0  -- [ val => ], STOR_F [ adr, val => ]
+shapeOf (Pop n) = shape.Pop n  -- [ val (,...) => ]
+shapeOf Swap = Straight 2 2  -- [ val, val => val, val ]
+shapeOf Nop = Straight 0 0  -- [ ]
+shapeOf (Operate op) = Straight (operands op) 1  -- [ val, val => val ], NEG_I and NEG [ val => val ]
+shapeOf Alloc = Straight 1 1  -- [ size => adr ]
+shapeOf Free = Straight 1 0  -- [ size => ]
+shapeOf (Jump d) = shape.Jump d  -- [ ]
+shapeOf (JumpC d) = shape.JumpC d  -- [ bool => ]
+shapeOf (JumpT d) = shape.JumpTF d  -- [ bool => (bool) ]
+shapeOf (JumpF d) = shape.JumpTF d  -- [ bool => (bool) ]
+shapeOf (Iter d) = shape.Iter d  -- [ adr, first, last, step => (adr, first, last, step, label) ]
+shapeOf Next = shape.Next  -- [ adr, first, last, step, label => (adr, first, last, step, label) ]
+shapeOf (Switch n) = shape.Switch Branches n  -- [ val => label ]
+shapeOf (SwitchX n) = shape.Switch Ranges n  -- [ val => label ]
+shapeOf Leave = shape.Leave  -- [ label => ]
+shapeOf (Call p) = shape.Call p  -- [ ]
+shapeOf (Enter par dat) = shape.Enter par  -- [ val, ..., val => ]
+shapeOf Rtn = shape.Rtn  -- [ ]
+
+-- How many words an instruction of a shape finds: the manual's brackets, left of "=>"; POP n and ENTER go by their operand.
+abbrev pub finds : Shape → ℕ
+finds (Straight pops pushes) = pops
+finds (shape.Pop n) = n
+finds (shape.Jump d) = 0
+finds (shape.JumpC d) = 1
+finds (shape.JumpTF d) = 1
+finds (shape.Iter d) = 4
+finds shape.Next = 5
+finds (shape.Switch t n) = 1
+finds shape.Leave = 1
+finds (shape.Call p) = 0
+finds (shape.Enter par) = par
+finds shape.Rtn = 0
+
+abbrev pub needed : Instruction → ℕ
+needed i = finds (shapeOf i)

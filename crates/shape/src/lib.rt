@@ -1,10 +1,11 @@
 // What an instruction finds on the stack, and its shape for the check.
 ghost use mathlib.Core.Path.{_≡_};
-ghost use Rattle.shape.specs.Counts.{popped, wordsIn, needed};
-ghost use Rattle.shape.specs.Shape.{shapeOf};
+ghost use Rattle.shape.specs.Counts.{popped, wordsIn, operands};
+ghost use Rattle.shape.specs.Shape.{shapeOf, finds, needed};
 use opcode::instruction::Base;
 use opcode::instruction::Instruction;
 use opcode::instruction::Mode;
+use opcode::instruction::Operation;
 
 // Whose table stands behind a switch: SWITCH has branches, SWITCH_X has ranges.
 pub enum Table {
@@ -17,27 +18,27 @@ pub enum Shape {
     // pops so many words, pushes so many, goes on
     Straight(u32, u32),
     // POP: drops so many slots
-    Drop(u32),
+    Pop(u32),
     // JUMP
-    Goto(u32),
+    Jump(u32),
     // JUMP_C
-    Branch(u32),
+    JumpC(u32),
     // JUMP_T, JUMP_F: the boolean stays where they jump
-    Keep(u32),
+    JumpTF(u32),
     // ITER
-    Loop(u32),
+    Iter(u32),
     // NEXT
-    Again,
+    Next,
     // SWITCH, SWITCH_X
-    Select(Table, u32),
+    Switch(Table, u32),
     // LEAVE
-    Exit,
+    Leave,
     // CALL
-    Invoke(u32),
+    Call(u32),
     // ENTER
-    Begin(u32),
+    Enter(u32),
     // RTN
-    Return,
+    Rtn,
 }
 
 pub fn popped_words(base: Base) -> u32
@@ -60,41 +61,20 @@ pub fn words_in(mode: Mode) -> u32
     }
 }
 
-// The number of stack words that an instruction finds.
-pub fn needed_words(i: Instruction) -> u32
-    ensures { λ n. ⌜ n ≡ needed i ⌝ }
+// The words that an operation takes.
+pub fn operand_words(op: Operation) -> u32
+    ensures { λ n. ⌜ n ≡ operands op ⌝ }
 {
-    match i {
-        Instruction::LoadConstant(_) => 0,
-        Instruction::Load(base, _, _) => popped_words(base),
-        Instruction::LoadAddress(base, _) => popped_words(base),
-        Instruction::Store(base, mode, _) => popped_words(base) + words_in(mode),
-        Instruction::Pop(n) => n,
-        Instruction::Swap => 2,
-        Instruction::Nop => 0,
-        Instruction::Signed(_) => 2,
-        Instruction::Unsigned(_) => 2,
-        Instruction::Negate => 1,
-        Instruction::Equal => 2,
-        Instruction::NotEqual => 2,
-        Instruction::CompareSigned(_) => 2,
-        Instruction::CompareUnsigned(_) => 2,
-        Instruction::Set(_) => 2,
-        Instruction::Not => 1,
-        Instruction::Alloc => 1,
-        Instruction::Free => 1,
-        Instruction::Jump(_) => 0,
-        Instruction::JumpC(_) => 1,
-        Instruction::JumpT(_) => 1,
-        Instruction::JumpF(_) => 1,
-        Instruction::Iter(_) => 4,
-        Instruction::Next => 5,
-        Instruction::Switch(_) => 1,
-        Instruction::SwitchX(_) => 1,
-        Instruction::Leave => 1,
-        Instruction::Call(_) => 0,
-        Instruction::Enter(parameters, _) => parameters,
-        Instruction::Rtn => 0,
+    match op {
+        Operation::Signed(_) => 2,
+        Operation::Unsigned(_) => 2,
+        Operation::Negate => 1,
+        Operation::Equal => 2,
+        Operation::NotEqual => 2,
+        Operation::CompareSigned(_) => 2,
+        Operation::CompareUnsigned(_) => 2,
+        Operation::Set(_) => 2,
+        Operation::Not => 1,
     }
 }
 
@@ -108,31 +88,50 @@ pub fn shape_of(i: Instruction) -> Shape
         Instruction::Store(base, mode, _) => {
             Shape::Straight(popped_words(base) + words_in(mode), 0)
         }
-        Instruction::Pop(n) => Shape::Drop(n),
+        Instruction::Pop(n) => Shape::Pop(n),
         Instruction::Swap => Shape::Straight(2, 2),
         Instruction::Nop => Shape::Straight(0, 0),
-        Instruction::Signed(_) => Shape::Straight(2, 1),
-        Instruction::Unsigned(_) => Shape::Straight(2, 1),
-        Instruction::Negate => Shape::Straight(1, 1),
-        Instruction::Equal => Shape::Straight(2, 1),
-        Instruction::NotEqual => Shape::Straight(2, 1),
-        Instruction::CompareSigned(_) => Shape::Straight(2, 1),
-        Instruction::CompareUnsigned(_) => Shape::Straight(2, 1),
-        Instruction::Set(_) => Shape::Straight(2, 1),
-        Instruction::Not => Shape::Straight(1, 1),
+        Instruction::Operate(op) => Shape::Straight(operand_words(op), 1),
         Instruction::Alloc => Shape::Straight(1, 1),
         Instruction::Free => Shape::Straight(1, 0),
-        Instruction::Jump(distance) => Shape::Goto(distance),
-        Instruction::JumpC(distance) => Shape::Branch(distance),
-        Instruction::JumpT(distance) => Shape::Keep(distance),
-        Instruction::JumpF(distance) => Shape::Keep(distance),
-        Instruction::Iter(distance) => Shape::Loop(distance),
-        Instruction::Next => Shape::Again,
-        Instruction::Switch(n) => Shape::Select(Table::Branches, n),
-        Instruction::SwitchX(n) => Shape::Select(Table::Ranges, n),
-        Instruction::Leave => Shape::Exit,
-        Instruction::Call(p) => Shape::Invoke(p),
-        Instruction::Enter(parameters, _) => Shape::Begin(parameters),
-        Instruction::Rtn => Shape::Return,
+        Instruction::Jump(distance) => Shape::Jump(distance),
+        Instruction::JumpC(distance) => Shape::JumpC(distance),
+        Instruction::JumpT(distance) => Shape::JumpTF(distance),
+        Instruction::JumpF(distance) => Shape::JumpTF(distance),
+        Instruction::Iter(distance) => Shape::Iter(distance),
+        Instruction::Next => Shape::Next,
+        Instruction::Switch(n) => Shape::Switch(Table::Branches, n),
+        Instruction::SwitchX(n) => Shape::Switch(Table::Ranges, n),
+        Instruction::Leave => Shape::Leave,
+        Instruction::Call(p) => Shape::Call(p),
+        Instruction::Enter(parameters, _) => Shape::Enter(parameters),
+        Instruction::Rtn => Shape::Rtn,
     }
+}
+
+// The number of stack words that an instruction of a shape finds.
+pub fn words_found(shape: Shape) -> u32
+    ensures { λ n. ⌜ n ≡ finds shape ⌝ }
+{
+    match shape {
+        Shape::Straight(pops, _) => pops,
+        Shape::Pop(n) => n,
+        Shape::Jump(_) => 0,
+        Shape::JumpC(_) => 1,
+        Shape::JumpTF(_) => 1,
+        Shape::Iter(_) => 4,
+        Shape::Next => 5,
+        Shape::Switch(_, _) => 1,
+        Shape::Leave => 1,
+        Shape::Call(_) => 0,
+        Shape::Enter(parameters) => parameters,
+        Shape::Rtn => 0,
+    }
+}
+
+// The number of stack words that an instruction finds.
+pub fn needed_words(i: Instruction) -> u32
+    ensures { λ n. ⌜ n ≡ needed i ⌝ }
+{
+    words_found(shape_of(i))
 }

@@ -11,7 +11,7 @@ use Rattle.words.specs.Bytes.{byteAt, Bytes}
 use Rattle.entries.specs.Entries.{entryAt, entryCount}
 use Rattle.layout.specs.Cut.{updated}
 use Rattle.stackmap.specs.Slots.{Slot}
-use Rattle.stackmap.specs.Ways.{Module, parametersIn}
+use Rattle.stackmap.specs.Ways.{Subject, parametersIn}
 use Rattle.stackmap.specs.StackMap.{firstSlots, entered}
 use Rattle.stackmap.specs.Walk.{blank, waiting, done, States, mapOf, entriesWait, firstStates}
 use Rattle.stackmap.specs.Theorems.{WellCut}
@@ -27,72 +27,72 @@ parameters-few code bytes p =
     either (λ (k : ℕ). k ≤ 255) (eqb p 0) 0 (byteAt code (entryAt code p + 1)) (omega arith) (omega arith)
 
 -- Procedure p's entry is made to wait.
-abbrev pub entering : Module → ℕ → States → States
-entering M p σ = updated σ (entryAt (M .code) p) (waiting (firstSlots M p))
+abbrev pub entering : Subject → ℕ → States → States
+entering U p σ = updated σ (entryAt (U .code) p) (waiting (firstSlots U p))
 
-module _ (M : Module) (S : WellCut M) where
-  first-short : (p : ℕ) → length (firstSlots M p) ≤ 255
-  first-short p = rw (words-height (parametersIn (M .code) p)) (parameters-few (M .code) (S .bytes) p)
+module _ (U : Subject) (S : WellCut U) where
+  first-short : (p : ℕ) → length (firstSlots U p) ≤ 255
+  first-short p = rw (words-height (parametersIn (U .code) p)) (parameters-few (U .code) (S .bytes) p)
 
-  first-placed : (p : ℕ) → p < entryCount (M .code) → Placed M (entryAt (M .code) p) (firstSlots M p)
-  first-placed p h = placed M p (entryAt (M .code) p) (firstSlots M p) (S .entries p h) (first-short p) entered
+  first-placed : (p : ℕ) → p < entryCount (U .code) → Placed U (entryAt (U .code) p) (firstSlots U p)
+  first-placed p h = placed U p (entryAt (U .code) p) (firstSlots U p) (S .entries p h) (first-short p) entered
 
   -- Procedure q's entry has its list.
   abbrev Has : States → ℕ → Type 0
-  Has σ q = mapOf σ (entryAt (M .code) q) ≡ some (firstSlots M q)
+  Has σ q = mapOf σ (entryAt (U .code) q) ≡ some (firstSlots U q)
 
-  has-one : (p : ℕ) (σ : States) → Has (entering M p σ) p
-  has-one p σ = rw (updated-here σ (entryAt (M .code) p) (waiting (firstSlots M p)))
+  has-one : (p : ℕ) (σ : States) → Has (entering U p σ) p
+  has-one p σ = rw (updated-here σ (entryAt (U .code) p) (waiting (firstSlots U p)))
 
-  has-kept : (p q : ℕ) (σ : States) → p < entryCount (M .code) → q < entryCount (M .code) → Has σ q → Has (entering M p σ) q
-  has-kept p q σ g h H = by (change σ (entryAt (M .code) p) (waiting (firstSlots M p)) (entryAt (M .code) q))
+  has-kept : (p q : ℕ) (σ : States) → p < entryCount (U .code) → q < entryCount (U .code) → Has σ q → Has (entering U p σ) q
+  has-kept p q σ g h H = by (change σ (entryAt (U .code) p) (waiting (firstSlots U p)) (entryAt (U .code) q))
     where
-      by : Change σ (entryAt (M .code) p) (waiting (firstSlots M p)) (entryAt (M .code) q) → Has (entering M p σ) q
+      by : Change σ (entryAt (U .code) p) (waiting (firstSlots U p)) (entryAt (U .code) q) → Has (entering U p σ) q
       by (changed s e) =
-          let one = owned M p (entryAt (M .code) p) (S .entries p g) in
-          let two = owned M q (entryAt (M .code) q) (S .entries q h) in
+          let one = owned U p (entryAt (U .code) p) (S .entries p g) in
+          let two = owned U q (entryAt (U .code) q) (S .entries q h) in
           let same : p ≡ q = sym one ∙ rw (← s) two in
           rw same (has-one q σ)
       by (spared s e) = rw e H
 
   pub record Entered (σ : States) : Type 0 where
-    pub sane : AllPlaced M σ
+    pub sane : AllPlaced U σ
     pub fresh : (at : ℕ) (l : List Slot) → σ at ≡ done l → ⊥
 
-  enter : (p : ℕ) (σ : States) → p < entryCount (M .code) → Entered σ → Entered (entering M p σ)
+  enter : (p : ℕ) (σ : States) → p < entryCount (U .code) → Entered σ → Entered (entering U p σ)
   enter p σ h E =
       record {
-        sane = placed-update M σ (entryAt (M .code) p) (firstSlots M p) (E .sane) (first-placed p h);
-        fresh = λ at l d. E .fresh at l (waiting-early σ (entryAt (M .code) p) (firstSlots M p) at l d);
+        sane = placed-update U σ (entryAt (U .code) p) (firstSlots U p) (E .sane) (first-placed p h);
+        fresh = λ at l d. E .fresh at l (waiting-early σ (entryAt (U .code) p) (firstSlots U p) at l d);
       }
 
   -- What each entry that is made to wait leaves, all leave.
-  enter-all : (P : States → Type 0) → ((p : ℕ) (σ : States) → p < entryCount (M .code) → P σ → P (entering M p σ))
-      → (n p : ℕ) (σ : States) → p + n ≤ entryCount (M .code) → P σ → P (entriesWait M p n σ)
+  enter-all : (P : States → Type 0) → ((p : ℕ) (σ : States) → p < entryCount (U .code) → P σ → P (entering U p σ))
+      → (n p : ℕ) (σ : States) → p + n ≤ entryCount (U .code) → P σ → P (entriesWait U p n σ)
   enter-all P one zero p σ h x = one 0 σ (S .counted) x
-  enter-all P one (suc n) p σ h x = enter-all P one n (p + 1) (entering M p σ) (omega arith) (one p σ (omega arith) x)
+  enter-all P one (suc n) p σ h x = enter-all P one n (p + 1) (entering U p σ) (omega arith) (one p σ (omega arith) x)
 
-  has-zero : (n p : ℕ) (σ : States) → Has (entriesWait M p n σ) 0
+  has-zero : (n p : ℕ) (σ : States) → Has (entriesWait U p n σ) 0
   has-zero zero p σ = has-one 0 σ
-  has-zero (suc n) p σ = has-zero n (p + 1) (entering M p σ)
+  has-zero (suc n) p σ = has-zero n (p + 1) (entering U p σ)
 
   -- Those of n procedures from p on.
-  has-all : (n p q : ℕ) (σ : States) → p + n ≤ entryCount (M .code) → p ≤ q → q < p + n → Has (entriesWait M p n σ) q
+  has-all : (n p q : ℕ) (σ : States) → p + n ≤ entryCount (U .code) → p ≤ q → q < p + n → Has (entriesWait U p n σ) q
   has-all zero p q σ h a b = absurd (omega arith)
   has-all (suc n) p q σ h a b =
-      at-or-after (Has (entriesWait M p (suc n) σ)) p q a
-      (enter-all (λ (τ : States). Has τ p) (λ o τ g. has-kept o p τ g (omega arith)) n (p + 1) (entering M p σ) (omega arith) (has-one p σ))
-      (λ (more : p < q). has-all n (p + 1) q (entering M p σ) (omega arith) (omega arith) (omega arith))
+      at-or-after (Has (entriesWait U p (suc n) σ)) p q a
+      (enter-all (λ (τ : States). Has τ p) (λ o τ g. has-kept o p τ g (omega arith)) n (p + 1) (entering U p σ) (omega arith) (has-one p σ))
+      (λ (more : p < q). has-all n (p + 1) q (entering U p σ) (omega arith) (omega arith) (omega arith))
 
-  pub first-entered : Entered (firstStates M)
+  pub first-entered : Entered (firstStates U)
   first-entered =
-      enter-all Entered enter (entryCount (M .code) - 1) 1 (λ at. blank) (omega (arith, S .counted))
+      enter-all Entered enter (entryCount (U .code) - 1) 1 (λ at. blank) (omega (arith, S .counted))
       (record {
         sane = λ at l e. absurd (Option·none-ne-some l e);
         fresh = λ at l e. let z : _≡_ {A = ℕ} 0 1 = cc in absurd (omega arith);
       })
 
-  pub first-has : (q : ℕ) → q < entryCount (M .code) → Has (firstStates M) q
-  first-has zero h = has-zero (entryCount (M .code) - 1) 1 (λ at. blank)
+  pub first-has : (q : ℕ) → q < entryCount (U .code) → Has (firstStates U) q
+  first-has zero h = has-zero (entryCount (U .code) - 1) 1 (λ at. blank)
   first-has (suc q) h =
-      has-all (entryCount (M .code) - 1) 1 (suc q) (λ at. blank) (omega (arith, S .counted)) (omega arith) (omega arith)
+      has-all (entryCount (U .code) - 1) 1 (suc q) (λ at. blank) (omega (arith, S .counted)) (omega arith) (omega arith)

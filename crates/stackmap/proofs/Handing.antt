@@ -10,7 +10,7 @@ use lib.ListN.{length}
 use borrow.Author.Tests.{leb-true, le-leb}
 use Rattle.layout.specs.Cut.{updated, startsIn}
 use Rattle.stackmap.specs.Slots.{Slot, sameSlots}
-use Rattle.stackmap.specs.Ways.{Module, Way, _gets_}
+use Rattle.stackmap.specs.Ways.{Subject, Way, _gets_}
 use Rattle.stackmap.specs.StackMap.{Map, GivesEach, given-all, given-one, IsMap, Among, here, there, Reached}
 use Rattle.stackmap.specs.Walk.{State, blank, waiting, done, States, mapOf, taken, thenHand, handedAll}
 use Rattle.stackmap.specs.Theorems.{mapIn}
@@ -39,71 +39,71 @@ pub ends-some : {Bad : Type 0} {Good : States → Type 0} {σ : States} → Ends
 ends-some (went g) = g
 
 -- No map of a region.
-abbrev pub NoMap : Module → ℕ → Type 0
-NoMap M p = (π : Map) → IsMap M p π → ⊥
+abbrev pub NoMap : Subject → ℕ → Type 0
+NoMap U p = (π : Map) → IsMap U p π → ⊥
 
-pub record Handed (M : Module) (p : ℕ) (ws : List Way) (σ τ : States) : Type 0 where
-  pub sane : AllPlaced M τ
+pub record Handed (U : Subject) (p : ℕ) (ws : List Way) (σ τ : States) : Type 0 where
+  pub sane : AllPlaced U τ
   pub later : Later σ τ
   pub early : Stays τ σ
-  pub gives : GivesEach (mapIn M p τ) ws
+  pub gives : GivesEach (mapIn U p τ) ws
 
-module _ (M : Module) (p : ℕ) (σ : States) (P : AllPlaced M σ) (t : ℕ) (l : List Slot) (r : Reached M p t l) where
-  module _ (h : startsIn (M .marks) p t ≡ true) where
-    had : mapOf σ t ≡ some l → Handed M p (t gets l ∷ []) σ σ
-    had e = record { sane = P; later = later-self σ; early = λ at k d. d; gives = given-one (in-given M p σ t l h e) given-all }
+module _ (U : Subject) (p : ℕ) (σ : States) (P : AllPlaced U σ) (t : ℕ) (l : List Slot) (r : Reached U p t l) where
+  module _ (h : startsIn (U .marks) p t ≡ true) where
+    had : mapOf σ t ≡ some l → Handed U p (t gets l ∷ []) σ σ
+    had e = record { sane = P; later = later-self σ; early = λ at k d. d; gives = given-one (in-given U p σ t l h e) given-all }
 
-    took : length l ≤ 255 → σ t ≡ blank → Handed M p (t gets l ∷ []) σ (updated σ t (waiting l))
+    took : length l ≤ 255 → σ t ≡ blank → Handed U p (t gets l ∷ []) σ (updated σ t (waiting l))
     took s e =
         record {
-          sane = placed-update M σ t l P (placed M p t l h s r);
+          sane = placed-update U σ t l P (placed U p t l h s r);
           later = blank-later σ t l e;
           early = waiting-early σ t l;
-          gives = given-one (in-given M p (updated σ t (waiting l)) t l h (rw (updated-here σ t (waiting l)))) given-all;
+          gives = given-one (in-given U p (updated σ t (waiting l)) t l h (rw (updated-here σ t (waiting l)))) given-all;
         }
 
     met : (k : List Slot) → mapOf σ t ≡ some k → (b : Bool) → sameSlots k l ≡ b
-        → Ends (NoMap M p) (Handed M p (t gets l ∷ []) σ) (cond b (some σ) none)
+        → Ends (NoMap U p) (Handed U p (t gets l ∷ []) σ) (cond b (some σ) none)
     met k e true q = went (had (e ∙ ap some (slots-equal k l q)))
     met k e false q = broken λ π m.
-        let one = reached-in M p π m t l r in
-        let two = reached-in M p π m t k (placed-reached M p t k h (P t k e)) in
+        let one = reached-in U p π m t l r in
+        let two = reached-in U p π m t k (placed-reached U p t k h (P t k e)) in
         let same : k ≡ l = cc in
         true≢false (rw (same, slots-same l) at q)
 
-    offered : length l ≤ 255 → (s : State) → σ t ≡ s → Ends (NoMap M p) (Handed M p (t gets l ∷ []) σ) (taken σ t l s)
+    offered : length l ≤ 255 → (s : State) → σ t ≡ s → Ends (NoMap U p) (Handed U p (t gets l ∷ []) σ) (taken σ t l s)
     offered s blank e = went (took s e)
     offered s (waiting k) e = met k (cc) (sameSlots k l) refl
     offered s (done k) e = met k (cc) (sameSlots k l) refl
 
-  one : (b : Bool) → startsIn (M .marks) p t && leb (length l) 255 ≡ b
-      → Ends (NoMap M p) (Handed M p (t gets l ∷ []) σ) (cond b (taken σ t l (σ t)) none)
+  one : (b : Bool) → startsIn (U .marks) p t && leb (length l) 255 ≡ b
+      → Ends (NoMap U p) (Handed U p (t gets l ∷ []) σ) (cond b (taken σ t l (σ t)) none)
   one true e =
-      let b = and-eq-true-iff (startsIn (M .marks) p t) (leb (length l) 255) .0 e in
+      let b = and-eq-true-iff (startsIn (U .marks) p t) (leb (length l) 255) .0 e in
       offered (b .0) (leb-true (length l) 255 (b .1)) (σ t) refl
   one false e = broken λ π m.
-      let o = m .obeys t l (reached-in M p π m t l r) in
+      let o = m .obeys t l (reached-in U p π m t l r) in
       true≢false (rw (o .start, le-leb (length l) 255 (o .short)) at e)
 
 gives-first : {π : Map} {w : Way} {ws : List Way} → GivesEach π (w ∷ []) → GivesEach π ws → GivesEach π (w ∷ ws)
 gives-first (given-one e g) h = given-one e h
 
 -- One way, and the others after it.
-joined : (M : Module) (p : ℕ) (w : Way) (ws : List Way) (σ τ υ : States) → Handed M p (w ∷ []) σ τ → Handed M p ws τ υ
-    → Handed M p (w ∷ ws) σ υ
-joined M p w ws σ τ υ H K =
+joined : (U : Subject) (p : ℕ) (w : Way) (ws : List Way) (σ τ υ : States) → Handed U p (w ∷ []) σ τ → Handed U p ws τ υ
+    → Handed U p (w ∷ ws) σ υ
+joined U p w ws σ τ υ H K =
     record {
       sane = K .sane;
       later = later-later (H .later) (K .later);
       early = λ at l e. H .early at l (K .early at l e);
-      gives = gives-first (gives-later M p τ υ (K .later) (H .gives)) (K .gives);
+      gives = gives-first (gives-later U p τ υ (K .later) (H .gives)) (K .gives);
     }
 
-pub handing : (M : Module) (p : ℕ) (ws : List Way) (σ : States) → AllPlaced M σ
-    → ((t : ℕ) (l : List Slot) → Among t l ws → Reached M p t l)
-    → Ends (NoMap M p) (Handed M p ws σ) (handedAll M p ws σ)
-handing M p [] σ P R = went (record { sane = P; later = later-self σ; early = λ at l e. e; gives = given-all })
-handing M p (t gets l ∷ ws) σ P R =
-    ends-then (handedAll M p ws) (one M p σ P t l (R t l here) (startsIn (M .marks) p t && leb (length l) 255) refl)
-    (λ τ H. ends-map (λ b. b) (λ υ K. joined M p (t gets l) ws σ τ υ H K)
-    (handing M p ws τ (H .sane) (λ s k a. R s k (there a))))
+pub handing : (U : Subject) (p : ℕ) (ws : List Way) (σ : States) → AllPlaced U σ
+    → ((t : ℕ) (l : List Slot) → Among t l ws → Reached U p t l)
+    → Ends (NoMap U p) (Handed U p ws σ) (handedAll U p ws σ)
+handing U p [] σ P R = went (record { sane = P; later = later-self σ; early = λ at l e. e; gives = given-all })
+handing U p (t gets l ∷ ws) σ P R =
+    ends-then (handedAll U p ws) (one U p σ P t l (R t l here) (startsIn (U .marks) p t && leb (length l) 255) refl)
+    (λ τ H. ends-map (λ b. b) (λ υ K. joined U p (t gets l) ws σ τ υ H K)
+    (handing U p ws τ (H .sane) (λ s k a. R s k (there a))))

@@ -10,7 +10,7 @@ use lib.ListN.{length}
 use borrow.Author.Tests.{eqb-true}
 use Rattle.layout.specs.Cut.{updated, startsIn}
 use Rattle.stackmap.specs.Slots.{Slot}
-use Rattle.stackmap.specs.Ways.{Module, Way}
+use Rattle.stackmap.specs.Ways.{Subject, Way}
 use Rattle.stackmap.specs.StackMap.{Map, GivesEach, given-all, given-one, Reached}
 use Rattle.stackmap.specs.Walk.{State, blank, waiting, done, States, slotsIn, mapOf}
 use Rattle.stackmap.specs.Theorems.{mapIn}
@@ -18,33 +18,33 @@ use Rattle.layout.proofs.Updates.{Change, changed, spared, change}
 use Rattle.stackmap.proofs.Counts.{undoneIn, Stays, done-stays}
 
 -- The procedure in whose region a start lies.
-abbrev pub owner : Module → ℕ → ℕ
-owner M at = M .marks at - 1
+abbrev pub owner : Subject → ℕ → ℕ
+owner U at = U .marks at - 1
 
-pub owned : (M : Module) (p at : ℕ) → startsIn (M .marks) p at ≡ true → owner M at ≡ p
-owned M p at h = omega (arith, eqb-true (M .marks at) (p + 1) h)
+pub owned : (U : Subject) (p at : ℕ) → startsIn (U .marks) p at ≡ true → owner U at ≡ p
+owned U p at h = omega (arith, eqb-true (U .marks at) (p + 1) h)
 
 -- What is given stays given.
 abbrev pub Grows : Map → Map → Type 0
 Grows π ρ = (at : ℕ) (l : List Slot) → π at ≡ some l → ρ at ≡ some l
 
 -- What every state has: starts alone are given lists, short ones that are reached.
-pub record Placed (M : Module) (at : ℕ) (l : List Slot) : Type 0 where
-  pub start : startsIn (M .marks) (owner M at) at ≡ true
+pub record Placed (U : Subject) (at : ℕ) (l : List Slot) : Type 0 where
+  pub start : startsIn (U .marks) (owner U at) at ≡ true
   pub short : length l ≤ 255
-  pub reached : Reached M (owner M at) at l
+  pub reached : Reached U (owner U at) at l
 
-abbrev pub AllPlaced : Module → States → Type 0
-AllPlaced M σ = (at : ℕ) (l : List Slot) → mapOf σ at ≡ some l → Placed M at l
+abbrev pub AllPlaced : Subject → States → Type 0
+AllPlaced U σ = (at : ℕ) (l : List Slot) → mapOf σ at ≡ some l → Placed U at l
 
-module _ (M : Module) (p at : ℕ) (l : List Slot) (h : startsIn (M .marks) p at ≡ true) where
-  pub placed : length l ≤ 255 → Reached M p at l → Placed M at l
+module _ (U : Subject) (p at : ℕ) (l : List Slot) (h : startsIn (U .marks) p at ≡ true) where
+  pub placed : length l ≤ 255 → Reached U p at l → Placed U at l
   placed s r =
-      let same : owner M at ≡ p = owned M p at h in
+      let same : owner U at ≡ p = owned U p at h in
       record { start = rw same h; short = s; reached = rw same r }
 
-  pub placed-reached : Placed M at l → Reached M p at l
-  placed-reached P = rw (owned M p at h) at (P .reached)
+  pub placed-reached : Placed U at l → Reached U p at l
+  placed-reached P = rw (owned U p at h) at (P .reached)
 
 -- An offset is given a list: what holds of that one and of those given before holds of all; and what is given stays given, where the
 -- offset had none or had that one.
@@ -68,9 +68,9 @@ module _ (σ : States) (t : ℕ) (s : State) (k : List Slot) (has : slotsIn s �
           rw (q, same) has
       by (spared g q) = rw q e
 
-pub placed-update : (M : Module) (σ : States) (at : ℕ) (l : List Slot) → AllPlaced M σ → Placed M at l
-    → AllPlaced M (updated σ at (waiting l))
-placed-update M σ at l P p = told-change σ at (waiting l) l refl (Placed M) p P
+pub placed-update : (U : Subject) (σ : States) (at : ℕ) (l : List Slot) → AllPlaced U σ → Placed U at l
+    → AllPlaced U (updated σ at (waiting l))
+placed-update U σ at l P p = told-change σ at (waiting l) l refl (Placed U) p P
 
 -- A later state has what an earlier one gave, and its done offsets.
 pub record Later (σ τ : States) : Type 0 where
@@ -101,13 +101,13 @@ waiting-early σ t l at k e = by (change σ t (waiting l) at)
     by (spared s q) = sym q ∙ e
 
 -- What lies in procedure p's region.
-pub in-given : (M : Module) (p : ℕ) (σ : States) (at : ℕ) (l : List Slot) → startsIn (M .marks) p at ≡ true → mapOf σ at ≡ some l
-    → mapIn M p σ at ≡ some l
-in-given M p σ at l h e = rw h e
+pub in-given : (U : Subject) (p : ℕ) (σ : States) (at : ℕ) (l : List Slot) → startsIn (U .marks) p at ≡ true → mapOf σ at ≡ some l
+    → mapIn U p σ at ≡ some l
+in-given U p σ at l h e = rw h e
 
-pub in-told : (M : Module) (p : ℕ) (σ : States) (at : ℕ) (l : List Slot) → mapIn M p σ at ≡ some l
-    → (startsIn (M .marks) p at ≡ true) × (mapOf σ at ≡ some l)
-in-told M p σ at l e = by (startsIn (M .marks) p at) e
+pub in-told : (U : Subject) (p : ℕ) (σ : States) (at : ℕ) (l : List Slot) → mapIn U p σ at ≡ some l
+    → (startsIn (U .marks) p at ≡ true) × (mapOf σ at ≡ some l)
+in-told U p σ at l e = by (startsIn (U .marks) p at) e
   where
     by : (b : Bool) → cond b (mapOf σ at) none ≡ some l → (b ≡ true) × (mapOf σ at ≡ some l)
     by true g = (refl, g)
@@ -118,7 +118,7 @@ only : {x y : Option (List Slot)} {l : List Slot} (b : Bool) → (x ≡ some l �
 only true f e = f e
 only false f e = e
 
-pub gives-later : (M : Module) (p : ℕ) (σ τ : States) {ws : List Way} → Later σ τ → GivesEach (mapIn M p σ) ws → GivesEach (mapIn M p τ) ws
-gives-later M p σ τ L given-all = given-all
-gives-later M p σ τ L (given-one {t} {l} e g) =
-    given-one (only (startsIn (M .marks) p t) (L .kept t l) e) (gives-later M p σ τ L g)
+pub gives-later : (U : Subject) (p : ℕ) (σ τ : States) {ws : List Way} → Later σ τ → GivesEach (mapIn U p σ) ws → GivesEach (mapIn U p τ) ws
+gives-later U p σ τ L given-all = given-all
+gives-later U p σ τ L (given-one {t} {l} e g) =
+    given-one (only (startsIn (U .marks) p t) (L .kept t l) e) (gives-later U p σ τ L g)

@@ -9,7 +9,7 @@ use lib.ListN.{length}
 use Rattle.entries.specs.Entries.{entryCount}
 use Rattle.layout.specs.Cut.{updated}
 use Rattle.stackmap.specs.Slots.{Slot}
-use Rattle.stackmap.specs.Ways.{Module, Way}
+use Rattle.stackmap.specs.Ways.{Subject, Way}
 use Rattle.stackmap.specs.StackMap.{GivesEach, stepped, waysAt}
 use Rattle.stackmap.specs.Walk.{waiting, done, States, passed, visited, Found, found, visitNext, walk}
 use Rattle.stackmap.specs.Theorems.{WellCut, mapIn}
@@ -20,36 +20,36 @@ use Rattle.stackmap.proofs.Placing.{owner, Placed, AllPlaced, told-chan
 use Rattle.stackmap.proofs.Handing.{Ends, broken, went, ends-then, ends-map, NoMap, Handed, handing}
 
 -- A done offset has passed its list on.
-pub record Passed (M : Module) (σ : States) (at : ℕ) (l : List Slot) : Type 0 where
+pub record Passed (U : Subject) (σ : States) (at : ℕ) (l : List Slot) : Type 0 where
   pub out : List Way
-  pub found : waysAt M (owner M at) at l ≡ some out
-  pub gives : GivesEach (mapIn M (owner M at) σ) out
+  pub found : waysAt U (owner U at) at l ≡ some out
+  pub gives : GivesEach (mapIn U (owner U at) σ) out
 
-pub record Good (M : Module) (σ : States) : Type 0 where
-  pub sane : AllPlaced M σ
-  pub passed : (at : ℕ) (l : List Slot) → σ at ≡ done l → Passed M σ at l
+pub record Good (U : Subject) (σ : States) : Type 0 where
+  pub sane : AllPlaced U σ
+  pub passed : (at : ℕ) (l : List Slot) → σ at ≡ done l → Passed U σ at l
 
-abbrev pub Refuted : Module → Type 0
-Refuted M = (p : ℕ) × (p < entryCount (M .code)) × NoMap M p
+abbrev pub Refuted : Subject → Type 0
+Refuted U = (p : ℕ) × (p < entryCount (U .code)) × NoMap U p
 
-record Visited (M : Module) (σ : States) (at : ℕ) (l : List Slot) (τ : States) : Type 0 where
-  good : Good M τ
+record Visited (U : Subject) (σ : States) (at : ℕ) (l : List Slot) (τ : States) : Type 0 where
+  good : Good U τ
   later : Later σ τ
   finished : τ at ≡ done l
 
-module _ (M : Module) (S : WellCut M) (σ : States) (G : Good M σ) (at : ℕ) (l : List Slot) (w : σ at ≡ waiting l) where
-  this : Placed M at l
+module _ (U : Subject) (S : WellCut U) (σ : States) (G : Good U σ) (at : ℕ) (l : List Slot) (w : σ at ≡ waiting l) where
+  this : Placed U at l
   this = G .sane at l (rw w)
 
   marked : Later σ (updated σ at (done l))
   marked =
       record { kept = grows-change σ at (done l) l refl (λ k e. cc); stays = done-stays σ at (done l) (ap undoneIn w) }
 
-  marked-sane : AllPlaced M (updated σ at (done l))
-  marked-sane = told-change σ at (done l) l refl (Placed M) this (G .sane)
+  marked-sane : AllPlaced U (updated σ at (done l))
+  marked-sane = told-change σ at (done l) l refl (Placed U) this (G .sane)
 
-  handed-on : (out : List Way) → waysAt M (owner M at) at l ≡ some out → (τ : States)
-      → Handed M (owner M at) out (updated σ at (done l)) τ → Visited M σ at l τ
+  handed-on : (out : List Way) → waysAt U (owner U at) at l ≡ some out → (τ : States)
+      → Handed U (owner U at) out (updated σ at (done l)) τ → Visited U σ at l τ
   handed-on out f τ H =
       record {
         good = record { sane = H .sane; passed = λ a k d. by a k (H .early a k d) (change σ at (done l) a) };
@@ -60,52 +60,52 @@ module _ (M : Module) (S : WellCut M) (σ : States) (G : Good M σ) (at : ℕ) (
       later : Later σ τ
       later = later-later marked (H .later)
 
-      by : (a : ℕ) (k : List Slot) → updated σ at (done l) a ≡ done k → Change σ at (done l) a → Passed M τ a k
+      by : (a : ℕ) (k : List Slot) → updated σ at (done l) a ≡ done k → Change σ at (done l) a → Passed U τ a k
       by a k e (changed s q) =
           let list : l ≡ k = cc in
           rw (s, ← list) (record { out = out; found = f; gives = H .gives })
       by a k e (spared s q) =
           let P = G .passed a k (sym q ∙ e) in
-          record { out = P .out; found = P .found; gives = gives-later M (owner M a) σ τ later (P .gives) }
+          record { out = P .out; found = P .found; gives = gives-later U (owner U a) σ τ later (P .gives) }
 
-  refuted : NoMap M (owner M at) → Refuted M
-  refuted n = (owner M at, S .procedures (owner M at) at (this .start), n)
+  refuted : NoMap U (owner U at) → Refuted U
+  refuted n = (owner U at, S .procedures (owner U at) at (this .start), n)
 
-  visit : Ends (Refuted M) (Visited M σ at l) (visited M at l σ)
+  visit : Ends (Refuted U) (Visited U σ at l) (visited U at l σ)
   unfolding visited
-  visit = by (waysAt M (owner M at) at l) refl
+  visit = by (waysAt U (owner U at) at l) refl
     where
-      by : (o : Option (List Way)) → waysAt M (owner M at) at l ≡ o
-          → Ends (Refuted M) (Visited M σ at l) (passed M (owner M at) (updated σ at (done l)) o)
+      by : (o : Option (List Way)) → waysAt U (owner U at) at l ≡ o
+          → Ends (Refuted U) (Visited U σ at l) (passed U (owner U at) (updated σ at (done l)) o)
       by none e = broken (refuted λ π m.
-          let o = m .obeys at l (reached-in M (owner M at) π m at l (this .reached)) in
+          let o = m .obeys at l (reached-in U (owner U at) π m at l (this .reached)) in
           Option·none-ne-some (o .out) (sym e ∙ o .found))
       by (some out) e = ends-map refuted (handed-on out e)
-          (handing M (owner M at) out (updated σ at (done l)) marked-sane (λ t k a. stepped (this .reached) e a))
+          (handing U (owner U at) out (updated σ at (done l)) marked-sane (λ t k a. stepped (this .reached) e a))
 
 -- At the end none waits.
-pub record Walked (M : Module) (σ τ : States) : Type 0 where
-  pub good : Good M τ
+pub record Walked (U : Subject) (σ τ : States) : Type 0 where
+  pub good : Good U τ
   pub later : Later σ τ
   pub idle : (at : ℕ) (l : List Slot) → τ at ≡ waiting l → ⊥
 
-module _ (M : Module) (S : WellCut M) where
+module _ (U : Subject) (S : WellCut U) where
   -- A waiting offset lies in the code.
-  inside : (σ : States) → Good M σ → (at : ℕ) (l : List Slot) → σ at ≡ waiting l → at < length (M .code)
-  inside σ G at l w = S .within (owner M at) at (G .sane at l (rw w) .start)
+  inside : (σ : States) → Good U σ → (at : ℕ) (l : List Slot) → σ at ≡ waiting l → at < length (U .code)
+  inside σ G at l w = S .within (owner U at) at (G .sane at l (rw w) .start)
 
-  ended : (σ : States) → Good M σ → ((at : ℕ) (l : List Slot) → at < length (M .code) → σ at ≡ waiting l → ⊥) → Walked M σ σ
+  ended : (σ : States) → Good U σ → ((at : ℕ) (l : List Slot) → at < length (U .code) → σ at ≡ waiting l → ⊥) → Walked U σ σ
   ended σ G h = record { good = G; later = later-self σ; idle = λ at l w. h at l (inside σ G at l w) w }
 
-  pub walking : (n : ℕ) (σ : States) → Good M σ → undone σ (length (M .code)) ≤ n → Ends (Refuted M) (Walked M σ) (walk M n σ)
-  walking zero σ G h = went (ended σ G λ at l b w. undone-waits σ (length (M .code)) at l h b w)
-  walking (suc n) σ G h = by (walking n) (seen σ 0 (length (M .code)))
+  pub walking : (n : ℕ) (σ : States) → Good U σ → undone σ (length (U .code)) ≤ n → Ends (Refuted U) (Walked U σ) (walk U n σ)
+  walking zero σ G h = went (ended σ G λ at l b w. undone-waits σ (length (U .code)) at l h b w)
+  walking (suc n) σ G h = by (walking n) (seen σ 0 (length (U .code)))
     where
-      by : ((τ : States) → Good M τ → undone τ (length (M .code)) ≤ n → Ends (Refuted M) (Walked M τ) (walk M n τ)) → {f : Found}
-          → Seen σ 0 (length (M .code)) f → Ends (Refuted M) (Walked M σ) (visitNext M (walk M n) σ f)
+      by : ((τ : States) → Good U τ → undone τ (length (U .code)) ≤ n → Ends (Refuted U) (Walked U τ) (walk U n τ)) → {f : Found}
+          → Seen σ 0 (length (U .code)) f → Ends (Refuted U) (Walked U σ) (visitNext U (walk U n) σ f)
       by go (clear c) = went (ended σ G λ at l b w. c at l (omega arith) (omega arith) w)
-      by go (sees {i} {l} w) = ends-then (walk M n) (visit M S σ G i l w) λ τ T.
-          let less = undone-drops σ τ (T .later .stays) i l l w (T .finished) (length (M .code)) (inside σ G i l w) in
+      by go (sees {i} {l} w) = ends-then (walk U n) (visit U S σ G i l w) λ τ T.
+          let less = undone-drops σ τ (T .later .stays) i l l w (T .finished) (length (U .code)) (inside σ G i l w) in
           ends-map (λ b. b)
           (λ υ W. record { good = W .good; later = later-later (T .later) (W .later); idle = W .idle })
           (go τ (T .good) (omega arith))

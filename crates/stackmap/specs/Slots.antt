@@ -22,10 +22,10 @@ popWords (suc n) (word ∷ l) = popWords n l
 popWords (suc n) (label origin ∷ l) = none
 
 -- What is under n slots of either kind.
-abbrev pub dropSlots : ℕ → List Slot → Option (List Slot)
-dropSlots zero l = some l
-dropSlots (suc n) [] = none
-dropSlots (suc n) (x ∷ l) = dropSlots n l
+abbrev pub popSlots : ℕ → List Slot → Option (List Slot)
+popSlots zero l = some l
+popSlots (suc n) [] = none
+popSlots (suc n) (x ∷ l) = popSlots n l
 
 -- Exactly n words.
 abbrev pub isWords : ℕ → List Slot → Bool

@@ -12,16 +12,16 @@ use Rattle.opcode.specs.declared.Decoded.the-variants.{Unserved, Past, At}
 use Rattle.shape.specs.Shape.{shapeOf}
 use Rattle.layout.specs.Cut.{startsIn}
 use Rattle.stackmap.specs.Slots.{Slot, pushWords}
-use Rattle.stackmap.specs.Ways.{Module, Way, _gets_, parametersIn, ways}
+use Rattle.stackmap.specs.Ways.{Subject, Way, _gets_, parametersIn, ways}
 
 -- The ways out of what is decoded at an offset of procedure p.
-abbrev pub waysOf : Module → ℕ → ℕ → List Slot → Decoded → Option (List Way)
-waysOf M p at l Unserved = none
-waysOf M p at l Past = none
-waysOf M p at l (At i next) = ways M p at next (shapeOf i) l
+abbrev pub waysOf : Subject → ℕ → ℕ → List Slot → Decoded → Option (List Way)
+waysOf U p at l Unserved = none
+waysOf U p at l Past = none
+waysOf U p at l (At i next) = ways U p at next (shapeOf i) l
 
-unfoldable pub waysAt : Module → ℕ → ℕ → List Slot → Option (List Way)
-waysAt M p at l = waysOf M p at l (decodeAt (M .code) (regionEnd (M .code) p) at)
+unfoldable pub waysAt : Subject → ℕ → ℕ → List Slot → Option (List Way)
+waysAt U p at l = waysOf U p at l (decodeAt (U .code) (regionEnd (U .code) p) at)
 
 -- A list for some offsets.
 abbrev pub Map : Type 0
@@ -33,27 +33,27 @@ pub data GivesEach (π : Map) : List Way → Type 0 where
   given-one : {t : ℕ} {l : List Slot} {ws : List Way} → π t ≡ some l → GivesEach π ws → GivesEach π (t gets l ∷ ws)
 
 -- What a map has at an offset is as it must be: a start of the region, at most 255 slots, and its ways out given.
-pub record Obeys (M : Module) (p : ℕ) (π : Map) (at : ℕ) (l : List Slot) : Type 0 where
-  pub start : startsIn (M .marks) p at ≡ true
+pub record Obeys (U : Subject) (p : ℕ) (π : Map) (at : ℕ) (l : List Slot) : Type 0 where
+  pub start : startsIn (U .marks) p at ≡ true
   pub short : length l ≤ 255
   pub out : List Way
-  pub found : waysAt M p at l ≡ some out
+  pub found : waysAt U p at l ≡ some out
   pub gives : GivesEach π out
 
 -- "The first instruction is given the parameter words of its ENTER (procedure 0: none)."
-abbrev pub firstSlots : Module → ℕ → List Slot
-firstSlots M p = pushWords (parametersIn (M .code) p) []
+abbrev pub firstSlots : Subject → ℕ → List Slot
+firstSlots U p = pushWords (parametersIn (U .code) p) []
 
 -- A map of procedure p's region.
-pub record IsMap (M : Module) (p : ℕ) (π : Map) : Type 0 where
-  pub first : π (entryAt (M .code) p) ≡ some (firstSlots M p)
-  pub obeys : (at : ℕ) (l : List Slot) → π at ≡ some l → Obeys M p π at l
+pub record IsMap (U : Subject) (p : ℕ) (π : Map) : Type 0 where
+  pub first : π (entryAt (U .code) p) ≡ some (firstSlots U p)
+  pub obeys : (at : ℕ) (l : List Slot) → π at ≡ some l → Obeys U p π at l
 
 -- "From here on the picture is that of just the instructions reached from the entry."
 pub data Among (t : ℕ) (l : List Slot) : List Way → Type 0 where
   here : {ws : List Way} → Among t l (t gets l ∷ ws)
   there : {w : Way} {ws : List Way} → Among t l ws → Among t l (w ∷ ws)
 
-pub data Reached (M : Module) (p : ℕ) : ℕ → List Slot → Type 0 where
-  entered : Reached M p (entryAt (M .code) p) (firstSlots M p)
-  stepped : {at t : ℕ} {l k : List Slot} {out : List Way} → Reached M p at l → waysAt M p at l ≡ some out → Among t k out → Reached M p t k
+pub data Reached (U : Subject) (p : ℕ) : ℕ → List Slot → Type 0 where
+  entered : Reached U p (entryAt (U .code) p) (firstSlots U p)
+  stepped : {at t : ℕ} {l k : List Slot} {out : List Way} → Reached U p at l → waysAt U p at l ≡ some out → Among t k out → Reached U p t k

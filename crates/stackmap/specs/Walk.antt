@@ -10,7 +10,7 @@ use lib.ListN.{length}
 use Rattle.entries.specs.Entries.{entryAt, entryCount}
 use Rattle.layout.specs.Cut.{updated, startsIn}
 use Rattle.stackmap.specs.Slots.{Slot, sameSlots}
-use Rattle.stackmap.specs.Ways.{Module, Way, _gets_}
+use Rattle.stackmap.specs.Ways.{Subject, Way, _gets_}
 use Rattle.stackmap.specs.StackMap.{Map, waysAt, firstSlots}
 
 -- An offset has no list, has one and waits, or has one and has been passed on.
@@ -35,26 +35,26 @@ taken σ t l blank = some (updated σ t (waiting l))
 taken σ t l (waiting k) = cond (sameSlots k l) (some σ) none
 taken σ t l (done k) = cond (sameSlots k l) (some σ) none
 
-abbrev pub handed : Module → ℕ → States → Way → Option States
-handed M p σ (t gets l) = cond (startsIn (M .marks) p t && leb (length l) 255) (taken σ t l (σ t)) none
+abbrev pub handed : Subject → ℕ → States → Way → Option States
+handed U p σ (t gets l) = cond (startsIn (U .marks) p t && leb (length l) 255) (taken σ t l (σ t)) none
 
 abbrev pub thenHand : (States → Option States) → Option States → Option States
 thenHand go none = none
 thenHand go (some σ) = go σ
 
-abbrev pub handedAll : Module → ℕ → List Way → States → Option States
-handedAll M p [] σ = some σ
-handedAll M p (w ∷ ws) σ = thenHand (handedAll M p ws) (handed M p σ w)
+abbrev pub handedAll : Subject → ℕ → List Way → States → Option States
+handedAll U p [] σ = some σ
+handedAll U p (w ∷ ws) σ = thenHand (handedAll U p ws) (handed U p σ w)
 
-abbrev pub passed : Module → ℕ → States → Option (List Way) → Option States
-passed M p σ none = none
-passed M p σ (some out) = handedAll M p out σ
+abbrev pub passed : Subject → ℕ → States → Option (List Way) → Option States
+passed U p σ none = none
+passed U p σ (some out) = handedAll U p out σ
 
 -- The instruction at an offset with a list passes it on.
-unfoldable pub visited : Module → ℕ → List Slot → States → Option States
-visited M at l σ =
-    let p = M .marks at - 1 in
-    passed M p (updated σ at (done l)) (waysAt M p at l)
+unfoldable pub visited : Subject → ℕ → List Slot → States → Option States
+visited U at l σ =
+    let p = U .marks at - 1 in
+    passed U p (updated σ at (done l)) (waysAt U p at l)
 
 -- The first waiting offset of n from an offset on, with its list.
 pub data Found : Type 0 where
@@ -71,22 +71,22 @@ waitingFrom σ at zero = nowhere
 waitingFrom σ at (suc n) = orLater at (waitingFrom σ (at + 1) n) (σ at)
 
 -- So many visits, as long as one waits. Each offset is visited once at most, so the size of the code is enough.
-abbrev pub visitNext : Module → (States → Option States) → States → Found → Option States
-visitNext M go σ nowhere = some σ
-visitNext M go σ (found at l) = thenHand go (visited M at l σ)
+abbrev pub visitNext : Subject → (States → Option States) → States → Found → Option States
+visitNext U go σ nowhere = some σ
+visitNext U go σ (found at l) = thenHand go (visited U at l σ)
 
-abbrev pub walk : Module → ℕ → States → Option States
-walk M zero σ = some σ
-walk M (suc n) σ = visitNext M (walk M n) σ (waitingFrom σ 0 (length (M .code)))
+abbrev pub walk : Subject → ℕ → States → Option States
+walk U zero σ = some σ
+walk U (suc n) σ = visitNext U (walk U n) σ (waitingFrom σ 0 (length (U .code)))
 
 -- At first the entries wait: those of n procedures from p on, and procedure 0's.
-abbrev pub entriesWait : Module → ℕ → ℕ → States → States
-entriesWait M p zero σ = updated σ (entryAt (M .code) 0) (waiting (firstSlots M 0))
-entriesWait M p (suc n) σ = entriesWait M (p + 1) n (updated σ (entryAt (M .code) p) (waiting (firstSlots M p)))
+abbrev pub entriesWait : Subject → ℕ → ℕ → States → States
+entriesWait U p zero σ = updated σ (entryAt (U .code) 0) (waiting (firstSlots U 0))
+entriesWait U p (suc n) σ = entriesWait U (p + 1) n (updated σ (entryAt (U .code) p) (waiting (firstSlots U p)))
 
 -- All entries wait, and no other offset has a list.
-abbrev pub firstStates : Module → States
-firstStates M = entriesWait M 1 (entryCount (M .code) - 1) (λ at. blank)
+abbrev pub firstStates : Subject → States
+firstStates U = entriesWait U 1 (entryCount (U .code) - 1) (λ at. blank)
 
-unfoldable pub walkOf : Module → Option States
-walkOf M = walk M (length (M .code)) (firstStates M)
+unfoldable pub walkOf : Subject → Option States
+walkOf U = walk U (length (U .code)) (firstStates U)

@@ -13,14 +13,14 @@ use Rattle.operand.specs.Operand.{fixedOf, operand}
 use Rattle.operand.specs.Distance.{placeAt}
 use Rattle.opcode.specs.Codes.{iterCode, switchCode, switchXCode, iterOperands, enterOperands}
 use Rattle.shape.specs.declared.Shape.{Shape}
-use Rattle.shape.specs.declared.Shape.the-variants.{Straight, Drop, Goto, Branch, Keep, Loop, Again, Select, Exit, Invoke, Begin, Return}
+use Rattle.shape.specs.declared.Shape.the-variants.{Straight, Pop, Jump, JumpC, JumpTF, Iter, Next, Switch, Leave, Call, Enter, Rtn}
 use Rattle.layout.specs.Cut.{Marks}
-use Rattle.successors.specs.Successors.{selectTargets}
+use Rattle.successors.specs.Successors.{switchTargets}
 use Rattle.switch_table.specs.Switch.{exitLabel}
-use Rattle.stackmap.specs.Slots.{Slot, word, label, pushWords, popWords, dropSlots, isWords}
+use Rattle.stackmap.specs.Slots.{Slot, word, label, pushWords, popWords, popSlots, isWords}
 
 -- The code under check, its results list, and its starts.
-pub record Module : Type 0 where
+pub record Subject : Type 0 where
   pub code : List ℕ
   pub results : List ℕ
   pub marks : Marks
@@ -35,19 +35,19 @@ resultsIn results p = getD results p 0
 
 -- "SWITCH_X counts as SWITCH here". An origin is a start, and DOUBLE stands before none of the three, so that its first byte is its
 -- code.
-abbrev pub isLoop : List ℕ → ℕ → Bool
-isLoop code origin = eqb (byteAt code origin) iterCode
+abbrev pub isIter : List ℕ → ℕ → Bool
+isIter code origin = eqb (byteAt code origin) iterCode
 
-abbrev pub isSelect : List ℕ → ℕ → Bool
-isSelect code origin = eqb (byteAt code origin) switchCode || eqb (byteAt code origin) switchXCode
+abbrev pub isSwitch : List ℕ → ℕ → Bool
+isSwitch code origin = eqb (byteAt code origin) switchCode || eqb (byteAt code origin) switchXCode
 
 -- The place after an ITER.
-abbrev pub loopStart : ℕ → ℕ
-loopStart origin = origin + fixedOf iterOperands
+abbrev pub iterStart : ℕ → ℕ
+iterStart origin = origin + fixedOf iterOperands
 
 -- The word that a label's origin pushes: ITER the next place, a switch its exit label.
 abbrev pub labelWord : List ℕ → ℕ → ℕ
-labelWord code origin = cond (isLoop code origin) (loopStart origin) (exitLabel code origin)
+labelWord code origin = cond (isIter code origin) (iterStart origin) (exitLabel code origin)
 
 -- A successor, and the list that it is given.
 pub data Way : Type 0 where
@@ -76,32 +76,32 @@ abbrev pub straight : ℕ → ℕ → ℕ → List Slot → Option (List Way)
 straight next pops pushes l = after (popWords pops l) (λ rest. next gets pushWords pushes rest ∷ [])
 
 -- NEXT [ adr, first, last, step, label ]: past the loop without the five, or round with all of them.
-abbrev pub again : List ℕ → ℕ → List Slot → Option (List Way)
-again code next [] = none
-again code next (word ∷ l) = none
-again code next (label origin ∷ l) =
-    cond (isLoop code origin)
+abbrev pub nextOut : List ℕ → ℕ → List Slot → Option (List Way)
+nextOut code next [] = none
+nextOut code next (word ∷ l) = none
+nextOut code next (label origin ∷ l) =
+    cond (isIter code origin)
     (after (popWords 4 l) (λ rest. both (next gets rest) (labelWord code origin gets (label origin ∷ l)))) none
 
 -- LEAVE [ label ].
-abbrev pub exit : List ℕ → List Slot → Option (List Way)
-exit code [] = none
-exit code (word ∷ l) = none
-exit code (label origin ∷ l) = cond (isSelect code origin) (some (labelWord code origin gets l ∷ [])) none
+abbrev pub leaveOut : List ℕ → List Slot → Option (List Way)
+leaveOut code [] = none
+leaveOut code (word ∷ l) = none
+leaveOut code (label origin ∷ l) = cond (isSwitch code origin) (some (labelWord code origin gets l ∷ [])) none
 
 -- The ways out of the instruction at an offset of procedure p, of a shape, before `next`, from a list; none where the list is not
 -- as it must be. "JUMP_T and JUMP_F keep the boolean when they jump. CALL takes the callee's parameter words and leaves its result
 -- words. RTN finds exactly its own procedure's result words."
-unfoldable pub ways : Module → ℕ → ℕ → ℕ → Shape → List Slot → Option (List Way)
-ways M p at next (Straight pops pushes) l = straight next pops pushes l
-ways M p at next (Drop n) l = after (dropSlots n l) (λ rest. next gets rest ∷ [])
-ways M p at next (Goto d) l = some (placeAt at d gets l ∷ [])
-ways M p at next (Branch d) l = after (popWords 1 l) (λ rest. both (next gets rest) (placeAt at d gets rest))
-ways M p at next (Keep d) l = after (popWords 1 l) (λ rest. both (next gets rest) (placeAt at d gets l))
-ways M p at next (Loop d) l = after (popWords 4 l) (λ rest. both (next gets (label at ∷ l)) (placeAt at d gets rest))
-ways M p at next Again l = again (M .code) next l
-ways M p at next (Select t n) l = after (popWords 1 l) (λ rest. toAll (selectTargets (M .code) at t n) (label at ∷ rest))
-ways M p at next Exit l = exit (M .code) l
-ways M p at next (Invoke c) l = straight next (parametersIn (M .code) c) (resultsIn (M .results) c) l
-ways M p at next (Begin par) l = straight next par 0 l
-ways M p at next Return l = cond (isWords (resultsIn (M .results) p) l) (some []) none
+unfoldable pub ways : Subject → ℕ → ℕ → ℕ → Shape → List Slot → Option (List Way)
+ways U p at next (Straight pops pushes) l = straight next pops pushes l
+ways U p at next (Pop n) l = after (popSlots n l) (λ rest. next gets rest ∷ [])
+ways U p at next (Jump d) l = some (placeAt at d gets l ∷ [])
+ways U p at next (JumpC d) l = after (popWords 1 l) (λ rest. both (next gets rest) (placeAt at d gets rest))
+ways U p at next (JumpTF d) l = after (popWords 1 l) (λ rest. both (next gets rest) (placeAt at d gets l))
+ways U p at next (Iter d) l = after (popWords 4 l) (λ rest. both (next gets (label at ∷ l)) (placeAt at d gets rest))
+ways U p at next Next l = nextOut (U .code) next l
+ways U p at next (Switch t n) l = after (popWords 1 l) (λ rest. toAll (switchTargets (U .code) at t n) (label at ∷ rest))
+ways U p at next Leave l = leaveOut (U .code) l
+ways U p at next (Call c) l = straight next (parametersIn (U .code) c) (resultsIn (U .results) c) l
+ways U p at next (Enter par) l = straight next par 0 l
+ways U p at next Rtn l = cond (isWords (resultsIn (U .results) p) l) (some []) none

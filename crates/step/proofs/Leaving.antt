@@ -13,7 +13,7 @@ use Rattle.opcode.specs.Decode.{decodeAt}
 use Rattle.opcode.specs.declared.Decoded.{Decoded}
 use Rattle.opcode.specs.declared.Decoded.the-variants.{Unserved, Past, At}
 use Rattle.opcode.specs.declared.instruction.Instruction.{Instruction}
-use Rattle.shape.specs.Counts.{needed}
+use Rattle.shape.specs.Shape.{needed}
 use Rattle.effect.specs.declared.effect.Push.{Push}
 use Rattle.effect.specs.declared.effect.Write.{Write}
 use Rattle.effect.specs.declared.effect.Effect.{Effect}

@@ -10,7 +10,7 @@ use lib.Seq.{sets}
 use Rattle.opcode.specs.Decode.{decodeAt}
 use Rattle.opcode.specs.declared.Decoded.{Decoded}
 use Rattle.opcode.specs.declared.Decoded.the-variants.{Unserved, Past, At}
-use Rattle.shape.specs.Counts.{needed}
+use Rattle.shape.specs.Shape.{needed}
 use Rattle.effect.specs.declared.effect.Push.{Push}
 use Rattle.effect.specs.declared.effect.Push.the-variants.{NoPush, PushOne, PushTwo}
 use Rattle.effect.specs.declared.effect.Write.{Write}

@@ -7,7 +7,7 @@ ghost use lib.ListN.{length, set, take, drop};
 ghost use lib.Seq.{sets};
 ghost use Rattle.state.specs.Fits.{fits};
 ghost use Prim.Native.Nat.{_<_};
-ghost use Rattle.shape.specs.Counts.{needed};
+ghost use Rattle.shape.specs.Shape.{needed};
 ghost use Rattle.registers.specs.Program.{program};
 ghost use Rattle.execute.specs.Depth.{topWords};
 ghost use Rattle.execute.specs.Execute.{execute};

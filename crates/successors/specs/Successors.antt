@@ -5,7 +5,7 @@ use Rattle.words.specs.Series.{series}
 use Rattle.operand.specs.Distance.{placeAt}
 use Rattle.switch_table.specs.Switch.{exitLabel, elseDistance, branchDistance, rangeDistance, orElse}
 use Rattle.shape.specs.declared.Shape.{Shape}
-use Rattle.shape.specs.declared.Shape.the-variants.{Straight, Drop, Goto, Branch, Keep, Loop, Again, Select, Exit, Invoke, Begin, Return}
+use Rattle.shape.specs.declared.Shape.the-variants.{Straight, Pop, Jump, JumpC, JumpTF, Iter, Next, Switch, Leave, Call, Enter, Rtn}
 use Rattle.shape.specs.declared.Table.{Table}
 use Rattle.shape.specs.declared.Table.the-variants.{Branches, Ranges}
 
@@ -24,20 +24,20 @@ abbrev pub tableFrom : List ℕ → ℕ → Table → ℕ → ℕ → List ℕ
 tableFrom code at t k n = series (tableTarget code at t) 1 k n
 
 -- The ELSE part, then every branch of the table.
-unfoldable pub selectTargets : List ℕ → ℕ → Table → ℕ → List ℕ
-selectTargets code at t n = (at + elseDistance code at) ∷ tableFrom code at t 0 (tableSize t n)
+unfoldable pub switchTargets : List ℕ → ℕ → Table → ℕ → List ℕ
+switchTargets code at t n = (at + elseDistance code at) ∷ tableFrom code at t 0 (tableSize t n)
 
 -- The successors of the instruction at an offset, of a shape, before `next`; and the label of a switch.
 abbrev pub targets : List ℕ → ℕ → ℕ → Shape → List ℕ
 targets code at next (Straight pops pushes) = next ∷ []
-targets code at next (Drop n) = next ∷ []
-targets code at next (Goto d) = placeAt at d ∷ []
-targets code at next (Branch d) = next ∷ placeAt at d ∷ []
-targets code at next (Keep d) = next ∷ placeAt at d ∷ []
-targets code at next (Loop d) = next ∷ placeAt at d ∷ []
-targets code at next Again = next ∷ []
-targets code at next (Select t n) = exitLabel code at ∷ selectTargets code at t n
-targets code at next Exit = []
-targets code at next (Invoke p) = next ∷ []
-targets code at next (Begin par) = next ∷ []
-targets code at next Return = []
+targets code at next (Pop n) = next ∷ []
+targets code at next (Jump d) = placeAt at d ∷ []
+targets code at next (JumpC d) = next ∷ placeAt at d ∷ []
+targets code at next (JumpTF d) = next ∷ placeAt at d ∷ []
+targets code at next (Iter d) = next ∷ placeAt at d ∷ []
+targets code at next Next = next ∷ []
+targets code at next (Switch t n) = exitLabel code at ∷ switchTargets code at t n
+targets code at next Leave = []
+targets code at next (Call p) = next ∷ []
+targets code at next (Enter par) = next ∷ []
+targets code at next Rtn = []

@@ -10,7 +10,7 @@ use Rattle.header.specs.Header.{codeOf}
 use Rattle.layout.specs.Cut.{Marks, Cut, bad, cut, cutOf}
 use Rattle.faults.specs.Faults.{codeNumber}
 use Rattle.stackmap.specs.Walk.{States, walkOf}
-use Rattle.verifier.specs.Check.{listNumber, moduleOf, refuted, walked, verdictOf, concluded, checkOf}
+use Rattle.verifier.specs.Check.{listNumber, subjectOf, refuted, walked, verdictOf, concluded, checkOf}
 use Rattle.workspace.specs.Checking.{checking}
 use Rattle.verifier.proofs.Ranges.{list-range, code-range, cut-range}
 use Rattle.verifier.proofs.Records.{Listed, listed}
@@ -32,7 +32,7 @@ answers r results w = by (listNumber r results (length w)) refl
 pub data Judged (code results : List ℕ) : Type 0 where
   miscut : (n : ℕ) → cutOf code ≡ bad n → verdictOf code results ≡ refuted n → Judged code results
   faulty : (marks : Marks) (n : ℕ) → cutOf code ≡ cut marks → codeNumber code marks ≡ suc n → verdictOf code results ≡ refuted (suc n) → Judged code results
-  sound-code : (marks : Marks) → cutOf code ≡ cut marks → codeNumber code marks ≡ 0 → verdictOf code results ≡ walked (walkOf (moduleOf code results marks)) → Judged code results
+  sound-code : (marks : Marks) → cutOf code ≡ cut marks → codeNumber code marks ≡ 0 → verdictOf code results ≡ walked (walkOf (subjectOf code results marks)) → Judged code results
 
 pub judged : (code results : List ℕ) → Judged code results
 unfolding verdictOf
@@ -57,7 +57,7 @@ check-range r results w = by (answers r results w)
     verdict : Judged (codeOf r) results → concluded (length (codeOf r)) w (verdictOf (codeOf r) results) .number ≤ 15
     verdict (miscut n c v) = rw v (let z = cut-range (codeOf r) n c in omega arith)
     verdict (faulty marks n c f v) = rw v (omega (arith, f, code-range (codeOf r) marks))
-    verdict (sound-code marks c f v) = rw v (walks (walkOf (moduleOf (codeOf r) results marks)))
+    verdict (sound-code marks c f v) = rw v (walks (walkOf (subjectOf (codeOf r) results marks)))
 
     by : Answers r results w → checkOf r results w .number ≤ 15
     by (early n f g) = rw g (omega (arith, f, list-range r results (length w)))

@@ -7,9 +7,9 @@ use mathlib.Core.Path.{_≡_}
 use Prim.Native.Nat.{ℕ, _+_, _*_}
 use lib.ListN.{length, getD}
 use Rattle.shape.specs.declared.Table.{Table}
-use Rattle.successors.specs.Successors.{selectTargets}
+use Rattle.successors.specs.Successors.{switchTargets}
 use Rattle.stackmap.specs.Slots.{Slot, word, label, popWords, topOrigin}
-use Rattle.stackmap.specs.Ways.{Way, _gets_, isLoop, isSelect, toAll}
+use Rattle.stackmap.specs.Ways.{Way, _gets_, isIter, isSwitch, toAll}
 use Rattle.stackmap.specs.StackMap.{Map}
 use Rattle.stackmap.specs.Walk.{State, blank, waiting, done}
 use Rattle.compact.specs.declared.top.Top.{Top}
@@ -24,8 +24,8 @@ use Rattle.verifier.specs.Exact.{Shows}
 -- The list l lies under the label of an origin: ITER's label on the list that ITER found, four words on top; a switch's in place of
 -- the word that the switch found.
 pub data Lies (code : List ℕ) (π : Map) (origin : ℕ) (l : List Slot) : Type 0 where
-  on-loop : isLoop code origin ≡ true → π origin ≡ some l → (rest : List Slot) → popWords 4 l ≡ some rest → Lies code π origin l
-  on-select : isLoop code origin ≡ false → isSelect code origin ≡ true → π origin ≡ some (word ∷ l) → Lies code π origin l
+  on-iter : isIter code origin ≡ true → π origin ≡ some l → (rest : List Slot) → popWords 4 l ≡ some rest → Lies code π origin l
+  on-switch : isIter code origin ≡ false → isSwitch code origin ≡ true → π origin ≡ some (word ∷ l) → Lies code π origin l
 
 pub data Coherent (code : List ℕ) (π : Map) : List Slot → Type 0 where
   on-nothing : Coherent code π []
@@ -60,7 +60,7 @@ pub data Stands (code : List ℕ) (at : ℕ) : Ways → Option (List Way) → Ty
   ended : Stands code at Ended (some [])
   one : (a : Way) → Stands code at (One (compactOf a)) (some (a ∷ []))
   two : (a b : Way) → Stands code at (Two (compactOf a) (compactOf b)) (some (a ∷ b ∷ []))
-  many : (t : Table) (n : ℕ) (l : List Slot) → Stands code at (Many t n (topOf l)) (some (toAll (selectTargets code at t n) l))
+  many : (t : Table) (n : ℕ) (l : List Slot) → Stands code at (Many t n (topOf l)) (some (toAll (switchTargets code at t n) l))
 
 -- Every list that is given away is coherent.
 pub data AllCoherent (code : List ℕ) (π : Map) : List Way → Type 0 where

@@ -19,7 +19,7 @@ use Rattle.layout.proofs.Cutting.{Cutted, cutting-starts}
 use Rattle.layout.proofs.Marking.{marking-cuts, marking-refuses, marking-keeps-length, marking-keeps-others}
 use Rattle.stackmap.specs.Theorems.{WellCut}
 use Rattle.stackmap.specs.Walk.{States, blank, walkOf}
-use Rattle.verifier.specs.Check.{moduleOf, refuted, walked, verdictOf, concluded, shownFrom}
+use Rattle.verifier.specs.Check.{subjectOf, refuted, walked, verdictOf, concluded, shownFrom}
 use Rattle.workspace.specs.Checking.{checking}
 use Rattle.verifier.specs.Handing.{walkedTop}
 use Rattle.verifier.specs.Examine.{zeroed, unmarked, afterWalk, afterFaults, afterMarks, examinedTop}
@@ -29,7 +29,7 @@ use Rattle.verifier.proofs.Showing.{unmarked-shows}
 
 -- What a cut of sound entries gives to the walk.
 pub sound : (code results : List ℕ) (marks : Marks) → entriesSound code ≡ true → Bytes code → cutOf code ≡ cut marks
-    → WellCut (moduleOf code results marks)
+    → WellCut (subjectOf code results marks)
 sound code results marks e b c =
     let C : Cutted code marks = cutting-starts code marks e c in
     record { counted = C .some; entries = C .entered; procedures = C .counted; within = C .inside; bytes = b }
@@ -67,7 +67,7 @@ module _ (code results w : List ℕ) (e : entriesSound code ≡ true) (b : Bytes
     is-cut : cutOf code ≡ cut (marksIn marked (length code))
     is-cut = marking-cuts code e zeros room clean number
 
-    alike : Alike (moduleOf code results (marksIn marked (length code))) marked (walkedTop code results marked)
+    alike : Alike (subjectOf code results (marksIn marked (length code))) marked (walkedTop code results marked)
     alike =
         walks-alike code results (marksIn marked (length code)) marked
         (sound code results (marksIn marked (length code)) e b is-cut) (omega (arith, marked-length)) blanks (λ at. refl)
@@ -83,7 +83,7 @@ module _ (code results w : List ℕ) (e : entriesSound code ≡ true) (b : Bytes
               waits = same at 2 h (omega arith);
             }
 
-    walks : (o : Option States) → walkOf (moduleOf code results (marksIn marked (length code))) ≡ o
+    walks : (o : Option States) → walkOf (subjectOf code results (marksIn marked (length code))) ≡ o
         → afterWalk code (walkedTop code results marked) ≡ concluded (length code) w (walked o)
     walks none f =
         rw (alike .refused f) (cleared 15 (walkedTop code results marked .workspace) (alike .sized ∙ marked-length))
@@ -96,8 +96,8 @@ module _ (code results w : List ℕ) (e : entriesSound code ≡ true) (b : Bytes
 
     faults : (n : ℕ) → codeNumber code (marksIn marked (length code)) ≡ n
         → afterFaults code results marked n
-        ≡ concluded (length code) w (cond (eqb n 0) (walked (walkOf (moduleOf code results (marksIn marked (length code))))) (refuted n))
-    faults zero f = walks (walkOf (moduleOf code results (marksIn marked (length code)))) refl
+        ≡ concluded (length code) w (cond (eqb n 0) (walked (walkOf (subjectOf code results (marksIn marked (length code))))) (refuted n))
+    faults zero f = walks (walkOf (subjectOf code results (marksIn marked (length code)))) refl
     faults (suc n) f = rw (eqb·suc-zero n) (cleared (suc n) marked marked-length)
 
   marks : (n : ℕ) → markAll code zeros .number ≡ n → afterMarks code results marked n ≡ concluded (length code) w (verdictOf code results)

@@ -93,9 +93,9 @@ module _ (r results w : List ℕ) where
 pub accepts-only : AcceptsOnly
 accepts-only r results w b e =
     let met = ruled r results w (λ l. e) in
-    let M = subject r results (met .1) in
+    let U = subject r results (met .1) in
     let P = passed r results w e (met .1) in
-    (met .0, met .1, λ p h. (mapIn M p (P .states), finds-maps M (ruled-sound r results w b (met .1)) (P .states) (P .walks) p h))
+    (met .0, met .1, λ p h. (mapIn U p (P .states), finds-maps U (ruled-sound r results w b (met .1)) (P .states) (P .walks) p h))
 
 pub accepts-all : AcceptsAll
 accepts-all r results w b room R maps = rw (ruled-leaves r results w room R) (by (walkOf (subject r results R)) refl)
@@ -118,22 +118,22 @@ refuses-only r results w b e =
     by R (some σ) f g = let z : _≡_ {A = ℕ} 0 15 = rw g at e in absurd (omega arith)
 
 pub refuses-all : RefusesAll
-refuses-all r results w b room R U = rw (ruled-leaves r results w room R) (by (walkOf (subject r results R)) refl)
+refuses-all r results w b room R N = rw (ruled-leaves r results w room R) (by (walkOf (subject r results R)) refl)
   where
     by : (o : Option States) → walkOf (subject r results R) ≡ o → concluded (length (codeOf r)) w (walked o) .number ≡ 15
     by none f = refl
     by (some σ) f =
-        let M = subject r results R in
-        absurd (U .2 (mapIn M (U .0) σ) (finds-maps M (ruled-sound r results w b R) σ f (U .0) (U .1)))
+        let U = subject r results R in
+        absurd (N .2 (mapIn U (N .0) σ) (finds-maps U (ruled-sound r results w b R) σ f (N .0) (N .1)))
 
 -- What is reached has its list in the states found.
 pub shows-reached : ShowsReached
 shows-reached r results w b e R p h at l reached =
-    let M = subject r results R in
+    let U = subject r results R in
     let S = ruled-sound r results w b R in
     let P = passed r results w e R in
-    let has = has-reached M p (mapIn M p (P .states)) (finds-maps M S (P .states) (P .walks) p h) at l reached in
-    let told = in-told M p (P .states) at l has in
+    let has = has-reached U p (mapIn U p (P .states)) (finds-maps U S (P .states) (P .walks) p h) at l reached in
+    let told = in-told U p (P .states) at l has in
     let near = S .within p at (told .0) in
     let s = state-shows (P .states at) l (told .1) in
     record {

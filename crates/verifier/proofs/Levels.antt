@@ -12,10 +12,10 @@ use lib.ListN.{length}
 use borrow.Author.Tests.{eqb-true, eq-eqb, ne-eqb}
 use Rattle.words.specs.Bytes.{byteAt}
 use Rattle.stackmap.specs.Slots.{Slot, word, label, popWords, isWords, topOrigin}
-use Rattle.stackmap.specs.Ways.{isLoop, isSelect}
+use Rattle.stackmap.specs.Ways.{isIter, isSwitch}
 use Rattle.stackmap.specs.StackMap.{Map}
 use Rattle.compact.specs.Tops.{labelHeight, originUnder, labelled, lowered}
-use Rattle.verifier.proofs.Coherence.{Lies, on-loop, on-select, Coherent, on-nothing, on-word, on-label, ShowsMap, topOf}
+use Rattle.verifier.proofs.Coherence.{Lies, on-iter, on-switch, Coherent, on-nothing, on-word, on-label, ShowsMap, topOf}
 
 -- The height up to and with the topmost label.
 abbrev pub level : List Slot → ℕ
@@ -51,19 +51,19 @@ words-test (suc n) [] = rw (eqb·zero-suc n)
 words-test (suc n) (word ∷ l) = rw (eqb·suc-suc (length l) n) (words-test n l)
 words-test (suc n) (label m ∷ l) = rw (ne-eqb (m + 1) 0 (λ e. omega arith), and-false (eqb (suc (length l)) (suc n)))
 
-pub loop-not-select : (code : List ℕ) (m : ℕ) → isLoop code m ≡ true → isSelect code m ≡ false
-loop-not-select code m e =
+pub iter-not-switch : (code : List ℕ) (m : ℕ) → isIter code m ≡ true → isSwitch code m ≡ false
+iter-not-switch code m e =
     let b : byteAt code m ≡ 0xE0 = eqb-true (byteAt code m) 0xE0 e in
     rw b
 
 module _ {code w : List ℕ} {π : Map} (S : ShowsMap w π) where
   lies-height : (m : ℕ) (l : List Slot) → Lies code π m l → labelHeight code w (suc m) ≡ suc (length l)
-  lies-height m l (on-loop a e r p) = rw (a, S m l e .height) (omega arith)
-  lies-height m l (on-select a b e) = rw (a, S m (word ∷ l) e .height) (omega arith)
+  lies-height m l (on-iter a e r p) = rw (a, S m l e .height) (omega arith)
+  lies-height m l (on-switch a b e) = rw (a, S m (word ∷ l) e .height) (omega arith)
 
   lies-origin : (m : ℕ) (l : List Slot) → Lies code π m l → originUnder w (suc m) ≡ topOrigin l
-  lies-origin m l (on-loop a e r p) = S m l e .origin
-  lies-origin m l (on-select a b e) = S m (word ∷ l) e .origin
+  lies-origin m l (on-iter a e r p) = S m l e .origin
+  lies-origin m l (on-switch a b e) = S m (word ∷ l) e .origin
 
   pub at-level : (l : List Slot) → Coherent code π l → labelHeight code w (topOrigin l) ≡ level l
   at-level l on-nothing = refl

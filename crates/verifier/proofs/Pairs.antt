@@ -9,14 +9,14 @@ use lib.ListN.{length}
 use Rattle.stackmap.specs.Slots.{Slot, word, topOrigin}
 use Rattle.stackmap.specs.StackMap.{Map}
 use Rattle.stackmap.proofs.Placing.{Grows}
-use Rattle.verifier.proofs.Coherence.{Lies, on-loop, on-select, Coherent, on-nothing, on-word, on-label}
+use Rattle.verifier.proofs.Coherence.{Lies, on-iter, on-switch, Coherent, on-nothing, on-word, on-label}
 
 module _ (code : List ℕ) (π : Map) where
   lies-same : (m : ℕ) (l k : List Slot) → Lies code π m l → Lies code π m k → l ≡ k
-  lies-same m l k (on-loop a e r p) (on-loop b f s q) = cc
-  lies-same m l k (on-loop a e r p) (on-select b c f) = absurd (true≢false (sym a ∙ b))
-  lies-same m l k (on-select a d e) (on-loop b f s q) = absurd (true≢false (sym b ∙ a))
-  lies-same m l k (on-select a d e) (on-select b c f) = cc
+  lies-same m l k (on-iter a e r p) (on-iter b f s q) = cc
+  lies-same m l k (on-iter a e r p) (on-switch b c f) = absurd (true≢false (sym a ∙ b))
+  lies-same m l k (on-switch a d e) (on-iter b f s q) = absurd (true≢false (sym b ∙ a))
+  lies-same m l k (on-switch a d e) (on-switch b c f) = cc
 
   lies-equal : (m n : ℕ) (l k : List Slot) → m ≡ n → Lies code π m l → Lies code π n k → l ≡ k
   lies-equal m n l k e L K = lies-same n l k (rw e at L) K
@@ -44,8 +44,8 @@ module _ (code : List ℕ) (π : Map) where
       rw (same, lies-equal m n r s same L K)
 
 lies-grows : (code : List ℕ) (π π' : Map) (m : ℕ) (l : List Slot) → Grows π π' → Lies code π m l → Lies code π' m l
-lies-grows code π π' m l g (on-loop a e r p) = on-loop a (g m l e) r p
-lies-grows code π π' m l g (on-select a b e) = on-select a b (g m (word ∷ l) e)
+lies-grows code π π' m l g (on-iter a e r p) = on-iter a (g m l e) r p
+lies-grows code π π' m l g (on-switch a b e) = on-switch a b (g m (word ∷ l) e)
 
 pub coherent-grows : (code : List ℕ) (π π' : Map) (l : List Slot) → Grows π π' → Coherent code π l → Coherent code π' l
 coherent-grows code π π' l g on-nothing = on-nothing

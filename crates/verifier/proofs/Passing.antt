@@ -15,13 +15,13 @@ use Rattle.opcode.specs.declared.Decoded.the-variants.{At}
 use Rattle.opcode.specs.declared.instruction.Instruction.{Instruction}
 use Rattle.shape.specs.Shape.{shapeOf}
 use Rattle.shape.specs.declared.Shape.{Shape}
-use Rattle.shape.specs.declared.Shape.the-variants.{Straight, Drop, Goto, Branch, Keep, Loop, Again, Select, Exit, Invoke, Begin, Return}
-use Rattle.shape.proofs.Origins.{loop-origin, select-origin}
-use Rattle.successors.specs.Successors.{selectTargets}
-use Rattle.stackmap.specs.Slots.{Slot, word, label, pushWords, popWords, dropSlots, isWords}
-use Rattle.stackmap.specs.Ways.{Module, Way, _gets_, isLoop, isSelect, labelWord, after, both, toAll, straight, again, exit, ways, parametersIn, resultsIn}
+use Rattle.shape.specs.declared.Shape.the-variants.{Straight, Pop, Jump, JumpC, JumpTF, Iter, Next, Switch, Leave, Call, Enter, Rtn}
+use Rattle.shape.proofs.Origins.{iter-origin, switch-origin}
+use Rattle.successors.specs.Successors.{switchTargets}
+use Rattle.stackmap.specs.Slots.{Slot, word, label, pushWords, popWords, popSlots, isWords}
+use Rattle.stackmap.specs.Ways.{Subject, Way, _gets_, isIter, isSwitch, labelWord, after, both, toAll, straight, nextOut, leaveOut, ways, parametersIn, resultsIn}
 use Rattle.stackmap.specs.StackMap.{Map}
-use Rattle.verifier.proofs.Coherence.{Lies, on-loop, on-select, Coherent, on-nothing, on-word, on-label, AllCoherent, no-way, a-way}
+use Rattle.verifier.proofs.Coherence.{Lies, on-iter, on-switch, Coherent, on-nothing, on-word, on-label, AllCoherent, no-way, a-way}
 
 -- What is given away, if anything, is coherent.
 data Passes (code : List ℕ) (π : Map) : Option (List Way) → Type 0 where
@@ -58,7 +58,7 @@ module _ {code : List ℕ} {π : Map} where
   under-words (suc n) l rest (on-word {l = r} c) e = under-words n r rest c e
   under-words (suc n) l rest (on-label L c) e = absurd (Option·none-ne-some rest e)
 
-  under-slots : (n : ℕ) (l rest : List Slot) → Coherent code π l → dropSlots n l ≡ some rest → Coherent code π rest
+  under-slots : (n : ℕ) (l rest : List Slot) → Coherent code π l → popSlots n l ≡ some rest → Coherent code π rest
   under-slots zero l rest c e = let s : l ≡ rest = cc in rw s at c
   under-slots (suc n) l rest on-nothing e = absurd (Option·none-ne-some rest e)
   under-slots (suc n) l rest (on-word {l = r} c) e = under-slots n r rest c e
@@ -68,60 +68,60 @@ module _ {code : List ℕ} {π : Map} where
   straight-passes next pops pushes l c =
       passes-after (popWords pops l) λ rest e. one-way (pushed pushes rest (under-words pops l rest c e))
 
-  again-passes : (next : ℕ) (l : List Slot) → Coherent code π l → Passes code π (again code next l)
-  again-passes next l on-nothing = nothing
-  again-passes next l (on-word c) = nothing
-  again-passes next l (on-label {origin = m} {l = r} L c) =
-      either (Passes code π) (isLoop code m) (after (popWords 4 r) (λ rest. both (next gets rest) (labelWord code m gets (label m ∷ r)))) none
+  next-passes : (next : ℕ) (l : List Slot) → Coherent code π l → Passes code π (nextOut code next l)
+  next-passes next l on-nothing = nothing
+  next-passes next l (on-word c) = nothing
+  next-passes next l (on-label {origin = m} {l = r} L c) =
+      either (Passes code π) (isIter code m) (after (popWords 4 r) (λ rest. both (next gets rest) (labelWord code m gets (label m ∷ r)))) none
       (passes-after (popWords 4 r) λ rest e. both-ways next (labelWord code m) rest (label m ∷ r) (under-words 4 r rest c e) (on-label L c)) nothing
 
-  exit-passes : (l : List Slot) → Coherent code π l → Passes code π (exit code l)
-  exit-passes l on-nothing = nothing
-  exit-passes l (on-word c) = nothing
-  exit-passes l (on-label {origin = m} {l = r} L c) =
-      either (Passes code π) (isSelect code m) (some (labelWord code m gets r ∷ [])) none (passing (one-way c)) nothing
+  leave-passes : (l : List Slot) → Coherent code π l → Passes code π (leaveOut code l)
+  leave-passes l on-nothing = nothing
+  leave-passes l (on-word c) = nothing
+  leave-passes l (on-label {origin = m} {l = r} L c) =
+      either (Passes code π) (isSwitch code m) (some (labelWord code m gets r ∷ [])) none (passing (one-way c)) nothing
 
   -- A switch's label lies in place of the word that it pops.
-  select-lies : (at : ℕ) (l rest : List Slot) → isLoop code at ≡ false → isSelect code at ≡ true → π at ≡ some l
+  switch-lies : (at : ℕ) (l rest : List Slot) → isIter code at ≡ false → isSwitch code at ≡ true → π at ≡ some l
       → popWords 1 l ≡ some rest → Lies code π at rest
-  select-lies at [] rest a b e p = absurd (Option·none-ne-some rest p)
-  select-lies at (word ∷ l) rest a b e p = on-select a b (cc)
-  select-lies at (label m ∷ l) rest a b e p = absurd (Option·none-ne-some rest p)
+  switch-lies at [] rest a b e p = absurd (Option·none-ne-some rest p)
+  switch-lies at (word ∷ l) rest a b e p = on-switch a b (cc)
+  switch-lies at (label m ∷ l) rest a b e p = absurd (Option·none-ne-some rest p)
 
-shape-passes : (M : Module) (p at next limit : ℕ) (i : Instruction) (s : Shape) (π : Map) (l : List Slot) → shapeOf i ≡ s
-    → decodeAt (M .code) limit at ≡ At i next → Coherent (M .code) π l → π at ≡ some l
-    → Passes (M .code) π (ways M p at next s l)
+shape-passes : (U : Subject) (p at next limit : ℕ) (i : Instruction) (s : Shape) (π : Map) (l : List Slot) → shapeOf i ≡ s
+    → decodeAt (U .code) limit at ≡ At i next → Coherent (U .code) π l → π at ≡ some l
+    → Passes (U .code) π (ways U p at next s l)
 unfolding ways
-shape-passes M p at next limit i (Straight pops pushes) π l q d c e = straight-passes next pops pushes l c
-shape-passes M p at next limit i (Drop n) π l q d c e =
-    passes-after (dropSlots n l) λ rest h. one-way (under-slots n l rest c h)
-shape-passes M p at next limit i (Goto t) π l q d c e = passing (one-way c)
-shape-passes M p at next limit i (Branch t) π l q d c e =
+shape-passes U p at next limit i (Straight pops pushes) π l q d c e = straight-passes next pops pushes l c
+shape-passes U p at next limit i (Pop n) π l q d c e =
+    passes-after (popSlots n l) λ rest h. one-way (under-slots n l rest c h)
+shape-passes U p at next limit i (Jump t) π l q d c e = passing (one-way c)
+shape-passes U p at next limit i (JumpC t) π l q d c e =
     passes-after (popWords 1 l) λ rest h.
     let r = under-words 1 l rest c h in
     both-ways next (placeAt at t) rest rest r r
-shape-passes M p at next limit i (Keep t) π l q d c e =
+shape-passes U p at next limit i (JumpTF t) π l q d c e =
     passes-after (popWords 1 l) λ rest h. both-ways next (placeAt at t) rest l (under-words 1 l rest c h) c
-shape-passes M p at next limit i (Loop t) π l q d c e =
-    let o = loop-origin (M .code) limit at next i d q in
+shape-passes U p at next limit i (Iter t) π l q d c e =
+    let o = iter-origin (U .code) limit at next i d q in
     passes-after (popWords 4 l) λ rest h.
     both-ways next (placeAt at t) (label at ∷ l) rest
-    (on-label (on-loop (eq-eqb (byteAt (M .code) at) 0xE0 (o .0)) e rest h) c) (under-words 4 l rest c h)
-shape-passes M p at next limit i Again π l q d c e = again-passes next l c
-shape-passes M p at next limit i (Select t n) π l q d c e =
-    let o = select-origin (M .code) limit at next i d q in
+    (on-label (on-iter (eq-eqb (byteAt (U .code) at) 0xE0 (o .0)) e rest h) c) (under-words 4 l rest c h)
+shape-passes U p at next limit i Next π l q d c e = next-passes next l c
+shape-passes U p at next limit i (Switch t n) π l q d c e =
+    let o = switch-origin (U .code) limit at next i d q in
     passes-after (popWords 1 l) λ rest h.
-    all-ways (selectTargets (M .code) at t n) (label at ∷ rest)
-    (on-label (select-lies at l rest (o .0) (o .1) e h) (under-words 1 l rest c h))
-shape-passes M p at next limit i Exit π l q d c e = exit-passes l c
-shape-passes M p at next limit i (Invoke f) π l q d c e =
-    straight-passes next (parametersIn (M .code) f) (resultsIn (M .results) f) l c
-shape-passes M p at next limit i (Begin par) π l q d c e = straight-passes next par 0 l c
-shape-passes M p at next limit i Return π l q d c e =
-    either (Passes (M .code) π) (isWords (resultsIn (M .results) p) l) (some []) none (passing no-way) nothing
+    all-ways (switchTargets (U .code) at t n) (label at ∷ rest)
+    (on-label (switch-lies at l rest (o .0) (o .1) e h) (under-words 1 l rest c h))
+shape-passes U p at next limit i Leave π l q d c e = leave-passes l c
+shape-passes U p at next limit i (Call f) π l q d c e =
+    straight-passes next (parametersIn (U .code) f) (resultsIn (U .results) f) l c
+shape-passes U p at next limit i (Enter par) π l q d c e = straight-passes next par 0 l c
+shape-passes U p at next limit i Rtn π l q d c e =
+    either (Passes (U .code) π) (isWords (resultsIn (U .results) p) l) (some []) none (passing no-way) nothing
 
-pub ways-coherent : (M : Module) (p at next limit : ℕ) (i : Instruction) (π : Map) (l : List Slot) (out : List Way)
-    → decodeAt (M .code) limit at ≡ At i next → Coherent (M .code) π l → π at ≡ some l
-    → ways M p at next (shapeOf i) l ≡ some out → AllCoherent (M .code) π out
-ways-coherent M p at next limit i π l out d c e f =
-    passes-some (subst (Passes (M .code) π) f (shape-passes M p at next limit i (shapeOf i) π l refl d c e))
+pub ways-coherent : (U : Subject) (p at next limit : ℕ) (i : Instruction) (π : Map) (l : List Slot) (out : List Way)
+    → decodeAt (U .code) limit at ≡ At i next → Coherent (U .code) π l → π at ≡ some l
+    → ways U p at next (shapeOf i) l ≡ some out → AllCoherent (U .code) π out
+ways-coherent U p at next limit i π l out d c e f =
+    passes-some (subst (Passes (U .code) π) f (shape-passes U p at next limit i (shapeOf i) π l refl d c e))

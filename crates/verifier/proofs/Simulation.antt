@@ -10,11 +10,11 @@ use borrow.Author.Tests.{lt-ltb, le-ltb}
 use Rattle.layout.specs.Cut.{Marks}
 use Rattle.layout.specs.Workspace.{marksIn}
 use Rattle.stackmap.specs.Slots.{Slot}
-use Rattle.stackmap.specs.Ways.{Module}
+use Rattle.stackmap.specs.Ways.{Subject}
 use Rattle.stackmap.specs.Walk.{State, blank, waiting, done, States, Found, thenHand, visitNext, walk, firstStates, walkOf}
 use Rattle.stackmap.specs.Theorems.{WellCut}
 use Rattle.stackmap.proofs.Exact.{final}
-use Rattle.verifier.specs.Check.{moduleOf}
+use Rattle.verifier.specs.Check.{subjectOf}
 use Rattle.verifier.specs.Handing.{Handing, Walking, walking, thenWalk, visitFirst, walkTop, walkedTop}
 use Rattle.verifier.proofs.Coherence.{waitsIn, Shown}
 use Rattle.verifier.proofs.Keeping.{Held, Sim}
@@ -24,43 +24,43 @@ use Rattle.verifier.proofs.Visiting.{visit-alike}
 use Rattle.verifier.proofs.Starting.{firstSpace, start-alike}
 
 -- How both walks end from a workspace.
-data Ending (M : Module) (w : List ℕ) : Walking → Option States → Type 0 where
-  both-refuse : {v : List ℕ} → length v ≡ length w → Ending M w (walking false v) none
-  both-accept : {v : List ℕ} {τ : States} → length v ≡ length w → Held M v τ → Ending M w (walking true v) (some τ)
+data Ending (U : Subject) (w : List ℕ) : Walking → Option States → Type 0 where
+  both-refuse : {v : List ℕ} → length v ≡ length w → Ending U w (walking false v) none
+  both-accept : {v : List ℕ} {τ : States} → length v ≡ length w → Held U v τ → Ending U w (walking true v) (some τ)
 
-ending-after : {M : Module} {w v : List ℕ} {W : Walking} {o : Option States} → length v ≡ length w → Ending M v W o
-    → Ending M w W o
+ending-after : {U : Subject} {w v : List ℕ} {W : Walking} {o : Option States} → length v ≡ length w → Ending U v W o
+    → Ending U w W o
 ending-after K (both-refuse k) = both-refuse (k ∙ K)
 ending-after K (both-accept k h) = both-accept (k ∙ K) h
 
-ending-then : {M : Module} {w : List ℕ} {σ : States} (go : ℕ → List ℕ → Walking) (goes : States → Option States) {h : Handing}
-    {o : Option States} → Parallel M w σ h o
-    → ((v : List ℕ) (τ : States) (from : ℕ) → Sim M v τ from → Ending M v (go from v) (goes τ))
-    → Ending M w (thenWalk go (h .answer) (h .workspace)) (thenHand goes o)
+ending-then : {U : Subject} {w : List ℕ} {σ : States} (go : ℕ → List ℕ → Walking) (goes : States → Option States) {h : Handing}
+    {o : Option States} → Parallel U w σ h o
+    → ((v : List ℕ) (τ : States) (from : ℕ) → Sim U v τ from → Ending U v (go from v) (goes τ))
+    → Ending U w (thenWalk go (h .answer) (h .workspace)) (thenHand goes o)
 ending-then go goes (both-stop k) next = both-refuse k
 ending-then go goes (both-go {v} {τ} {from} k g X) next = ending-after k (next v τ from X)
 
 -- What the workspace is when the walk went through.
-pub record Accepted (M : Module) (σ : States) (W : Walking) : Type 0 where
+pub record Accepted (U : Subject) (σ : States) (W : Walking) : Type 0 where
   pub accepts : W .accepts ≡ true
-  pub shown : (at : ℕ) → at < length (M .code) → Shown (W .workspace) at (σ at)
-  pub cleared : (at : ℕ) → at < length (M .code) → getD (W .workspace) (4 * at + 2) 0 ≡ 0
+  pub shown : (at : ℕ) → at < length (U .code) → Shown (W .workspace) at (σ at)
+  pub cleared : (at : ℕ) → at < length (U .code) → getD (W .workspace) (4 * at + 2) 0 ≡ 0
 
 -- The walk W from workspace w, beside that over whole lists.
-pub record Alike (M : Module) (w : List ℕ) (W : Walking) : Type 0 where
+pub record Alike (U : Subject) (w : List ℕ) (W : Walking) : Type 0 where
   pub sized : length (W .workspace) ≡ length w
-  pub refused : walkOf M ≡ none → W .accepts ≡ false
-  pub accepted : (σ : States) → walkOf M ≡ some σ → Accepted M σ W
+  pub refused : walkOf U ≡ none → W .accepts ≡ false
+  pub accepted : (σ : States) → walkOf U ≡ some σ → Accepted U σ W
 
 third-cleared : (s : State) → ((l : List Slot) → s ≡ waiting l → ⊥) → waitsIn s ≡ 0
 third-cleared blank free = refl
 third-cleared (waiting l) free = absurd (free l refl)
 third-cleared (done l) free = refl
 
-ending-alike : (M : Module) (w : List ℕ) → WellCut M → {W : Walking} (o : Option States) → walkOf M ≡ o → Ending M w W o → Alike M w W
-ending-alike M w S none e (both-refuse k) =
+ending-alike : (U : Subject) (w : List ℕ) → WellCut U → {W : Walking} (o : Option States) → walkOf U ≡ o → Ending U w W o → Alike U w W
+ending-alike U w S none e (both-refuse k) =
     record { sized = k; refused = λ g. refl; accepted = λ σ g. absurd (Option·none-ne-some σ (sym e ∙ g)) }
-ending-alike M w S (some τ) e (both-accept {v} k H) =
+ending-alike U w S (some τ) e (both-accept {v} k H) =
     record {
       sized = k;
       refused = λ g. absurd (Option·none-ne-some τ (sym g ∙ e));
@@ -69,31 +69,31 @@ ending-alike M w S (some τ) e (both-accept {v} k H) =
           rw (← same) (record {
             accepts = refl;
             shown = H .shown;
-            cleared = λ at h. H .shown at h .waits ∙ third-cleared (τ at) (final M S τ e .idle at);
+            cleared = λ at h. H .shown at h .waits ∙ third-cleared (τ at) (final U S τ e .idle at);
           });
     }
 
-walk-alike : (M : Module) → WellCut M → (n : ℕ) (w : List ℕ) (σ : States) (from : ℕ) → Sim M w σ from
-    → Ending M w (walkTop (M .code) (M .results) n from w) (walk M n σ)
-walk-alike M S zero w σ from X = both-accept refl (X .held)
-walk-alike M S (suc n) w σ from X =
-    by (walk-alike M S n) (finds (length (M .code)) w σ (X .held .shown) from (X .clear))
+walk-alike : (U : Subject) → WellCut U → (n : ℕ) (w : List ℕ) (σ : States) (from : ℕ) → Sim U w σ from
+    → Ending U w (walkTop (U .code) (U .results) n from w) (walk U n σ)
+walk-alike U S zero w σ from X = both-accept refl (X .held)
+walk-alike U S (suc n) w σ from X =
+    by (walk-alike U S n) (finds (length (U .code)) w σ (X .held .shown) from (X .clear))
   where
-    by : ((v : List ℕ) (τ : States) (next : ℕ) → Sim M v τ next → Ending M v (walkTop (M .code) (M .results) n next v) (walk M n τ))
-        → {at : ℕ} {f : Found} → Finds (length (M .code)) σ at f
-        → Ending M w (visitFirst (M .code) (M .results) (walkTop (M .code) (M .results) n) at w) (visitNext M (walk M n) σ f)
-    by go (finds-none {at} h) = rw (le-ltb at (length (M .code)) h) (both-accept refl (X .held))
+    by : ((v : List ℕ) (τ : States) (next : ℕ) → Sim U v τ next → Ending U v (walkTop (U .code) (U .results) n next v) (walk U n τ))
+        → {at : ℕ} {f : Found} → Finds (length (U .code)) σ at f
+        → Ending U w (visitFirst (U .code) (U .results) (walkTop (U .code) (U .results) n) at w) (visitNext U (walk U n) σ f)
+    by go (finds-none {at} h) = rw (le-ltb at (length (U .code)) h) (both-accept refl (X .held))
     by go (finds-one {at} {l} h e c) =
-        rw (lt-ltb at (length (M .code)) h)
-        (ending-then (walkTop (M .code) (M .results) n) (walk M n)
-        (visit-alike M S w σ from X at l h e c) go)
+        rw (lt-ltb at (length (U .code)) h)
+        (ending-then (walkTop (U .code) (U .results) n) (walk U n)
+        (visit-alike U S w σ from X at l h e c) go)
 
-pub walks-alike : (code results : List ℕ) (marks : Marks) (w : List ℕ) → WellCut (moduleOf code results marks)
+pub walks-alike : (code results : List ℕ) (marks : Marks) (w : List ℕ) → WellCut (subjectOf code results marks)
     → 4 * length code ≤ length w → ((at : ℕ) → at < length code → Shown w at blank) → ((at : ℕ) → marksIn w (length code) at ≡ marks at)
-    → Alike (moduleOf code results marks) w (walkedTop code results w)
+    → Alike (subjectOf code results marks) w (walkedTop code results w)
 unfolding walkedTop walkOf
 walks-alike code results marks w S room blanks agree =
-    let M = moduleOf code results marks in
-    let first = start-alike M w S room blanks agree in
-    ending-alike M w S (walkOf M) refl
-    (ending-after (first .0) (walk-alike M S (length code) (firstSpace code w) (firstStates M) 0 (first .1)))
+    let U = subjectOf code results marks in
+    let first = start-alike U w S room blanks agree in
+    ending-alike U w S (walkOf U) refl
+    (ending-after (first .0) (walk-alike U S (length code) (firstSpace code w) (firstStates U) 0 (first .1)))

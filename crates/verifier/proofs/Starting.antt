@@ -9,7 +9,7 @@ use Rattle.entries.specs.Entries.{entryAt, entryCount}
 use Rattle.layout.specs.Cut.{updated}
 use Rattle.layout.specs.Workspace.{marksIn}
 use Rattle.stackmap.specs.Slots.{Slot, pushWords}
-use Rattle.stackmap.specs.Ways.{Module, parametersIn}
+use Rattle.stackmap.specs.Ways.{Subject, parametersIn}
 use Rattle.stackmap.specs.StackMap.{Map}
 use Rattle.stackmap.specs.Walk.{blank, waiting, States, mapOf, entriesWait, firstStates}
 use Rattle.stackmap.specs.Theorems.{WellCut}
@@ -23,13 +23,13 @@ use Rattle.verifier.proofs.Fields.{Within, within-given, given-shown}
 use Rattle.verifier.proofs.Keeping.{Held, held-change, Sim}
 
 -- Only lists that are coherent with any map have been given.
-record Fresh (M : Module) (start w : List ℕ) (σ : States) : Type 0 where
+record Fresh (U : Subject) (start w : List ℕ) (σ : States) : Type 0 where
   kept : length w ≡ length start
-  held : Held M w σ
-  free : (at : ℕ) (l : List Slot) → mapOf σ at ≡ some l → (π : Map) → Coherent (M .code) π l
+  held : Held U w σ
+  free : (at : ℕ) (l : List Slot) → mapOf σ at ≡ some l → (π : Map) → Coherent (U .code) π l
 
 -- An offset is given n words.
-module _ (M : Module) (start w : List ℕ) (σ : States) (F : Fresh M start w σ) (t n : ℕ) (h : t < length (M .code)) where
+module _ (U : Subject) (start w : List ℕ) (σ : States) (F : Fresh U start w σ) (t n : ℕ) (h : t < length (U .code)) where
   here : Within t w (given w t n 0)
   here = within-given t w n 0
 
@@ -37,44 +37,44 @@ module _ (M : Module) (start w : List ℕ) (σ : States) (F : Fresh M start w σ
   words-shown =
       rw (words-height n, pushed-origin n []) at (given-shown t w (pushWords n []) (omega (arith, F .held .room)))
 
-  words-given : Fresh M start (given w t n 0) (updated σ t (waiting (pushWords n [])))
+  words-given : Fresh U start (given w t n 0) (updated σ t (waiting (pushWords n [])))
   words-given =
       record {
         kept = here .long ∙ F .kept;
-        held = held-change M w (given w t n 0) σ t (waiting (pushWords n [])) (pushWords n []) here h refl (F .held) words-shown;
+        held = held-change U w (given w t n 0) σ t (waiting (pushWords n [])) (pushWords n []) here h refl (F .held) words-shown;
         free = told-change σ t (waiting (pushWords n [])) (pushWords n []) refl
-            (λ (at : ℕ) (l : List Slot). (π : Map) → Coherent (M .code) π l) (λ π. pushed n [] on-nothing) (F .free);
+            (λ (at : ℕ) (l : List Slot). (π : Map) → Coherent (U .code) π l) (λ π. pushed n [] on-nothing) (F .free);
       }
 
-module _ (M : Module) (S : WellCut M) (start : List ℕ) where
-  enter-one : (p : ℕ) (w : List ℕ) (σ : States) → p < entryCount (M .code) → Fresh M start w σ
-      → Fresh M start (entryGiven (M .code) p w) (entering M p σ)
+module _ (U : Subject) (S : WellCut U) (start : List ℕ) where
+  enter-one : (p : ℕ) (w : List ℕ) (σ : States) → p < entryCount (U .code) → Fresh U start w σ
+      → Fresh U start (entryGiven (U .code) p w) (entering U p σ)
   unfolding entryGiven
   enter-one p w σ b F =
-      words-given M start w σ F (entryAt (M .code) p) (parametersIn (M .code) p) (S .within p (entryAt (M .code) p) (S .entries p b))
+      words-given U start w σ F (entryAt (U .code) p) (parametersIn (U .code) p) (S .within p (entryAt (U .code) p) (S .entries p b))
 
-  enter-all : (n p : ℕ) (w : List ℕ) (σ : States) → p + n ≤ entryCount (M .code) → Fresh M start w σ
-      → Fresh M start (entriesGiven (M .code) p n w) (entriesWait M p n σ)
+  enter-all : (n p : ℕ) (w : List ℕ) (σ : States) → p + n ≤ entryCount (U .code) → Fresh U start w σ
+      → Fresh U start (entriesGiven (U .code) p n w) (entriesWait U p n σ)
   enter-all zero p w σ b F = enter-one 0 w σ (S .counted) F
   enter-all (suc n) p w σ b F =
-      enter-all n (p + 1) (entryGiven (M .code) p w) (entering M p σ) (omega arith) (enter-one p w σ (omega arith) F)
+      enter-all n (p + 1) (entryGiven (U .code) p w) (entering U p σ) (omega arith) (enter-one p w σ (omega arith) F)
 
 abbrev pub firstSpace : List ℕ → List ℕ → List ℕ
 firstSpace code w = entriesGiven code 1 (entryCount code - 1) w
 
-pub start-alike : (M : Module) (w : List ℕ) → WellCut M → 4 * length (M .code) ≤ length w
-    → ((at : ℕ) → at < length (M .code) → Shown w at blank) → ((at : ℕ) → marksIn w (length (M .code)) at ≡ M .marks at)
-    → (length (firstSpace (M .code) w) ≡ length w) × Sim M (firstSpace (M .code) w) (firstStates M) 0
-start-alike M w S room blanks marks =
-    let bare : Held M w (λ at. blank) =
+pub start-alike : (U : Subject) (w : List ℕ) → WellCut U → 4 * length (U .code) ≤ length w
+    → ((at : ℕ) → at < length (U .code) → Shown w at blank) → ((at : ℕ) → marksIn w (length (U .code)) at ≡ U .marks at)
+    → (length (firstSpace (U .code) w) ≡ length w) × Sim U (firstSpace (U .code) w) (firstStates U) 0
+start-alike U w S room blanks marks =
+    let bare : Held U w (λ at. blank) =
     record { room = room; marks = marks; shown = blanks; inside = λ at l e. absurd (Option·none-ne-some l e) } in
-    let F : Fresh M w (firstSpace (M .code) w) (firstStates M) =
-    enter-all M S w (entryCount (M .code) - 1) 1 w (λ at. blank) (omega (arith, S .counted))
+    let F : Fresh U w (firstSpace (U .code) w) (firstStates U) =
+    enter-all U S w (entryCount (U .code) - 1) 1 w (λ at. blank) (omega (arith, S .counted))
     (record { kept = refl; held = bare; free = λ at l e. absurd (Option·none-ne-some l e) }) in
-    let first : Sim M (firstSpace (M .code) w) (firstStates M) 0 =
+    let first : Sim U (firstSpace (U .code) w) (firstStates U) 0 =
     record {
       held = F .held;
-      coherent = λ at l e. F .free at l e (mapOf (firstStates M));
+      coherent = λ at l e. F .free at l e (mapOf (firstStates U));
       clear = λ at l h e. absurd (omega arith);
     } in
     (F .kept, first)

@@ -15,7 +15,7 @@ use Rattle.opcode.specs.declared.Decoded.the-variants.{Unserved, Past, At}
 use Rattle.shape.specs.Shape.{shapeOf}
 use Rattle.layout.specs.Cut.{updated}
 use Rattle.stackmap.specs.Slots.{Slot, topOrigin}
-use Rattle.stackmap.specs.Ways.{Module}
+use Rattle.stackmap.specs.Ways.{Subject}
 use Rattle.stackmap.specs.StackMap.{waysOf, waysAt}
 use Rattle.stackmap.specs.Walk.{waiting, done, States, slotsIn, mapOf, passed, visited}
 use Rattle.stackmap.specs.Theorems.{WellCut}
@@ -31,8 +31,8 @@ use Rattle.verifier.proofs.Fields.{Within, within-set}
 use Rattle.verifier.proofs.Keeping.{Clear, Sim, shows-map, sim-change, all-grow}
 use Rattle.verifier.proofs.Parallel.{Parallel, both-stop, parallel-after, ways-alike}
 
-module _ (M : Module) (S : WellCut M) (w : List ℕ) (σ : States) (from : ℕ) (X : Sim M w σ from) (at : ℕ) (l : List Slot)
-    (h : at < length (M .code)) (waits : σ at ≡ waiting l) (c : Clear σ at) where
+module _ (U : Subject) (S : WellCut U) (w : List ℕ) (σ : States) (from : ℕ) (X : Sim U w σ from) (at : ℕ) (l : List Slot)
+    (h : at < length (U .code)) (waits : σ at ≡ waiting l) (c : Clear σ at) where
   has : mapOf σ at ≡ some l
   has = ap slotsIn waits
 
@@ -45,8 +45,8 @@ module _ (M : Module) (S : WellCut M) (w : List ℕ) (σ : States) (from : ℕ) 
   found : top (getD w (4 * at) 0 - 1) (getD w (4 * at + 1) 0) ≡ topOf l
   found = rw (high, low) (ap (λ (n : ℕ). top n (topOrigin l)) (omega arith))
 
-  of-procedure : getD w (4 * at + 3) 0 ≡ M .marks at
-  of-procedure = rw (lt-ltb at (length (M .code)) h) at (X .held .marks at)
+  of-procedure : getD w (4 * at + 3) 0 ≡ U .marks at
+  of-procedure = rw (lt-ltb at (length (U .code)) h) at (X .held .marks at)
 
   -- It is marked done.
   abbrev cleared : List ℕ
@@ -61,7 +61,7 @@ module _ (M : Module) (S : WellCut M) (w : List ℕ) (σ : States) (from : ℕ) 
   grown : Grows (mapOf σ) (mapOf (updated σ at (done l)))
   grown = grows-change σ at (done l) l refl same
 
-  finished : Sim M cleared (updated σ at (done l)) (at + 1)
+  finished : Sim U cleared (updated σ at (done l)) (at + 1)
   finished =
       sim-change at (done l) l (at + 1) X h marked
       (record {
@@ -75,19 +75,19 @@ module _ (M : Module) (S : WellCut M) (w : List ℕ) (σ : States) (from : ℕ) 
       by a j b e (changed g q) = done-waits q e
       by a j b e (spared g q) = c a j (omega arith) (sym q ∙ e)
 
-  decoded : (d : Decoded) → decodeAt (M .code) (regionEnd (M .code) (owner M at)) at ≡ d
-      → Parallel M w σ (visitedWith (M .code) (M .results) w (owner M at) at d)
-      (passed M (owner M at) (updated σ at (done l)) (waysOf M (owner M at) at l d))
+  decoded : (d : Decoded) → decodeAt (U .code) (regionEnd (U .code) (owner U at)) at ≡ d
+      → Parallel U w σ (visitedWith (U .code) (U .results) w (owner U at) at d)
+      (passed U (owner U at) (updated σ at (done l)) (waysOf U (owner U at) at l d))
   decoded Unserved e = both-stop refl
   decoded Past e = both-stop refl
   decoded (At i next) e =
       rw found
       (parallel-after (marked .long) grown
-      (ways-alike M S (owner M at) at cleared (updated σ at (done l)) (at + 1) finished
-      (ways-stand M (owner M at) at next (shapeOf i) w (mapOf σ) l (X .coherent at l has) (shows-map (X .held)))
+      (ways-alike U S (owner U at) at cleared (updated σ at (done l)) (at + 1) finished
+      (ways-stand U (owner U at) at next (shapeOf i) w (mapOf σ) l (X .coherent at l has) (shows-map (X .held)))
       λ out g. all-grow grown
-      (ways-coherent M (owner M at) at next (regionEnd (M .code) (owner M at)) i (mapOf σ) l out e (X .coherent at l has) has g)))
+      (ways-coherent U (owner U at) at next (regionEnd (U .code) (owner U at)) i (mapOf σ) l out e (X .coherent at l has) has g)))
 
-  pub visit-alike : Parallel M w σ (visitedTop (M .code) (M .results) at w) (visited M at l σ)
+  pub visit-alike : Parallel U w σ (visitedTop (U .code) (U .results) at w) (visited U at l σ)
   unfolding visitedTop visited waysAt
-  visit-alike = rw of-procedure (decoded (decodeAt (M .code) (regionEnd (M .code) (owner M at)) at) refl)
+  visit-alike = rw of-procedure (decoded (decodeAt (U .code) (regionEnd (U .code) (owner U at)) at) refl)

@@ -16,7 +16,7 @@ use Rattle.workspace.specs.Checking.{Checking, checking}
 use Rattle.layout.specs.Cut.{Marks, Cut, bad, cut, cutOf}
 use Rattle.faults.specs.Faults.{codeNumber}
 use Rattle.stackmap.specs.Slots.{Slot, topOrigin}
-use Rattle.stackmap.specs.Ways.{Module}
+use Rattle.stackmap.specs.Ways.{Subject}
 use Rattle.stackmap.specs.Walk.{State, States, blank, waiting, done, walkOf}
 
 abbrev pub allAtMost : ℕ → List ℕ → Bool
@@ -34,8 +34,8 @@ listTests r results room = 8 when ltb room (4 * length (codeOf r)) ∷ 9 when no
 unfoldable pub listNumber : List ℕ → List ℕ → ℕ → ℕ
 listNumber r results room = afterRecord r (listTests r results room)
 
-abbrev pub moduleOf : List ℕ → List ℕ → Marks → Module
-moduleOf code results marks = record { code = code; results = results; marks = marks }
+abbrev pub subjectOf : List ℕ → List ℕ → Marks → Subject
+subjectOf code results marks = record { code = code; results = results; marks = marks }
 
 -- A number from 10 on, or the lists that the walk found.
 pub data Verdict : Type 0 where
@@ -50,7 +50,7 @@ walked (some σ) = accepted σ
 abbrev pub examined : List ℕ → List ℕ → Cut → Verdict
 examined code results (bad n) = refuted n
 examined code results (cut marks) =
-    cond (eqb (codeNumber code marks) 0) (walked (walkOf (moduleOf code results marks))) (refuted (codeNumber code marks))
+    cond (eqb (codeNumber code marks) 0) (walked (walkOf (subjectOf code results marks))) (refuted (codeNumber code marks))
 
 unfoldable pub verdictOf : List ℕ → List ℕ → Verdict
 verdictOf code results = examined code results (cutOf code)

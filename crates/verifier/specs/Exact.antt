@@ -12,9 +12,9 @@ use Rattle.record.specs.Number.{recordNumber}
 use Rattle.layout.specs.Cut.{Marks, cut, cutOf}
 use Rattle.faults.specs.Faults.{codeNumber}
 use Rattle.stackmap.specs.Slots.{Slot, topOrigin}
-use Rattle.stackmap.specs.Ways.{Module}
+use Rattle.stackmap.specs.Ways.{Subject}
 use Rattle.stackmap.specs.StackMap.{Map, IsMap, Reached}
-use Rattle.verifier.specs.Check.{resultsSound, moduleOf, checkOf}
+use Rattle.verifier.specs.Check.{resultsSound, subjectOf, checkOf}
 
 -- The rules up to 14: the record is sound, the results list fits, and the code is cut into instructions that are in order.
 pub record Ruled (r results : List ℕ) : Type 0 where
@@ -24,8 +24,8 @@ pub record Ruled (r results : List ℕ) : Type 0 where
   pub is-cut : cutOf (codeOf r) ≡ cut marks
   pub in-order : codeNumber (codeOf r) marks ≡ 0
 
-abbrev pub subject : (r results : List ℕ) → Ruled r results → Module
-subject r results R = moduleOf (codeOf r) results (R .marks)
+abbrev pub subject : (r results : List ℕ) → Ruled r results → Subject
+subject r results R = subjectOf (codeOf r) results (R .marks)
 
 -- Every region has a map.
 abbrev pub Mapped : (r results : List ℕ) → Ruled r results → Type 0

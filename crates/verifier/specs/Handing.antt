@@ -11,7 +11,7 @@ use Rattle.opcode.specs.declared.Decoded.{Decoded}
 use Rattle.opcode.specs.declared.Decoded.the-variants.{Unserved, Past, At}
 use Rattle.shape.specs.Shape.{shapeOf}
 use Rattle.layout.specs.Cut.{startsIn}
-use Rattle.successors.specs.Successors.{selectTargets}
+use Rattle.successors.specs.Successors.{switchTargets}
 use Rattle.layout.specs.Workspace.{marksIn}
 use Rattle.stackmap.specs.Ways.{parametersIn}
 use Rattle.compact.specs.declared.top.Top.{Top}
@@ -70,7 +70,7 @@ handedWays code p at Broken from w = handing Stuck w
 handedWays code p at Ended from w = handing (From from) w
 handedWays code p at (One a) from w = handedTop (length code) p a from w
 handedWays code p at (Two a b) from w = handedTwo (length code) p a b from w
-handedWays code p at (Many table n t) from w = handedTargets (length code) p t (selectTargets code at table n) from w
+handedWays code p at (Many table n t) from w = handedTargets (length code) p t (switchTargets code at table n) from w
 
 -- The instruction at an offset passes its list on; nothing waits below the offset.
 abbrev pub visitedWith : List ℕ → List ℕ → List ℕ → ℕ → ℕ → Decoded → Handing

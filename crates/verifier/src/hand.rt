@@ -2,7 +2,7 @@
 ghost use mathlib.Core.Path.{_≡_};
 ghost use Prim.Native.Nat.{_≤_, _<_};
 ghost use lib.ListN.{length};
-ghost use Rattle.successors.specs.Successors.{tableSize, tableFrom, selectTargets};
+ghost use Rattle.successors.specs.Successors.{tableSize, tableFrom, switchTargets};
 ghost use Rattle.verifier.specs.Handing.{handing, given, takenTop, handedTop, handedTwo, handedTargets, handedWays};
 use compact::top::Top;
 use compact_ways::Way;
@@ -121,7 +121,7 @@ fn hand_many(
     requires { ⌜ length (now code) ≤ 65535 ⌝ }
     requires { ⌜ p < 65535 ⌝ }
     requires { ⌜ at < 65535 ⌝ }
-    ensures { λ a. ⌜ handing a (now (w .exit)) ≡ handedTargets (length (now (code .entry))) p t (selectTargets (now (code .entry)) at table n) from (now (w .entry)) ⌝ }
+    ensures { λ a. ⌜ handing a (now (w .exit)) ≡ handedTargets (length (now (code .entry))) p t (switchTargets (now (code .entry)) at table n) from (now (w .entry)) ⌝ }
 {
     let place = successors::else_target(code, at);
     match hand(code.len(), w, p, compact_ways::way_toward(place, t), from) {

@@ -40,7 +40,7 @@ returns-7 c = rw (c .before .enum-told3 .given .1, ← c .starts-in4 .ensures, a
 
 returns-8 : tie.Need-returns-8
 unfolding strays
-returns-8 c = rw (c .before .before .shape5 .given .1, ← c .select-starts .ensures)
+returns-8 c = rw (c .before .before .shape5 .given .1, ← c .switch-starts .ensures)
 
 returns-9 : tie.Need-returns-9
 unfolding strays

@@ -6,6 +6,11 @@ use Rattle.shape.specs.Shape.{shapeOf}
 use Rattle.shape.proofs.Counting.{popped-small, words-small}
 use Rattle.shape.proofs.shape_of.Tie as tie
 
+add-t24 : tie.Need-add-t24
+add-t24 c =
+    let i = c .before .before .before .i3 .given .0 in
+    record { fits = omega (arith, c .before .popped-words3 .ensures, c .words-in2 .ensures, popped-small (i .0), words-small (i .1 .0)) }
+
 pub shape-of-spec : {M : Type 1} → statement M
 unfolding shapeOf
 shape-of-spec =
@@ -20,19 +25,12 @@ shape-of-spec =
     (λ c. search needs)
     (λ c κs. search needs)
     (λ c κs. search needs)
-    (λ c. record { fits = omega (arith, c .before .popped-words3 .ensures, c .words-in2 .ensures, popped-small (c .before .before .before .i3 .given .0 .0), words-small (c .before .before .before .i3 .given .0 .1 .0)) })
+    add-t24
     (λ c. search needs)
     (λ c. search needs)
     (λ c. search needs)
     (λ c. search needs)
-    (λ c. search needs)
-    (λ c. search needs)
-    (λ c. search needs)
-    (λ c. search needs)
-    (λ c. search needs)
-    (λ c. search needs)
-    (λ c. search needs)
-    (λ c. search needs)
+    (λ c κs. search needs)
     (λ c. search needs)
     (λ c. search needs)
     (λ c. search needs)
@@ -48,32 +46,24 @@ shape-of-spec =
     (λ c. search needs)
     (λ c. search needs)
     (λ c. rw (c .enum-told .given .1))
-    (λ c. rw (c .before .before .before .i .given .1, c .before .popped-words .ensures, c .words-in .ensures))
+    (λ c. rw (c .before .before .before .i .given .1, c .words-in .ensures, c .before .popped-words .ensures))
     (λ c. rw (c .before .before .i2 .given .1, c .popped-words2 .ensures))
-    (λ c. rw (c .before .before .before .i3 .given .1, c .before .popped-words3 .ensures, c .words-in2 .ensures))
+    (λ c. rw (c .before .before .before .i3 .given .1, c .words-in2 .ensures, c .before .popped-words3 .ensures))
     (λ c. rw (c .before .i4 .given .1))
     (λ c. rw (c .enum-told2 .given .1))
     (λ c. rw (c .enum-told3 .given .1))
+    (λ c. rw (c .before .before .i5 .given .1, c .operand-words .ensures))
     (λ c. rw (c .enum-told4 .given .1))
     (λ c. rw (c .enum-told5 .given .1))
-    (λ c. rw (c .enum-told6 .given .1))
-    (λ c. rw (c .enum-told7 .given .1))
-    (λ c. rw (c .enum-told8 .given .1))
-    (λ c. rw (c .enum-told9 .given .1))
-    (λ c. rw (c .enum-told10 .given .1))
-    (λ c. rw (c .enum-told11 .given .1))
-    (λ c. rw (c .enum-told12 .given .1))
-    (λ c. rw (c .enum-told13 .given .1))
-    (λ c. rw (c .enum-told14 .given .1))
-    (λ c. rw (c .before .i5 .given .1))
     (λ c. rw (c .before .i6 .given .1))
     (λ c. rw (c .before .i7 .given .1))
     (λ c. rw (c .before .i8 .given .1))
     (λ c. rw (c .before .i9 .given .1))
-    (λ c. rw (c .enum-told15 .given .1))
     (λ c. rw (c .before .i10 .given .1))
+    (λ c. rw (c .enum-told6 .given .1))
     (λ c. rw (c .before .i11 .given .1))
-    (λ c. rw (c .enum-told16 .given .1))
     (λ c. rw (c .before .i12 .given .1))
+    (λ c. rw (c .enum-told7 .given .1))
     (λ c. rw (c .before .i13 .given .1))
-    (λ c. rw (c .enum-told17 .given .1)))
+    (λ c. rw (c .before .i14 .given .1))
+    (λ c. rw (c .enum-told8 .given .1)))

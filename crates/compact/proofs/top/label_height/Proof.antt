@@ -14,13 +14,13 @@ at-label : (c : tie.Else1) →
 at-label c = at-origin (labelHeight (c .before .before .before .args .code .now) (c .before .before .before .args .w .now)) (c .before .before .before .args .origin) (c .if1 .left)
 
 returns-2 : tie.Need-returns-2
-returns-2 c = rw (at-label (c .before .before .before), ← c .before .is-loop .ensures, c .if2 .taken, c .before .before .half-at .ensures)
+returns-2 c = rw (at-label (c .before .before .before), ← c .before .is-iter .ensures, c .if2 .taken, c .before .before .half-at .ensures)
 
 returns-3 : tie.Need-returns-3
-returns-3 c = rw (at-label (c .before .before .before .before), ← c .before .before .is-loop .ensures, c .before .if2 .left, ← c .before .before .before .half-at .ensures, c .if3 .taken)
+returns-3 c = rw (at-label (c .before .before .before .before), ← c .before .before .is-iter .ensures, c .before .if2 .left, ← c .before .before .before .half-at .ensures, c .if3 .taken)
 
 returns-4 : tie.Need-returns-4
-returns-4 c = rw (at-label (c .before .before .before .before), ← c .before .before .is-loop .ensures, c .before .if2 .left, c .before .before .before .half-at .ensures)
+returns-4 c = rw (at-label (c .before .before .before .before), ← c .before .before .is-iter .ensures, c .before .if2 .left, c .before .before .before .half-at .ensures)
 
 pub label-height-spec : {M : Type 1} → statement M
 label-height-spec =

@@ -3,7 +3,7 @@ use Rattle.step.proofs.Carrying.{carried}
 use Rattle.state.proofs.Fitting.{fitting}
 use Rattle.execute.specs.Depth.{topWords}
 use Rattle.registers.specs.Program.{program}
-use Rattle.shape.specs.Counts.{needed}
+use Rattle.shape.specs.Shape.{needed}
 use mathlib.Core.Path.{_∙_, sym}
 use borrow.Author.Needs.{needs}
 use Rattle.step.proofs.Machine.performed.Statement.{statement}

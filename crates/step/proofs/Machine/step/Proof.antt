@@ -1,7 +1,7 @@
 -- `step::Machine::step` meets its contract: decoding, the stack words, and what the instruction does.
 use Rattle.opcode.proofs.Found.{ends}
 use Rattle.step.specs.Step.{stepOf, performed}
-use Rattle.shape.specs.Counts.{needed}
+use Rattle.shape.specs.Shape.{needed}
 use borrow.Author.Tests.{lt-ltb, le-ltb}
 use lib.ListN.{length}
 use native.Mathlib.Omega.{arith}

@@ -1,15 +1,15 @@
 -- `hand::hand_many` meets its contract: what the ELSE part answers decides.
 use borrow.Author.Needs.{needs}
 use Rattle.verifier.proofs.hand.hand_many.Statement.{statement}
-use Rattle.successors.specs.Successors.{selectTargets}
+use Rattle.successors.specs.Successors.{switchTargets}
 use Rattle.verifier.proofs.hand.hand_many.Tie as tie
 
 returns : tie.Need-returns
-unfolding selectTargets
+unfolding switchTargets
 returns c = rw (← c .before .before .before .before .before .before .before .else-target .ensures, ← c .before .before .before .before .before .way-toward .ensures, ← c .before .before .before .before .hand .ensures, c .enum-told .given .1)
 
 returns-2 : tie.Need-returns-2
-unfolding selectTargets
+unfolding switchTargets
 returns-2 c = rw (← c .before .before .before .before .before .before .before .before .before .before .before .before .else-target .ensures, ← c .before .before .before .before .before .before .before .before .before .before .way-toward .ensures, ← c .before .before .before .before .before .before .before .before .before .hand .ensures, c .before .before .before .before .before .low .given .1) (c .before .before .hand-table .ensures)
 
 pub hand-many-spec : {M : Type 1} → statement M

@@ -1,24 +1,24 @@
--- `compact_ways::keep_ways` meets its contract: on without the top word, away with it.
+-- `compact_ways::jump_tf_ways` meets its contract: on without the top word, away with it.
 use borrow.Author.Needs.{needs}
 use borrow.Author.Tests.{not-true, not-false}
-use Rattle.compact_ways.proofs.keep_ways.Statement.{statement}
-use Rattle.compact_ways.specs.Ways.{keepWays}
+use Rattle.compact_ways.proofs.jump_tf_ways.Statement.{statement}
+use Rattle.compact_ways.specs.Ways.{jumpTFWays}
 use Rattle.compact.proofs.Lowering.{popped-height}
-use Rattle.compact_ways.proofs.keep_ways.Tie as tie
+use Rattle.compact_ways.proofs.jump_tf_ways.Tie as tie
 
 returns : tie.Need-returns
-unfolding keepWays
+unfolding jumpTFWays
 returns c = rw (← c .before .is-poppable .ensures, not-true (c .before .is-poppable .result) (c .if1 .taken))
 
 sub-way-toward : tie.Need-sub-way-toward
 sub-way-toward c = popped-height (c .before .before .before .before .before .args .code .now) (c .before .before .before .before .before .args .w .now) (c .before .before .before .before .before .args .t) 1 (c .before .before .is-poppable .result) (c .before .before .is-poppable .ensures) (c .before .if1 .left)
 
 returns-2 : tie.Need-returns-2
-unfolding keepWays
+unfolding jumpTFWays
 returns-2 c = rw (← c .before .before .before .before .before .is-poppable .ensures, not-false (c .before .before .before .before .before .is-poppable .result) (c .before .before .before .before .if1 .left), c .in-order .ensures, c .before .way-toward .ensures, c .before .before .place-at .ensures)
 
-pub keep-ways-spec : {M : Type 1} → statement M
-keep-ways-spec =
+pub jump-tf-ways-spec : {M : Type 1} → statement M
+jump-tf-ways-spec =
     tie.close
     (tie.spec
     (λ c κs. search needs)

@@ -1,24 +1,24 @@
--- `compact_ways::loop_ways` meets its contract: on with the loop's label, away without its four words.
+-- `compact_ways::iter_ways` meets its contract: on with the loop's label, away without its four words.
 use borrow.Author.Needs.{needs}
 use borrow.Author.Tests.{not-true, not-false}
-use Rattle.compact_ways.proofs.loop_ways.Statement.{statement}
-use Rattle.compact_ways.specs.Ways.{loopWays}
+use Rattle.compact_ways.proofs.iter_ways.Statement.{statement}
+use Rattle.compact_ways.specs.Ways.{iterWays}
 use Rattle.compact.proofs.Lowering.{popped-height}
-use Rattle.compact_ways.proofs.loop_ways.Tie as tie
+use Rattle.compact_ways.proofs.iter_ways.Tie as tie
 
 returns : tie.Need-returns
-unfolding loopWays
+unfolding iterWays
 returns c = rw (← c .before .is-poppable .ensures, not-true (c .before .is-poppable .result) (c .if1 .taken))
 
 sub-height : tie.Need-sub-height
 sub-height c = popped-height (c .before .before .before .before .before .before .args .code .now) (c .before .before .before .before .before .before .args .w .now) (c .before .before .before .before .before .before .args .t) 4 (c .before .before .before .is-poppable .result) (c .before .before .before .is-poppable .ensures) (c .before .before .if1 .left)
 
 returns-2 : tie.Need-returns-2
-unfolding loopWays
+unfolding iterWays
 returns-2 c = rw (← c .before .before .before .before .before .is-poppable .ensures, not-false (c .before .before .before .before .before .is-poppable .result) (c .before .before .before .before .if1 .left), c .in-order .ensures, c .before .place-at .ensures)
 
-pub loop-ways-spec : {M : Type 1} → statement M
-loop-ways-spec =
+pub iter-ways-spec : {M : Type 1} → statement M
+iter-ways-spec =
     tie.close
     (tie.spec
     (λ c κs. search needs)

@@ -1,20 +1,20 @@
--- `compact_ways::return_ways` meets its contract: exactly the result words, and no label.
+-- `compact_ways::rtn_ways` meets its contract: exactly the result words, and no label.
 use borrow.Author.Tests.{eq-eqb, ne-eqb}
-use Rattle.compact_ways.proofs.return_ways.Statement.{statement}
-use Rattle.compact_ways.specs.Ways.{returnWays}
-use Rattle.compact_ways.proofs.return_ways.Tie as tie
+use Rattle.compact_ways.proofs.rtn_ways.Statement.{statement}
+use Rattle.compact_ways.specs.Ways.{rtnWays}
+use Rattle.compact_ways.proofs.rtn_ways.Tie as tie
 
 returns : tie.Need-returns
-unfolding returnWays
+unfolding rtnWays
 returns c = rw (ne-eqb (c .before .before .args .t .height) (c .before .before .args .results) (c .if1 .taken))
 
 returns-2 : tie.Need-returns-2
-unfolding returnWays
+unfolding rtnWays
 returns-2 c = rw (eq-eqb (c .before .before .before .before .args .t .height) (c .before .before .before .before .args .results) (c .before .before .if1 .left), ne-eqb (c .before .before .before .before .args .t .origin) 0 (c .if2 .taken))
 
 returns-3 : tie.Need-returns-3
-unfolding returnWays
+unfolding rtnWays
 returns-3 c = rw (eq-eqb (c .before .before .before .before .args .t .height) (c .before .before .before .before .args .results) (c .before .before .if1 .left), eq-eqb (c .before .before .before .before .args .t .origin) 0 (c .if2 .left))
 
-pub return-ways-spec : {M : Type 1} → statement M
-return-ways-spec = tie.close (tie.spec returns returns-2 returns-3)
+pub rtn-ways-spec : {M : Type 1} → statement M
+rtn-ways-spec = tie.close (tie.spec returns returns-2 returns-3)

@@ -1,15 +1,15 @@
--- `faults::select_starts` meets its contract: the label and the ELSE part, then the table.
+-- `faults::switch_starts` meets its contract: the label and the ELSE part, then the table.
 use lib.ListN.{length}
 use borrow.Author.Needs.{needs}
 use borrow.Author.Tests.{not-true, not-false}
-use Rattle.faults.proofs.select_starts.Statement.{statement}
-use Rattle.successors.specs.Successors.{tableFrom, tableSize, selectTargets}
+use Rattle.faults.proofs.switch_starts.Statement.{statement}
+use Rattle.successors.specs.Successors.{tableFrom, tableSize, switchTargets}
 use Rattle.layout.specs.Workspace.{marksIn}
 use Rattle.faults.proofs.Heads.{heads-start}
-use Rattle.faults.proofs.select_starts.Tie as tie
+use Rattle.faults.proofs.switch_starts.Tie as tie
 
 returns : tie.Need-returns
-unfolding selectTargets
+unfolding switchTargets
 returns c =
     let a = c .before .before .before .before .before .before .args in
     let exit = c .before .before .before .exit-label in
@@ -25,7 +25,7 @@ returns c =
     )
 
 returns-2 : tie.Need-returns-2
-unfolding selectTargets
+unfolding switchTargets
 returns-2 c =
     let a = c .before .before .before .before .before .before .before .args in
     let exit = c .before .before .before .before .exit-label in
@@ -41,8 +41,8 @@ returns-2 c =
     )
     (c .table-starts .ensures)
 
-pub select-starts-spec : {M : Type 1} → statement M
-select-starts-spec =
+pub switch-starts-spec : {M : Type 1} → statement M
+switch-starts-spec =
     tie.close
     (tie.spec
     (λ c κs. search needs)

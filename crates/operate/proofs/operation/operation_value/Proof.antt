@@ -1,0 +1,40 @@
+-- `operation::operation_value` meets its contract: each arm is the line of its operation.
+use borrow.Author.Needs.{needs}
+use Rattle.operate.proofs.operation.operation_value.Statement.{statement}
+use Rattle.operate.specs.Operation.{operationValue}
+use Rattle.operate.proofs.operation.operation_value.Tie as tie
+
+pub operation-value-spec : {M : Type 1} → statement M
+unfolding operationValue
+operation-value-spec =
+    tie.close
+    (tie.spec
+    (λ c. search needs)
+    (λ c κs. search needs)
+    (λ c. search needs)
+    (λ c κs. search needs)
+    (λ c. search needs)
+    (λ c κs. search needs)
+    (λ c. search needs)
+    (λ c κs. search needs)
+    (λ c. search needs)
+    (λ c κs. search needs)
+    (λ c. search needs)
+    (λ c κs. search needs)
+    (λ c κs. search needs)
+    (λ c. search needs)
+    (λ c κs. search needs)
+    (λ c κs. search needs)
+    (λ c. search needs)
+    (λ c κs. search needs)
+    (λ c. search needs)
+    (λ c κs. search needs)
+    (λ c. rw (c .before .before .op .given .1, c .signed-value .ensures))
+    (λ c. rw (c .before .before .op2 .given .1, c .unsigned-value .ensures))
+    (λ c. rw (c .before .enum-told .given .1, c .negated-value .ensures))
+    (λ c. rw (c .before .enum-told2 .given .1, c .truth .ensures))
+    (λ c. rw (c .before .enum-told3 .given .1, c .truth2 .ensures))
+    (λ c. rw (c .before .before .before .op3 .given .1, c .truth3 .ensures, c .before .signed-test .ensures))
+    (λ c. rw (c .before .before .before .op4 .given .1, c .truth4 .ensures, c .before .unsigned-test .ensures))
+    (λ c. rw (c .before .before .op5 .given .1, c .set-word .ensures))
+    (λ c. rw (c .before .enum-told4 .given .1, c .inverted-value .ensures)))
