@@ -2,7 +2,8 @@
 use mathlib.Core.Path.{refl}
 use Rattle.words.specs.Bytes.{halfwordAt, wordAt}
 use Rattle.entries.specs.Entries.{entryAt, entryCount, countSound, entriesInOrder, entriesSound, regionEnd}
-use Rattle.header.specs.Header.{headerOf, sizesFit, codeAt, constantsAt, relocationAt, versionsAt, sourcesAt, recordLength, codeOf}
+use Rattle.header.specs.Header.{headerOf, sizesFit, codeAt, constantsAt, relocationAt}
+use Rattle.header.specs.Header.{versionsAt, sourcesAt, recordLength, codeOf}
 use Rattle.record.specs.Number.{recordNumber, readingOf}
 use Rattle.source.specs.Source.{sourceOffsets, sourceSound}
 use Rattle.version.specs.Version.{issueAt, versionSound}
@@ -25,7 +26,8 @@ use Rattle.operate.specs.Value.{signedWord, unsignedWord, invertedValue}
 use Rattle.operate.specs.Operation.{operationValue}
 use Rattle.effect.specs.Data.{loadFrom, addressOf, storeTo, allocated, freed}
 use Rattle.registers.specs.Memory.{live, protects}
-use Rattle.control.specs.Control.{jumps, jumpsIfFalse, jumpsKeeping, iterates, nextSum, repeats, switches, searches, calls, enters, returns}
+use Rattle.control.specs.Control.{jumps, jumpsIfFalse, jumpsKeeping, iterates, nextSum, repeats}
+use Rattle.control.specs.Control.{switches, searches, calls, enters, returns}
 use Rattle.execute.specs.Execute.{execute}
 use Rattle.state.specs.Fits.{sizesTaken, headerKept, registersFit, fits}
 use Rattle.load.specs.Load.{constantWords, initialData, loadedMemory, startOf, loadNumber, loadOf}

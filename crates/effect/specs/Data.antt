@@ -1,5 +1,5 @@
--- Loads, load addresses, stores, a value pushed, ALLOC and FREE (5.2.4.1 to 5.2.4.4, 5.2.4.7 to 5.2.4.10): q are the registers, m is
--- the memory, and `next` is the place after the instruction.
+-- Loads, load addresses, stores, a value pushed, ALLOC and FREE (5.2.4.1 to 5.2.4.4, 5.2.4.7 to 5.2.4.10): q are the registers,
+-- m is the memory, and `next` is the place after the instruction.
 use mathlib.Core.Bool.{Bool, cond, _||_}
 use mathlib.Core.List.{List}
 use Prim.Native.Nat.{ℕ, _+_, _-_}

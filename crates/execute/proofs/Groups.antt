@@ -1,5 +1,5 @@
--- An instruction whose tag is none of a group's is not of the group: what the last arm of a match over the group is told. By the list
--- of groups; that none of the other tags is the group's is computed.
+-- An instruction whose tag is none of a group's is not of the group: what the last arm of a match over the group is told. By the
+-- list of groups; that none of the other tags is the group's is computed.
 use mathlib.Core.Bool.{Bool, true, false, not, _&&_, and-eq-true-iff}
 use mathlib.Core.Logic.{inl, inr}
 use mathlib.Core.Path.{_≡_, _∙_, refl, sym, ap}
@@ -59,22 +59,24 @@ tagged (Enter par dat) = refl
 tagged Rtn = refl
 
 -- No tag of a list is the group's.
+abbrev same : Kind → Kind → Bool
+same g h = eqb (numberOf g) (numberOf h)
+
 abbrev apart : Kind → List ℕ → Bool
 apart g [] = true
-apart g (k ∷ ks) = not (eqb (numberOf (groupAt k)) (numberOf g)) && apart g ks
+apart g (k ∷ ks) = not (same (groupAt k) g) && apart g ks
 
-other : (g : Kind) (k : ℕ) (rest : Bool) → (not (eqb (numberOf (groupAt k)) (numberOf g)) && rest) ≡ true → (t : ℕ) → t ≡ k → groupAt t ≡ g → ⊥
-other g k rest a t o e =
-    eqb-false (numberOf (groupAt k)) (numberOf g)
-    (not-true (eqb (numberOf (groupAt k)) (numberOf g)) (and-eq-true-iff (not (eqb (numberOf (groupAt k)) (numberOf g))) rest .0 a .0))
+other : (g : Kind) (k : ℕ) → not (same (groupAt k) g) ≡ true → (t : ℕ) → t ≡ k → groupAt t ≡ g → ⊥
+other g k a t o e =
+    eqb-false (numberOf (groupAt k)) (numberOf g) (not-true (same (groupAt k) g) a)
     (ap (λ (j : ℕ). numberOf (groupAt j)) (sym o) ∙ ap numberOf e)
 
 none : (g : Kind) (ks : List ℕ) → apart g ks ≡ true → (t : ℕ) → OneOf ks t → groupAt t ≡ g → ⊥
 none g [] a t o e = o
-none g (k ∷ []) a t o e = other g k true a t o e
-none g (k ∷ j ∷ ks) a t (inl o) e = other g k (apart g (j ∷ ks)) a t o e
+none g (k ∷ []) a t o e = other g k (and-eq-true-iff (not (same (groupAt k) g)) true .0 a .0) t o e
+none g (k ∷ j ∷ ks) a t (inl o) e = other g k (and-eq-true-iff (not (same (groupAt k) g)) (apart g (j ∷ ks)) .0 a .0) t o e
 none g (k ∷ j ∷ ks) a t (inr o) e =
-    none g (j ∷ ks) (and-eq-true-iff (not (eqb (numberOf (groupAt k)) (numberOf g))) (apart g (j ∷ ks)) .0 a .1) t o e
+    none g (j ∷ ks) (and-eq-true-iff (not (same (groupAt k) g)) (apart g (j ∷ ks)) .0 a .1) t o e
 
 -- The tags of all other groups.
 abbrev unless : Bool → ℕ → List ℕ → List ℕ
@@ -83,7 +85,7 @@ unless false k ks = k ∷ ks
 
 abbrev othersFrom : Kind → ℕ → List Kind → List ℕ
 othersFrom g k [] = []
-othersFrom g k (h ∷ rest) = unless (eqb (numberOf h) (numberOf g)) k (othersFrom g (k + 1) rest)
+othersFrom g k (h ∷ rest) = unless (same h g) k (othersFrom g (k + 1) rest)
 
 abbrev pub others : Kind → List ℕ
 others g = othersFrom g 0 groups

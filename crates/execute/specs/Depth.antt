@@ -1,5 +1,5 @@
--- The words at the top of the stack; and the effects of operations, STOR, ITER and NEXT by the depth of their words there, 1 being the
--- top: how the code finds the words that `execute` is handed.
+-- The words at the top of the stack; and the effects of operations, STOR, ITER and NEXT by the depth of their words there, 1
+-- being the top: how the code finds the words that `execute` is handed.
 use mathlib.Core.List.{List}
 use Prim.Native.Nat.{ℕ, _+_, _-_}
 use lib.ListN.{take, drop}

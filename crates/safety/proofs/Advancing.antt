@@ -10,7 +10,8 @@ use lib.ListN.{length, getD}
 use Rattle.opcode.specs.declared.instruction.Instruction.{Instruction}
 use Rattle.shape.specs.Shape.{shapeOf, needed}
 use Rattle.shape.specs.declared.Shape.{Shape}
-use Rattle.shape.specs.declared.Shape.the-variants.{Straight, Pop, Jump, JumpC, JumpTF, Iter, Next, Switch, Leave, Call, Enter, Rtn}
+use Rattle.shape.specs.declared.Shape.the-variants.{Straight, Pop, Jump, JumpC, JumpTF, Iter}
+use Rattle.shape.specs.declared.Shape.the-variants.{Next, Switch, Leave, Call, Enter, Rtn}
 use Rattle.shape.specs.Linkage.{Linkage, inside, calling, entering, returning, linkageOf}
 use Rattle.registers.specs.declared.Areas.{Areas}
 use Rattle.registers.specs.declared.Registers.{Registers}
@@ -70,12 +71,14 @@ module _ (U : Subject) (C : Checked U) (A : Areas) (c : Configuration) (I : Inv 
   pub unread : (s' : List ℕ) → SameFrom (shareOf (c .calls)) (c .stack) s' → Unread U c s'
   unread =
       let enough : needed i ≤ length (I .placed .slots) =
-      finds-words U (running (c .calls)) (q .pc) (at-place .next) (shapeOf i) (I .placed .slots) (at-place .out) (at-place .ways-out) in
+      finds-words U (running (c .calls)) (q .pc) (at-place .next) (shapeOf i) (I .placed .slots) (at-place .out)
+      (at-place .ways-out) in
       step-unread U c i (at-place .next) doing (omega (arith, I .placed .height))
 
   pub steps : Steps U c (at-place .out) (linkageOf (shapeOf i)) (stepOn U c .stepped .outcome)
   steps =
-      slots-kept finds-words U A c i (at-place .next) (running (c .calls)) (I .placed .slots) (at-place .out) doing (I .areas) (I .fitted) (I .placed .height)
+      slots-kept finds-words U A c i (at-place .next) (running (c .calls)) (I .placed .slots) (at-place .out) doing (I .areas)
+      (I .fitted) (I .placed .height)
       (I .placed .holds) (at-place .ways-out) (at-place .stays) (at-place .callable)
       (λ e some. returns-inside U C (c .memory) (c .stack) (framesStart A) (q .fp) (c .calls) (I .framed) (I .placed .suspended)
       (omega (arith, I .counted)))
@@ -116,20 +119,23 @@ module _ (U : Subject) (C : Checked U) (A : Areas) (c : Configuration) (I : Inv 
     placed-after inside e m = within-placed m
     placed-after (calling d) e m =
         rw (m .0 .same-stack)
-        (called-placed U C (c .stack) (c .calls) (I .placed .slots) (at-place .out) q q' (at-place .next) d (at-place .callable d e .1)
+        (called-placed U C (c .stack) (c .calls) (I .placed .slots) (at-place .out) q q' (at-place .next) d
+        (at-place .callable d e .1)
         (rw e at (at-place .ways-out)) (λ k a. stepped (I .placed .reached) (at-place .found) a) (I .placed .height) (I .placed .holds) (I .placed .suspended)
         (m .0 .same-height) (m .1))
     placed-after (entering par) e m = within-placed m
     placed-after returning e m =
         rw (m .0 .same-stack)
-        (returned-placed U C (c .memory) (c .stack) (framesStart A) (q .fp) (q .height) (c .calls) (I .placed .slots) (at-place .out) q' (I .framed)
+        (returned-placed U C (c .memory) (c .stack) (framesStart A) (q .fp) (q .height) (c .calls) (I .placed .slots)
+        (at-place .out) q' (I .framed)
         (I .placed .suspended) (active e) (rw e at (at-place .ways-out)) (I .placed .height) (m .0 .same-height) (m .1))
 
     pub advances : Inv U A (advance U c)
     advances =
         let moves : Moves U c (at-place .out) q' s' (linkageOf (shapeOf i)) =
         subst (λ (o : Outcome). Steps U c (at-place .out) (linkageOf (shapeOf i)) o) w steps in
-        let P : Placed U (advance U c .calls) q' s' = rw (doing .decoded) (placed-after (linkageOf (shapeOf i)) (shape-is (shapeOf i)) moves) in
+        let P : Placed U (advance U c .calls) q' s' =
+        rw (doing .decoded) (placed-after (linkageOf (shapeOf i)) (shape-is (shapeOf i)) moves) in
         let (framed, counted) = frames-kept U A c i (at-place .next) doing (I .areas) (I .fitted) (I .framed) (I .counted) w in
         let H = step-holds (U .code) (c .machine) (c .memory) (c .stack) (rw (I .areas) (I .fitted)) in
         record {

@@ -24,10 +24,12 @@ use Rattle.safety.proofs.Advancing.{at-place, steps}
 use Rattle.safety.proofs.Throughout.{keeps, at-load, run-safe}
 
 module _ (U : Subject) (C : Checked U) (A : Areas) (first : Configuration) (I : Inv U A first) where
-  ended-at : {n : ℕ} {c : Configuration} → Visits U first n c → (left : ℕ) → Inv U A c → (o : Outcome) → stepOn U c .stepped .outcome ≡ o
+  ended-at : {n : ℕ} {c : Configuration} → Visits U first n c → (left : ℕ) → Inv U A c → (o : Outcome)
+      → stepOn U c .stepped .outcome ≡ o
       → (stepOn U c .stepped .outcome ≡ Went
       → Ends U first (runFrom (U .code) left (suc n) (advance U c .machine) (advance U c .memory) (advance U c .stack)))
-      → Ends U first (proceed (runFrom (U .code) left (n + 1)) n o (stepOn U c .stepped .machine) (stepOn U c .memory) (stepOn U c .stack))
+      → Ends U first (proceed (runFrom (U .code) left (n + 1)) n o (stepOn U c .stepped .machine) (stepOn U c .memory)
+      (stepOn U c .stack))
   ended-at {n = n} v left J Went e later = let z : n + 1 ≡ suc n = omega arith in rw z (later e)
   ended-at {n = n} {c = c} v left J Finished e later =
       let T = step-stops (c .machine) (c .memory) (c .stack) (U .code) (λ w. let z : _≡_ {A = ℕ} 0 1 = cc in omega arith) in
@@ -35,7 +37,8 @@ module _ (U : Subject) (C : Checked U) (A : Areas) (first : Configuration) (I : 
   ended-at {n = n} {c = c} v left J (Trapped k) e later =
       let T = step-stops (c .machine) (c .memory) (c .stack) (U .code) (λ w. let z : _≡_ {A = ℕ} 0 1 = cc in omega arith) in
       let d : DataTrap k =
-      subst (λ (x : Outcome). Steps U c (at-place U C A c J .out) (linkageOf (shapeOf (at-place U C A c J .instruction))) x) e (steps U C A c J) in
+      subst (λ (x : Outcome). Steps U c (at-place U C A c J .out) (linkageOf (shapeOf (at-place U C A c J .instruction))) x) e
+      (steps U C A c J) in
       record { steps = n; last = c; visited = v; ending = stop k; proper = d; ends = rw (T .machine, T .memory, T .stack) }
 
   ended : (left : ℕ) {n : ℕ} {c : Configuration} → Visits U first n c

@@ -53,7 +53,8 @@ did-go M m s k P gone push write next (goes l p) =
       calls = refl;
     }
 
-pub step-did : (U : Subject) (c : Configuration) (i : Instruction) (next : ℕ) → Doing U c i next → stepOn U c .stepped .outcome ≡ Went
+pub step-did : (U : Subject) (c : Configuration) (i : Instruction) (next : ℕ) → Doing U c i next
+    → stepOn U c .stepped .outcome ≡ Went
     → Did (Framing (registersOf c) (c .memory) next (linkageOf (shapeOf i))) (c .memory) (stepOn U c)
 unfolding stepOf
 step-did U c i next D =

@@ -43,7 +43,8 @@ module _ {code : List ℕ} {c : Configuration} {l : List Slot} {out : List Way} 
       let T : Taken (some l) (λ rest. placeAt (registersOf c .pc) d gets l ∷ []) out = taken (some l) _ out w in
       words-go S 0 NoPush NoWrite (moved (registersOf c) (placeAt (registersOf c .pc) d)) l refl (among-taken T (placeAt (registersOf c .pc) d) l here)
 
-  pub jump-c-goes : (d b : ℕ) → after (popWords 1 l) (λ rest. both (next gets rest) (placeAt (registersOf c .pc) d gets rest)) ≡ some out
+  pub jump-c-goes : (d b : ℕ)
+      → after (popWords 1 l) (λ rest. both (next gets rest) (placeAt (registersOf c .pc) d gets rest)) ≡ some out
       → Stays code c out Done (jumpsIfFalse (registersOf c) next d b)
   unfolding jumpsIfFalse
   jump-c-goes d b w =
@@ -52,7 +53,8 @@ module _ {code : List ℕ} {c : Configuration} {l : List Slot} {out : List Way} 
       good-boolean b _
       (popped-go S 1 _ T NoPush NoWrite (moved (registersOf c) (cond (eqb b 0) away next)) (among-either (eqb b 0) next away (T .rest)))
 
-  pub jump-tf-goes : (when d b : ℕ) → after (popWords 1 l) (λ rest. both (next gets rest) (placeAt (registersOf c .pc) d gets l)) ≡ some out
+  pub jump-tf-goes : (when d b : ℕ)
+      → after (popWords 1 l) (λ rest. both (next gets rest) (placeAt (registersOf c .pc) d gets l)) ≡ some out
       → Stays code c out Done (jumpsKeeping (registersOf c) next when d b)
   unfolding jumpsKeeping
   jump-tf-goes when d b w =

@@ -78,12 +78,15 @@ module _ {code : List ℕ} {c : Configuration} {l : List Slot} {out : List Way} 
   -- SWITCH and SWITCH_X.
   pub switch-goes : (t : Table) (n d : ℕ) → exitLabel code (registersOf c .pc) ≡ labelWord code (registersOf c .pc)
       → In (registersOf c .pc + d) (switchTargets code (registersOf c .pc) t n)
-      → after (popWords 1 l) (λ rest. toAll (switchTargets code (registersOf c .pc) t n) (label (registersOf c .pc) ∷ rest)) ≡ some out
+      → after (popWords 1 l) (λ rest. toAll (switchTargets code (registersOf c .pc) t n) (label (registersOf c .pc) ∷ rest))
+      ≡ some out
       → Stays code c out Done (branched code (registersOf c) d)
   switch-goes t n d e h w =
       let q : Registers = registersOf c in
-      let T : Taken (popWords 1 l) (λ rest. toAll (switchTargets code (q .pc) t n) (label (q .pc) ∷ rest)) out = taken (popWords 1 l) _ out w in
-      label-goes S 1 (exitLabel code (q .pc)) (q .pc) NoWrite (moved q (q .pc + d)) (T .rest) (popped-words 1 l (T .rest) (T .found)) e
+      let T : Taken (popWords 1 l) (λ rest. toAll (switchTargets code (q .pc) t n) (label (q .pc) ∷ rest)) out =
+      taken (popWords 1 l) _ out w in
+      label-goes S 1 (exitLabel code (q .pc)) (q .pc) NoWrite (moved q (q .pc + d)) (T .rest)
+      (popped-words 1 l (T .rest) (T .found)) e
       (among-taken T (q .pc + d) (label (q .pc) ∷ T .rest) (among-all (label (q .pc) ∷ T .rest) h))
 
 -- NEXT's tests, before it goes on or round.

@@ -39,7 +39,10 @@ pub data Framed (m : List ℕ) (start : ℕ) : ℕ → List Call → Type 0 wher
 -- What each active call's caller has on its share of the stack, under the callee's, and finds when it goes on.
 pub data Suspended (U : Subject) (s : List ℕ) : List Call → Type 0 where
   no-caller : Suspended U s []
-  a-caller : {c : Call} {calls : List Call} (l : List Slot) → Reached U (running calls) (c .back) (pushWords (resultsIn (U .results) (c .procedure)) l) → c .share ≡ shareOf calls + length l → Holds (U .code) s (shareOf calls) l → c .procedure < entryCount (U .code) → Suspended U s calls → Suspended U s (c ∷ calls)
+  a-caller : {c : Call} {calls : List Call} (l : List Slot)
+      → Reached U (running calls) (c .back) (pushWords (resultsIn (U .results) (c .procedure)) l)
+      → c .share ≡ shareOf calls + length l → Holds (U .code) s (shareOf calls) l → c .procedure < entryCount (U .code)
+      → Suspended U s calls → Suspended U s (c ∷ calls)
 
 -- Where control is: the running procedure, the slots that its picture has there and its share holds, and its callers.
 pub record Placed (U : Subject) (calls : List Call) (q : Registers) (s : List ℕ) : Type 0 where
@@ -75,7 +78,8 @@ FramesKept =
 abbrev pub StepUnread : Type 0
 StepUnread =
     (U : Subject) (c : Configuration) (i : Instruction) (next : ℕ) → Doing U c i next
-    → shareOf (c .calls) + needed i ≤ registersOf c .height → (s' : List ℕ) → SameFrom (shareOf (c .calls)) (c .stack) s' → Unread U c s'
+    → shareOf (c .calls) + needed i ≤ registersOf c .height → (s' : List ℕ) → SameFrom (shareOf (c .calls)) (c .stack) s'
+    → Unread U c s'
 
 -- Part 3: what a step does to the share, by the shape of its instruction.
 abbrev pub DataTrap : ℕ → Type 0
@@ -117,7 +121,8 @@ Callable code d = (0 < d) × (d < entryCount code) × (entryAt code d < length c
 
 abbrev pub SlotsKept : Type 0
 SlotsKept =
-    (U : Subject) (A : Areas) (c : Configuration) (i : Instruction) (next p : ℕ) (l : List Slot) (out : List Way) → Doing U c i next
+    (U : Subject) (A : Areas) (c : Configuration) (i : Instruction) (next p : ℕ) (l : List Slot) (out : List Way)
+    → Doing U c i next
     → c .machine .areas ≡ A → fits A (registersOf c) (c .memory) (c .stack) ≡ true
     → registersOf c .height ≡ shareOf (c .calls) + length l → Holds (U .code) (c .stack) (shareOf (c .calls)) l
     → ways U p (registersOf c .pc) next (shapeOf i) l ≡ some out → InCode (U .code) out
@@ -128,4 +133,5 @@ SlotsKept =
 -- An instruction of a shape finds its words in the share.
 abbrev pub FindsWords : Type 0
 FindsWords =
-    (U : Subject) (p at next : ℕ) (s : Shape) (l : List Slot) (out : List Way) → ways U p at next s l ≡ some out → finds s ≤ length l
+    (U : Subject) (p at next : ℕ) (s : Shape) (l : List Slot) (out : List Way) → ways U p at next s l ≡ some out
+    → finds s ≤ length l

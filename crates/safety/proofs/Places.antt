@@ -96,7 +96,8 @@ module _ (U : Subject) (C : Checked U) (p : ℕ) (h : p < entryCount (U .code)) 
   pub reached-inside : (at : ℕ) (l : List Slot) → Reached U p at l → at < length (U .code)
   reached-inside at l r = C .cutted .inside p at (obeyed at l r .start)
 
-  calls-only : (at next : ℕ) (i : Instruction) → startsIn (U .marks) p at ≡ true → decodeAt (U .code) (regionEnd (U .code) p) at ≡ At i next
+  calls-only : (at next : ℕ) (i : Instruction) → startsIn (U .marks) p at ≡ true
+      → decodeAt (U .code) (regionEnd (U .code) p) at ≡ At i next
       → (d : ℕ) → shapeOf i ≡ Call d → Callable (U .code) d
   unfolding uncallable
   calls-only at next i s e d k =

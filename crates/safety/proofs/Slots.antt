@@ -61,9 +61,11 @@ module _ (U : Subject) (c : Configuration) (out : List Way) where
 module _ (U : Subject) (c : Configuration) (next p : ℕ) (l : List Slot) (out : List Way) (S : Start (U .code) c l out) where
   effect-goes : (i : Instruction) → Doing U c i next → ways U p (registersOf c .pc) next (shapeOf i) l ≡ some out
       → ((d : ℕ) → shapeOf i ≡ shape.Call d → Callable (U .code) d)
-      → (shapeOf i ≡ shape.Rtn → 0 < registersOf c .calls → read (c .memory) (registersOf c .fp - 1) < length (U .code)) → (ws : List ℕ)
+      → (shapeOf i ≡ shape.Rtn → 0 < registersOf c .calls → read (c .memory) (registersOf c .fp - 1) < length (U .code))
+      → (ws : List ℕ)
       → ws ≡ topWords (needed i) (registersOf c .height) (c .stack)
-      → Goes U c out (linkageOf (shapeOf i)) (execute (program (U .code) (c .machine .areas)) (registersOf c) (c .memory) next ws i)
+      → Goes U c out (linkageOf (shapeOf i))
+      (execute (program (U .code) (c .machine .areas)) (registersOf c) (c .memory) next ws i)
   unfolding execute shapeOf ways switches searches
   effect-goes (LoadConstant n) D w call back ws t = plain-goes S next 0 1 _ w (plain-go refl refl)
   effect-goes (Load base mode n) D w call back ws t =
@@ -86,12 +88,14 @@ module _ (U : Subject) (c : Configuration) (next p : ℕ) (l : List Slot) (out :
   effect-goes (JumpT d) D w call back ws t = jump-tf-goes S next 1 d (read ws 0) w
   effect-goes (JumpF d) D w call back ws t = jump-tf-goes S next 0 d (read ws 0) w
   effect-goes (Iter d) D w call back ws t =
-      iter-goes S (c .machine .areas) (c .memory) next d (read ws 0) (read ws 1) (read ws 2) (read ws 3) (iter-word U c (Iter d) next D refl)
+      iter-goes S (c .machine .areas) (c .memory) next d (read ws 0) (read ws 1) (read ws 2) (read ws 3)
+      (iter-word U c (Iter d) next D refl)
       w
   effect-goes Next D w call back ws t =
       rw t (next-goes (c .machine .areas) (c .memory) next _ _ _ l S w)
   effect-goes (Switch n) D w call back ws t =
-      switch-goes S Branches n _ (switch-word U c (Switch n) next D refl) (in-branches (U .code) (registersOf c .pc) n (read ws 0)) w
+      switch-goes S Branches n _ (switch-word U c (Switch n) next D refl)
+      (in-branches (U .code) (registersOf c .pc) n (read ws 0)) w
   effect-goes (SwitchX n) D w call back ws t =
       switch-goes S Ranges n _ (switch-word U c (SwitchX n) next D refl) (in-ranges (U .code) (registersOf c .pc) n (read ws 0)) w
   effect-goes Leave D w call back ws t = rw t (leave-goes l S w)

@@ -77,7 +77,8 @@ module _ (U : Subject) (C : Checked U) where
       → Placed U (begun U q d next calls) q' s
   called-placed s calls l out q q' next d p w goes h holds S same to =
       let n : ℕ = parametersIn (U .code) d in
-      let T : Taken (popWords n l) (λ rest. next gets pushWords (resultsIn (U .results) d) rest ∷ []) out = taken (popWords n l) _ out w in
+      let T : Taken (popWords n l) (λ rest. next gets pushWords (resultsIn (U .results) d) rest ∷ []) out =
+      taken (popWords n l) _ out w in
       let gone = popped-words n l (T .rest) (T .found) in
       let size = popped-size n l (T .rest) gone in
       let share : q .height - n ≡ shareOf calls + length (T .rest) = omega (arith, h, size) in
@@ -87,5 +88,7 @@ module _ (U : Subject) (C : Checked U) where
         reached = rw to entered;
         height = omega (arith, same, h, size, pushed-height n []);
         holds = holds-words n holds-none;
-        suspended = a-caller (T .rest) (goes (pushWords (resultsIn (U .results) d) (T .rest)) (among-taken T next _ here)) share (holds-under n l (T .rest) gone holds) p S;
+        suspended =
+            a-caller (T .rest) (goes (pushWords (resultsIn (U .results) d) (T .rest)) (among-taken T next _ here)) share
+            (holds-under n l (T .rest) gone holds) p S;
       }

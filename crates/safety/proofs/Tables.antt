@@ -31,11 +31,13 @@ module _ (code : List ℕ) (at : ℕ) where
   in-table t k (suc n) (suc x) h = let e : k + suc x ≡ k + 1 + x = omega arith in rw e (in-later (in-table t (k + 1) n x (omega arith)))
 
   -- SWITCH.
-  pub in-branches : (n x : ℕ) → In (at + cond (leb x n) (branchDistance code at x) (elseDistance code at)) (switchTargets code at Branches n)
+  pub in-branches : (n x : ℕ)
+      → In (at + cond (leb x n) (branchDistance code at x) (elseDistance code at)) (switchTargets code at Branches n)
   unfolding switchTargets
   in-branches n x =
       let z : 0 + x ≡ x = omega arith in
-      by-test (λ (d : ℕ). In (at + d) (switchTargets code at Branches n)) (leb x n) _ _ (λ e. in-later (rw z at (in-table Branches 0 (n + 1) x (omega (arith, leb-true x n e)))))
+      by-test (λ (d : ℕ). In (at + d) (switchTargets code at Branches n)) (leb x n) _ _
+      (λ e. in-later (rw z at (in-table Branches 0 (n + 1) x (omega (arith, leb-true x n e)))))
       (λ e. in-first)
 
   -- SWITCH_X: the first range that holds the selector, or ELSE.
@@ -49,6 +51,7 @@ module _ (code : List ℕ) (at : ℕ) where
       skip in-first = in-first
       skip (in-later h) = in-later (in-later h)
 
-  pub in-ranges : (n x : ℕ) → In (at + orElse (searchDistance code at n x) (elseDistance code at)) (switchTargets code at Ranges n)
+  pub in-ranges : (n x : ℕ)
+      → In (at + orElse (searchDistance code at n x) (elseDistance code at)) (switchTargets code at Ranges n)
   unfolding switchTargets searchDistance
   in-ranges n x = in-found x 0 n

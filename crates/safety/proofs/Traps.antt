@@ -1,5 +1,5 @@
--- The traps of an effect are data traps. A value is a word, or 30, 31 or 34 in its place; every other test of the effects' definitions
--- names its own number.
+-- The traps of an effect are data traps. A value is a word, or 30, 31 or 34 in its place; every other test of the effects'
+-- definitions names its own number.
 use mathlib.Core.Bool.{true, _&&_}
 use mathlib.Core.Path.{_≡_, refl}
 use Prim.Native.Nat.{ℕ}

@@ -1,4 +1,5 @@
--- An instruction finds its words in the share: where the check has a way out, so many slots could be taken off the list. Shape by shape.
+-- An instruction finds its words in the share: where the check has a way out, so many slots could be taken off the list, shape by
+-- shape.
 use mathlib.Core.List.{List, [], _∷_}
 use mathlib.Core.Option.{some}
 use mathlib.Core.Path.{_≡_}

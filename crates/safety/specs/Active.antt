@@ -87,4 +87,5 @@ advance U c =
 -- The configurations of a run: the first, and each after one more completed step that does not finish.
 pub data Visits (U : Subject) (first : Configuration) : ℕ → Configuration → Type 0 where
   at-first : Visits U first 0 first
-  one-more : {n : ℕ} {c : Configuration} → Visits U first n c → stepOn U c .stepped .outcome ≡ Went → Visits U first (suc n) (advance U c)
+  one-more : {n : ℕ} {c : Configuration} → Visits U first n c → stepOn U c .stepped .outcome ≡ Went
+      → Visits U first (suc n) (advance U c)

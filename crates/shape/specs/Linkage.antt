@@ -2,7 +2,8 @@
 -- returns (RTN).
 use Prim.Native.Nat.{ℕ}
 use Rattle.shape.specs.declared.Shape.{Shape}
-use Rattle.shape.specs.declared.Shape.the-variants.{Straight, Pop, Jump, JumpC, JumpTF, Iter, Next, Switch, Leave, Call, Enter, Rtn}
+use Rattle.shape.specs.declared.Shape.the-variants.{Straight, Pop, Jump, JumpC, JumpTF, Iter}
+use Rattle.shape.specs.declared.Shape.the-variants.{Next, Switch, Leave, Call, Enter, Rtn}
 
 pub data Linkage : Type 0 where
   inside : Linkage

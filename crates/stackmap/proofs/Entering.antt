@@ -81,7 +81,8 @@ module _ (U : Subject) (S : WellCut U) where
   has-all zero p q σ h a b = absurd (omega arith)
   has-all (suc n) p q σ h a b =
       at-or-after (Has (entriesWait U p (suc n) σ)) p q a
-      (enter-all (λ (τ : States). Has τ p) (λ o τ g. has-kept o p τ g (omega arith)) n (p + 1) (entering U p σ) (omega arith) (has-one p σ))
+      (enter-all (λ (τ : States). Has τ p) (λ o τ g. has-kept o p τ g (omega arith)) n (p + 1) (entering U p σ) (omega arith)
+      (has-one p σ))
       (λ (more : p < q). has-all n (p + 1) q (entering U p σ) (omega arith) (omega arith) (omega arith))
 
   pub first-entered : Entered (firstStates U)

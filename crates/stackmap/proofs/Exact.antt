@@ -60,7 +60,8 @@ finds-maps U S σ e p h =
           obeyed F at l (t .0) (t .1);
     }
   where
-    obeyed : Final U σ → (at : ℕ) (l : List Slot) → startsIn (U .marks) p at ≡ true → mapOf σ at ≡ some l → Obeys U p (mapIn U p σ) at l
+    obeyed : Final U σ → (at : ℕ) (l : List Slot) → startsIn (U .marks) p at ≡ true → mapOf σ at ≡ some l
+        → Obeys U p (mapIn U p σ) at l
     obeyed F at l s g =
         let same : owner U at ≡ p = owned U p at s in
         let P = F .good .passed at l (given-done (σ at) l (F .idle at) g) in

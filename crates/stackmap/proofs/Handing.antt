@@ -18,7 +18,8 @@ use Rattle.layout.proofs.Updates.{updated-here}
 use Rattle.stackmap.proofs.Comparing.{slots-equal, slots-same}
 use Rattle.stackmap.proofs.Counts.{Stays}
 use Rattle.stackmap.proofs.Reaching.{reached-in}
-use Rattle.stackmap.proofs.Placing.{AllPlaced, placed, placed-reached, placed-update, Later, later-self, later-later, blank-later, waiting-early, in-given, gives-later}
+use Rattle.stackmap.proofs.Placing.{AllPlaced, placed, placed-reached, placed-update, Later, later-self}
+use Rattle.stackmap.proofs.Placing.{later-later, blank-later, waiting-early, in-given, gives-later}
 
 -- A computation with failure: what it tells when it breaks, and of where it ends.
 pub data Ends (Bad : Type 0) (Good : States → Type 0) : Option States → Type 0 where

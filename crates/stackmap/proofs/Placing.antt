@@ -118,7 +118,8 @@ only : {x y : Option (List Slot)} {l : List Slot} (b : Bool) → (x ≡ some l �
 only true f e = f e
 only false f e = e
 
-pub gives-later : (U : Subject) (p : ℕ) (σ τ : States) {ws : List Way} → Later σ τ → GivesEach (mapIn U p σ) ws → GivesEach (mapIn U p τ) ws
+pub gives-later : (U : Subject) (p : ℕ) (σ τ : States) {ws : List Way} → Later σ τ → GivesEach (mapIn U p σ) ws
+    → GivesEach (mapIn U p τ) ws
 gives-later U p σ τ L given-all = given-all
 gives-later U p σ τ L (given-one {t} {l} e g) =
     given-one (only (startsIn (U .marks) p t) (L .kept t l) e) (gives-later U p σ τ L g)

@@ -16,7 +16,8 @@ use Rattle.stackmap.specs.Theorems.{WellCut, mapIn}
 use Rattle.layout.proofs.Updates.{Change, changed, spared, change, updated-here}
 use Rattle.stackmap.proofs.Counts.{undoneIn, undone, undone-drops, undone-waits, done-stays, Seen, clear, sees, seen}
 use Rattle.stackmap.proofs.Reaching.{reached-in}
-use Rattle.stackmap.proofs.Placing.{owner, Placed, AllPlaced, told-change, grows-change, Later, later-self, later-later, gives-later}
+use Rattle.stackmap.proofs.Placing.{owner, Placed, AllPlaced, told-change, grows-change}
+use Rattle.stackmap.proofs.Placing.{Later, later-self, later-later, gives-later}
 use Rattle.stackmap.proofs.Handing.{Ends, broken, went, ends-then, ends-map, NoMap, Handed, handing}
 
 -- A done offset has passed its list on.

@@ -56,4 +56,5 @@ pub data Among (t : ℕ) (l : List Slot) : List Way → Type 0 where
 
 pub data Reached (U : Subject) (p : ℕ) : ℕ → List Slot → Type 0 where
   entered : Reached U p (entryAt (U .code) p) (firstSlots U p)
-  stepped : {at t : ℕ} {l k : List Slot} {out : List Way} → Reached U p at l → waysAt U p at l ≡ some out → Among t k out → Reached U p t k
+  stepped : {at t : ℕ} {l k : List Slot} {out : List Way} → Reached U p at l → waysAt U p at l ≡ some out → Among t k out
+      → Reached U p t k

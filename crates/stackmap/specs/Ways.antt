@@ -13,7 +13,8 @@ use Rattle.operand.specs.Operand.{fixedOf, operand}
 use Rattle.operand.specs.Distance.{placeAt}
 use Rattle.opcode.specs.Codes.{iterCode, switchCode, switchXCode, iterOperands, enterOperands}
 use Rattle.shape.specs.declared.Shape.{Shape}
-use Rattle.shape.specs.declared.Shape.the-variants.{Straight, Pop, Jump, JumpC, JumpTF, Iter, Next, Switch, Leave, Call, Enter, Rtn}
+use Rattle.shape.specs.declared.Shape.the-variants.{Straight, Pop, Jump, JumpC, JumpTF, Iter}
+use Rattle.shape.specs.declared.Shape.the-variants.{Next, Switch, Leave, Call, Enter, Rtn}
 use Rattle.layout.specs.Cut.{Marks}
 use Rattle.successors.specs.Successors.{switchTargets}
 use Rattle.switch_table.specs.Switch.{exitLabel}

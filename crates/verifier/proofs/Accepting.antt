@@ -32,7 +32,8 @@ answers r results w = by (listNumber r results (length w)) refl
 pub data Judged (code results : List ℕ) : Type 0 where
   miscut : (n : ℕ) → cutOf code ≡ bad n → verdictOf code results ≡ refuted n → Judged code results
   faulty : (marks : Marks) (n : ℕ) → cutOf code ≡ cut marks → codeNumber code marks ≡ suc n → verdictOf code results ≡ refuted (suc n) → Judged code results
-  sound-code : (marks : Marks) → cutOf code ≡ cut marks → codeNumber code marks ≡ 0 → verdictOf code results ≡ walked (walkOf (subjectOf code results marks)) → Judged code results
+  sound-code : (marks : Marks) → cutOf code ≡ cut marks → codeNumber code marks ≡ 0
+      → verdictOf code results ≡ walked (walkOf (subjectOf code results marks)) → Judged code results
 
 pub judged : (code results : List ℕ) → Judged code results
 unfolding verdictOf

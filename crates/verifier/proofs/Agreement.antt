@@ -12,22 +12,27 @@ use lib.ListN.{length}
 use borrow.Author.Tests.{le-leb, lt-leb}
 use Rattle.operand.specs.Distance.{placeAt}
 use Rattle.shape.specs.declared.Shape.{Shape}
-use Rattle.shape.specs.declared.Shape.the-variants.{Straight, Pop, Jump, JumpC, JumpTF, Iter, Next, Switch, Leave, Call, Enter, Rtn}
+use Rattle.shape.specs.declared.Shape.the-variants.{Straight, Pop, Jump, JumpC, JumpTF, Iter}
+use Rattle.shape.specs.declared.Shape.the-variants.{Next, Switch, Leave, Call, Enter, Rtn}
 use Rattle.shape.specs.declared.Table.{Table}
 use Rattle.successors.specs.Successors.{switchTargets}
 use Rattle.switch_table.specs.Switch.{exitLabel}
 use Rattle.stackmap.specs.Slots.{Slot, word, label, pushWords, popWords, popSlots, isWords, topOrigin}
-use Rattle.stackmap.specs.Ways.{Subject, Way, _gets_, isIter, isSwitch, after, both, toAll, straight, nextOut, leaveOut, ways, parametersIn, resultsIn}
+use Rattle.stackmap.specs.Ways.{Subject, Way, _gets_, isIter, isSwitch, after, both}
+use Rattle.stackmap.specs.Ways.{toAll, straight, nextOut, leaveOut, ways, parametersIn, resultsIn}
 use Rattle.stackmap.specs.StackMap.{Map}
 use Rattle.compact.specs.declared.top.Top.{Top}
 use Rattle.compact_ways.specs.declared.Way.{Way as Compact}
 use Rattle.compact_ways.specs.declared.Ways.{Ways}
 use Rattle.compact_ways.specs.declared.Ways.the-variants.{Broken, Ended, One, Two}
 use Rattle.compact.specs.Tops.{originUnder, poppable, labelled, lowered, loweredBy}
-use Rattle.compact_ways.specs.Ways.{way, toward, inOrder, straightWays, popWays, jumpCWays, jumpTFWays, iterWays, nextFrom, nextWays, leaveFrom, leaveWays, switchWays, rtnWays, waysTop}
-use Rattle.verifier.proofs.Coherence.{Lies, on-iter, on-switch, Coherent, on-nothing, on-word, on-label, ShowsMap, topOf, compactOf, Stands, broken, ended, one, two, many}
+use Rattle.compact_ways.specs.Ways.{way, toward, inOrder, straightWays, popWays, jumpCWays, jumpTFWays, iterWays}
+use Rattle.compact_ways.specs.Ways.{nextFrom, nextWays, leaveFrom, leaveWays, switchWays, rtnWays, waysTop}
+use Rattle.verifier.proofs.Coherence.{Lies, on-iter, on-switch, Coherent, on-nothing, on-word, on-label, ShowsMap}
+use Rattle.verifier.proofs.Coherence.{topOf, compactOf, Stands, broken, ended, one, two, many}
 use Rattle.stackmap.proofs.Pushing.{pushed-height, pushed-origin}
-use Rattle.verifier.proofs.Levels.{level, Popped, stuck, popped, popping, words-test, iter-not-switch, at-level, labelled-word, labelled-label, lowered-word, lowered-label}
+use Rattle.verifier.proofs.Levels.{level, Popped, stuck, popped, popping, words-test}
+use Rattle.verifier.proofs.Levels.{iter-not-switch, at-level, labelled-word, labelled-label, lowered-word, lowered-label}
 
 -- The compact form of a way, from its parts.
 to-list : {h o : ℕ} (t : ℕ) (l : List Slot) → h ≡ length l → o ≡ topOrigin l → way t h o ≡ compactOf (t gets l)
@@ -156,7 +161,8 @@ module _ {code w : List ℕ} {π : Map} (S : ShowsMap w π) where
       → Stands code at (nextWays code w next (topOf l)) (nextOut code next l)
   unfolding nextWays
   next-stands at next l on-nothing = broken
-  next-stands at next l (on-word {l = r} c) = rw (next-word code w next (topOf (word ∷ r)) (topOrigin r) (labelled-word S r c)) broken
+  next-stands at next l (on-word {l = r} c) =
+      rw (next-word code w next (topOf (word ∷ r)) (topOrigin r) (labelled-word S r c)) broken
   next-stands at next l (on-label {origin = m} {l = r} L c) =
       subst⁻¹ (λ o. Stands code at (nextFrom code w next (topOf (label m ∷ r)) o) (nextOut code next (label m ∷ r))) (add-one m)
       (next-label at next m r L)
@@ -176,7 +182,8 @@ module _ {code w : List ℕ} {π : Map} (S : ShowsMap w π) where
       subst⁻¹ (λ o. Stands code at (leaveFrom code w (topOf (label m ∷ r)) o) (leaveOut code (label m ∷ r))) (add-one m)
       (leave-label at m r L)
 
-pub ways-stand : (U : Subject) (p at next : ℕ) (s : Shape) (w : List ℕ) (π : Map) (l : List Slot) → Coherent (U .code) π l → ShowsMap w π
+pub ways-stand : (U : Subject) (p at next : ℕ) (s : Shape) (w : List ℕ) (π : Map) (l : List Slot) → Coherent (U .code) π l
+    → ShowsMap w π
     → Stands (U .code) at (waysTop (U .code) (U .results) w p at next s (topOf l)) (ways U p at next s l)
 unfolding ways waysTop
 ways-stand U p at next (Straight pops pushes) w π l c S = straight-stands S at next pops pushes l c

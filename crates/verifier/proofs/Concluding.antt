@@ -96,7 +96,8 @@ module _ (code results w : List ℕ) (e : entriesSound code ≡ true) (b : Bytes
 
     faults : (n : ℕ) → codeNumber code (marksIn marked (length code)) ≡ n
         → afterFaults code results marked n
-        ≡ concluded (length code) w (cond (eqb n 0) (walked (walkOf (subjectOf code results (marksIn marked (length code))))) (refuted n))
+        ≡ concluded (length code) w (cond (eqb n 0) (walked (walkOf (subjectOf code results (marksIn marked (length code)))))
+        (refuted n))
     faults zero f = walks (walkOf (subjectOf code results (marksIn marked (length code)))) refl
     faults (suc n) f = rw (eqb·suc-zero n) (cleared (suc n) marked marked-length)
 

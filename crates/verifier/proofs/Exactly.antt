@@ -17,7 +17,8 @@ use Rattle.stackmap.proofs.Placing.{in-told}
 use Rattle.stackmap.proofs.Exact.{finds-maps, refutes-maps, finds-reached, has-reached}
 use Rattle.verifier.specs.Check.{listNumber, accepted, walked, verdictOf, concluded, shownState, shownFrom, checkOf}
 use Rattle.words.specs.Bytes.{Bytes}
-use Rattle.verifier.specs.Exact.{Ruled, subject, Unmapped, Room, AcceptsOnly, AcceptsAll, RefusesOnly, RefusesAll, ShowsReached, ShowsNoMore}
+use Rattle.verifier.specs.Exact.{Ruled, subject, Unmapped, Room, AcceptsOnly}
+use Rattle.verifier.specs.Exact.{AcceptsAll, RefusesOnly, RefusesAll, ShowsReached, ShowsNoMore}
 use Rattle.record.proofs.Sound.{numberless}
 use Rattle.verifier.proofs.Records.{Listed, code-bytes}
 use Rattle.verifier.proofs.Keeping.{state-shows}

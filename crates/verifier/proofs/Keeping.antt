@@ -49,7 +49,8 @@ shows-map {U} {w} {σ} H at l e =
     record { height = S .height ∙ s .height; origin = S .origin ∙ s .origin }
 
 -- One offset is changed.
-pub held-change : (U : Subject) (w v : List ℕ) (σ : States) (t : ℕ) (s : State) (k : List Slot) → Within t w v → t < length (U .code)
+pub held-change : (U : Subject) (w v : List ℕ) (σ : States) (t : ℕ) (s : State) (k : List Slot) → Within t w v
+    → t < length (U .code)
     → slotsIn s ≡ some k → Held U w σ → Shown v t s → Held U v (updated σ t s)
 held-change U w v σ t s k W h has H S =
     record {
@@ -63,7 +64,8 @@ held-change U w v σ t s k W h has H S =
     shown at b (changed e q) = rw (q, e) S
     shown at b (spared e q) = rw q (shown-other t W at e (H .shown at b))
 
-pub sim-change : {U : Subject} {w v : List ℕ} {σ : States} {from : ℕ} (t : ℕ) (s : State) (k : List Slot) (next : ℕ) → Sim U w σ from
+pub sim-change : {U : Subject} {w v : List ℕ} {σ : States} {from : ℕ} (t : ℕ) (s : State) (k : List Slot) (next : ℕ)
+    → Sim U w σ from
     → t < length (U .code) → Within t w v → Shown v t s → slotsIn s ≡ some k → ((l : List Slot) → mapOf σ t ≡ some l → l ≡ k)
     → Coherent (U .code) (mapOf σ) k → Clear (updated σ t s) next → Sim U v (updated σ t s) next
 sim-change {U} {w} {v} {σ} t s k next X h W S has fits c clear =

@@ -23,8 +23,10 @@ use Rattle.stackmap.proofs.Placing.{Grows, grows-change}
 use Rattle.compact_ways.specs.declared.Ways.{Ways}
 use Rattle.compact_ways.specs.Ways.{way}
 use Rattle.verifier.specs.declared.hand.Handed.the-variants.{Stuck, From}
-use Rattle.verifier.specs.Handing.{Handing, handing, given, least, takenTop, handedTop, thenHanding, handedTwo, handedTargets, handedWays}
-use Rattle.verifier.proofs.Coherence.{Coherent, Shown, topOf, compactOf, Stands, broken, ended, one, two, many, AllCoherent, no-way, a-way}
+use Rattle.verifier.specs.Handing.{Handing, handing, given, least, takenTop}
+use Rattle.verifier.specs.Handing.{handedTop, thenHanding, handedTwo, handedTargets, handedWays}
+use Rattle.verifier.proofs.Coherence.{Coherent, Shown, topOf, compactOf, Stands, broken, ended}
+use Rattle.verifier.proofs.Coherence.{one, two, many, AllCoherent, no-way, a-way}
 use Rattle.verifier.proofs.Pairs.{pair-determines, coherent-grows}
 use Rattle.verifier.proofs.Fields.{within-given, given-shown}
 use Rattle.verifier.proofs.Keeping.{Sim, sim-change, all-grow}
@@ -41,7 +43,8 @@ pub parallel-after : {U : Subject} {w v : List ℕ} {σ τ : States} {h : Handin
 parallel-after K G (both-stop k) = both-stop (k ∙ K)
 parallel-after K G (both-go k g X) = both-go (k ∙ K) (λ at l e. g at l (G at l e)) X
 
-pub parallel-then : {U : Subject} {w : List ℕ} {σ : States} (go : ℕ → List ℕ → Handing) (goes : States → Option States) {h : Handing}
+pub parallel-then : {U : Subject} {w : List ℕ} {σ : States} (go : ℕ → List ℕ → Handing) (goes : States → Option States)
+    {h : Handing}
     {o : Option States} → Parallel U w σ h o
     → ((v : List ℕ) (τ : States) (from : ℕ) → Grows (mapOf σ) (mapOf τ) → Sim U v τ from → Parallel U v τ (go from v) (goes τ))
     → Parallel U w σ (thenHanding go (h .answer) (h .workspace)) (thenHand goes o)
@@ -79,7 +82,8 @@ pair-same code π l k c d = by (sameSlots l k) refl
     by false e = told (eqb (length l + 1) (length k + 1)) (eqb (topOrigin l) (topOrigin k)) refl refl e
 
 module _ (U : Subject) (S : WellCut U) (p : ℕ) where
-  module _ (w : List ℕ) (σ : States) (from : ℕ) (X : Sim U w σ from) (t : ℕ) (k : List Slot) (c : Coherent (U .code) (mapOf σ) k) where
+  module _ (w : List ℕ) (σ : States) (from : ℕ) (X : Sim U w σ from) (t : ℕ) (k : List Slot)
+      (c : Coherent (U .code) (mapOf σ) k) where
     module _ (h : t < length (U .code)) where
       -- A blank offset takes the list.
       took : σ t ≡ blank

@@ -15,13 +15,16 @@ use Rattle.opcode.specs.declared.Decoded.the-variants.{At}
 use Rattle.opcode.specs.declared.instruction.Instruction.{Instruction}
 use Rattle.shape.specs.Shape.{shapeOf}
 use Rattle.shape.specs.declared.Shape.{Shape}
-use Rattle.shape.specs.declared.Shape.the-variants.{Straight, Pop, Jump, JumpC, JumpTF, Iter, Next, Switch, Leave, Call, Enter, Rtn}
+use Rattle.shape.specs.declared.Shape.the-variants.{Straight, Pop, Jump, JumpC, JumpTF, Iter}
+use Rattle.shape.specs.declared.Shape.the-variants.{Next, Switch, Leave, Call, Enter, Rtn}
 use Rattle.shape.proofs.Origins.{iter-origin, switch-origin}
 use Rattle.successors.specs.Successors.{switchTargets}
 use Rattle.stackmap.specs.Slots.{Slot, word, label, pushWords, popWords, popSlots, isWords}
-use Rattle.stackmap.specs.Ways.{Subject, Way, _gets_, isIter, isSwitch, labelWord, after, both, toAll, straight, nextOut, leaveOut, ways, parametersIn, resultsIn}
+use Rattle.stackmap.specs.Ways.{Subject, Way, _gets_, isIter, isSwitch, labelWord, after, both}
+use Rattle.stackmap.specs.Ways.{toAll, straight, nextOut, leaveOut, ways, parametersIn, resultsIn}
 use Rattle.stackmap.specs.StackMap.{Map}
-use Rattle.verifier.proofs.Coherence.{Lies, on-iter, on-switch, Coherent, on-nothing, on-word, on-label, AllCoherent, no-way, a-way}
+use Rattle.verifier.proofs.Coherence.{Lies, on-iter, on-switch, Coherent, on-nothing}
+use Rattle.verifier.proofs.Coherence.{on-word, on-label, AllCoherent, no-way, a-way}
 
 -- What is given away, if anything, is coherent.
 data Passes (code : List ℕ) (π : Map) : Option (List Way) → Type 0 where
@@ -72,7 +75,8 @@ module _ {code : List ℕ} {π : Map} where
   next-passes next l on-nothing = nothing
   next-passes next l (on-word c) = nothing
   next-passes next l (on-label {origin = m} {l = r} L c) =
-      either (Passes code π) (isIter code m) (after (popWords 4 r) (λ rest. both (next gets rest) (labelWord code m gets (label m ∷ r)))) none
+      either (Passes code π) (isIter code m)
+      (after (popWords 4 r) (λ rest. both (next gets rest) (labelWord code m gets (label m ∷ r)))) none
       (passes-after (popWords 4 r) λ rest e. both-ways next (labelWord code m) rest (label m ∷ r) (under-words 4 r rest c e) (on-label L c)) nothing
 
   leave-passes : (l : List Slot) → Coherent code π l → Passes code π (leaveOut code l)

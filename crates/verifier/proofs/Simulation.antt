@@ -57,7 +57,8 @@ third-cleared blank free = refl
 third-cleared (waiting l) free = absurd (free l refl)
 third-cleared (done l) free = refl
 
-ending-alike : (U : Subject) (w : List ℕ) → WellCut U → {W : Walking} (o : Option States) → walkOf U ≡ o → Ending U w W o → Alike U w W
+ending-alike : (U : Subject) (w : List ℕ) → WellCut U → {W : Walking} (o : Option States) → walkOf U ≡ o → Ending U w W o
+    → Alike U w W
 ending-alike U w S none e (both-refuse k) =
     record { sized = k; refused = λ g. refl; accepted = λ σ g. absurd (Option·none-ne-some σ (sym e ∙ g)) }
 ending-alike U w S (some τ) e (both-accept {v} k H) =
@@ -79,7 +80,8 @@ walk-alike U S zero w σ from X = both-accept refl (X .held)
 walk-alike U S (suc n) w σ from X =
     by (walk-alike U S n) (finds (length (U .code)) w σ (X .held .shown) from (X .clear))
   where
-    by : ((v : List ℕ) (τ : States) (next : ℕ) → Sim U v τ next → Ending U v (walkTop (U .code) (U .results) n next v) (walk U n τ))
+    by : ((v : List ℕ) (τ : States) (next : ℕ) → Sim U v τ next
+        → Ending U v (walkTop (U .code) (U .results) n next v) (walk U n τ))
         → {at : ℕ} {f : Found} → Finds (length (U .code)) σ at f
         → Ending U w (visitFirst (U .code) (U .results) (walkTop (U .code) (U .results) n) at w) (visitNext U (walk U n) σ f)
     by go (finds-none {at} h) = rw (le-ltb at (length (U .code)) h) (both-accept refl (X .held))

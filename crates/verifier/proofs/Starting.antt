@@ -51,7 +51,8 @@ module _ (U : Subject) (S : WellCut U) (start : List ℕ) where
       → Fresh U start (entryGiven (U .code) p w) (entering U p σ)
   unfolding entryGiven
   enter-one p w σ b F =
-      words-given U start w σ F (entryAt (U .code) p) (parametersIn (U .code) p) (S .within p (entryAt (U .code) p) (S .entries p b))
+      words-given U start w σ F (entryAt (U .code) p) (parametersIn (U .code) p)
+      (S .within p (entryAt (U .code) p) (S .entries p b))
 
   enter-all : (n p : ℕ) (w : List ℕ) (σ : States) → p + n ≤ entryCount (U .code) → Fresh U start w σ
       → Fresh U start (entriesGiven (U .code) p n w) (entriesWait U p n σ)

@@ -11,11 +11,18 @@ unfolding iterWays
 returns c = rw (← c .before .is-poppable .ensures, not-true (c .before .is-poppable .result) (c .if1 .taken))
 
 sub-height : tie.Need-sub-height
-sub-height c = popped-height (c .before .before .before .before .before .before .args .code .now) (c .before .before .before .before .before .before .args .w .now) (c .before .before .before .before .before .before .args .t) 4 (c .before .before .before .is-poppable .result) (c .before .before .before .is-poppable .ensures) (c .before .before .if1 .left)
+sub-height c =
+    let d = c .before .before in
+    let pops = d .before .is-poppable in
+    let a = d .before .before .before .before .args in
+    popped-height (a .code .now) (a .w .now) (a .t) 4 (pops .result) (pops .ensures) (d .if1 .left)
 
 returns-2 : tie.Need-returns-2
 unfolding iterWays
-returns-2 c = rw (← c .before .before .before .before .before .is-poppable .ensures, not-false (c .before .before .before .before .before .is-poppable .result) (c .before .before .before .before .if1 .left), c .in-order .ensures, c .before .place-at .ensures)
+returns-2 c =
+    let d = c .before .before .before .before in
+    let pops = d .before .is-poppable in
+    rw (← pops .ensures, not-false (pops .result) (d .if1 .left), c .in-order .ensures, c .before .place-at .ensures)
 
 pub iter-ways-spec : {M : Type 1} → statement M
 iter-ways-spec =

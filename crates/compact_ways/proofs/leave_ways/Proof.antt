@@ -18,24 +18,59 @@ returns c = rw (c .if1 .taken)
 -- With a label the definition goes on from its origin.
 at-label : (c : tie.Else1) →
     let a = c .before .before .before .before .args in
-    leaveFrom (a .code .now) (a .w .now) (a .t) (a .t .origin) ≡ leaveFrom (a .code .now) (a .w .now) (a .t) (suc (a .t .origin - 1))
-at-label c = at-origin (leaveFrom (c .before .before .before .before .args .code .now) (c .before .before .before .before .args .w .now) (c .before .before .before .before .args .t)) (c .before .before .before .before .args .t .origin) (c .if1 .left)
+    let from = leaveFrom (a .code .now) (a .w .now) (a .t) in
+    from (a .t .origin) ≡ from (suc (a .t .origin - 1))
+at-label c =
+    let a = c .before .before .before .before .args in
+    at-origin (leaveFrom (a .code .now) (a .w .now) (a .t)) (a .t .origin) (c .if1 .left)
 
 returns-2 : tie.Need-returns-2
 unfolding leaveWays
-returns-2 c = rw (at-label (c .before .before .before), ← c .before .is-switch .ensures, not-true (c .before .is-switch .result) (c .if2 .taken))
+returns-2 c =
+    let switch = c .before .is-switch in
+    rw (at-label (c .before .before .before), ← switch .ensures, not-true (switch .result) (c .if2 .taken))
 
 returns-3 : tie.Need-returns-3
 unfolding leaveWays
-returns-3 c = rw (at-label (c .before .before .before .before .before), ← c .before .before .before .is-switch .ensures, not-false (c .before .before .before .is-switch .result) (c .before .before .if2 .left), ← c .before .is-labelled .ensures, not-true (c .before .is-labelled .result) (c .if3 .taken))
+returns-3 c =
+    let top = c .before .is-labelled in
+    let d = c .before .before in
+    let switch = d .before .is-switch in
+    rw (
+      at-label (d .before .before .before),
+      ← switch .ensures,
+      not-false (switch .result) (d .if2 .left),
+      ← top .ensures,
+      not-true (top .result) (c .if3 .taken),
+    )
 
 -- The height without the label.
-past : (c : tie.Joined4) → c .if4 .height ≡ c .before .before .before .before .before .before .before .before .before .before .before .args .t .height - 1
+past : (c : tie.Joined4) →
+    let a = c .before .before .before .before .before .before .before .before .before .before .before .args in
+    c .if4 .height ≡ a .t .height - 1
 past c = ⊎-elim (λ w. omega arith) (λ w. omega arith) (c .if4 .came)
 
 returns-4 : tie.Need-returns-4
 unfolding leaveWays
-returns-4 c = rw (at-label (c .before .before .before .before .before .before .before .before .before), ← c .before .before .before .before .before .before .before .is-switch .ensures, not-false (c .before .before .before .before .before .before .before .is-switch .result) (c .before .before .before .before .before .before .if2 .left), ← c .before .before .before .before .before .is-labelled .ensures, not-false (c .before .before .before .before .before .is-labelled .result) (c .before .before .before .before .if3 .left), c .before .exit-label .ensures, c .origin-under .ensures, at-origin (originUnder (c .before .before .before .before .before .before .before .before .before .before .before .before .before .args .w .now)) (c .before .before .before .before .before .before .before .before .before .before .before .before .before .args .t .origin) (c .before .before .before .before .before .before .before .before .before .if1 .left), past (c .before .before))
+returns-4 c =
+    let joined = c .before .before in
+    let e = joined .before .before in
+    let top = e .before .is-labelled in
+    let d = e .before .before in
+    let switch = d .before .is-switch in
+    let b = d .before .before .before in
+    let a = b .before .before .before .before .args in
+    rw (
+      at-label b,
+      ← switch .ensures,
+      not-false (switch .result) (d .if2 .left),
+      ← top .ensures,
+      not-false (top .result) (e .if3 .left),
+      c .before .exit-label .ensures,
+      c .origin-under .ensures,
+      at-origin (originUnder (a .w .now)) (a .t .origin) (b .if1 .left),
+      past joined,
+    )
 
 pub leave-ways-spec : {M : Type 1} → statement M
 leave-ways-spec =

@@ -18,24 +18,60 @@ returns c = rw (c .if1 .taken)
 -- With a label the definition goes on from its origin.
 at-label : (c : tie.Else1) →
     let a = c .before .before .before .before .args in
-    nextFrom (a .code .now) (a .w .now) (a .next) (a .t) (a .t .origin) ≡ nextFrom (a .code .now) (a .w .now) (a .next) (a .t) (suc (a .t .origin - 1))
-at-label c = at-origin (nextFrom (c .before .before .before .before .args .code .now) (c .before .before .before .before .args .w .now) (c .before .before .before .before .args .next) (c .before .before .before .before .args .t)) (c .before .before .before .before .args .t .origin) (c .if1 .left)
+    let from = nextFrom (a .code .now) (a .w .now) (a .next) (a .t) in
+    from (a .t .origin) ≡ from (suc (a .t .origin - 1))
+at-label c =
+    let a = c .before .before .before .before .args in
+    at-origin (nextFrom (a .code .now) (a .w .now) (a .next) (a .t)) (a .t .origin) (c .if1 .left)
 
 returns-2 : tie.Need-returns-2
 unfolding nextWays
-returns-2 c = rw (at-label (c .before .before .before), ← c .before .is-iter .ensures, not-true (c .before .is-iter .result) (c .if2 .taken))
+returns-2 c =
+    let iter = c .before .is-iter in
+    rw (at-label (c .before .before .before), ← iter .ensures, not-true (iter .result) (c .if2 .taken))
 
 returns-3 : tie.Need-returns-3
 unfolding nextWays
-returns-3 c = rw (at-label (c .before .before .before .before .before), ← c .before .before .before .is-iter .ensures, not-false (c .before .before .before .is-iter .result) (c .before .before .if2 .left), ← c .before .is-labelled .ensures, not-true (c .before .is-labelled .result) (c .if3 .taken))
+returns-3 c =
+    let top = c .before .is-labelled in
+    let d = c .before .before in
+    let iter = d .before .is-iter in
+    rw (
+      at-label (d .before .before .before),
+      ← iter .ensures,
+      not-false (iter .result) (d .if2 .left),
+      ← top .ensures,
+      not-true (top .result) (c .if3 .taken),
+    )
 
 -- The height past the loop.
-past : (c : tie.Joined4) → c .if4 .height ≡ c .before .before .before .before .before .before .before .before .before .before .before .args .t .height - 5
+past : (c : tie.Joined4) →
+    let a = c .before .before .before .before .before .before .before .before .before .before .before .args in
+    c .if4 .height ≡ a .t .height - 5
 past c = ⊎-elim (λ w. omega arith) (λ w. omega arith) (c .if4 .came)
 
 returns-4 : tie.Need-returns-4
 unfolding nextWays
-returns-4 c = rw (at-label (c .before .before .before .before .before .before .before .before .before .before), ← c .before .before .before .before .before .before .before .before .is-iter .ensures, not-false (c .before .before .before .before .before .before .before .before .is-iter .result) (c .before .before .before .before .before .before .before .if2 .left), ← c .before .before .before .before .before .before .is-labelled .ensures, not-false (c .before .before .before .before .before .before .is-labelled .result) (c .before .before .before .before .before .if3 .left), c .in-order .ensures, c .before .way-toward .ensures, c .before .before .origin-under .ensures, at-origin (originUnder (c .before .before .before .before .before .before .before .before .before .before .before .before .before .before .args .w .now)) (c .before .before .before .before .before .before .before .before .before .before .before .before .before .before .args .t .origin) (c .before .before .before .before .before .before .before .before .before .before .if1 .left), past (c .before .before .before))
+returns-4 c =
+    let joined = c .before .before .before in
+    let e = joined .before .before in
+    let top = e .before .is-labelled in
+    let d = e .before .before in
+    let iter = d .before .is-iter in
+    let b = d .before .before .before in
+    let a = b .before .before .before .before .args in
+    rw (
+      at-label b,
+      ← iter .ensures,
+      not-false (iter .result) (d .if2 .left),
+      ← top .ensures,
+      not-false (top .result) (e .if3 .left),
+      c .in-order .ensures,
+      c .before .way-toward .ensures,
+      c .before .before .origin-under .ensures,
+      at-origin (originUnder (a .w .now)) (a .t .origin) (b .if1 .left),
+      past joined,
+    )
 
 pub next-ways-spec : {M : Type 1} → statement M
 next-ways-spec =

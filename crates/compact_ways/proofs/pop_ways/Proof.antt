@@ -7,11 +7,16 @@ use Rattle.compact_ways.proofs.pop_ways.Tie as tie
 
 returns : tie.Need-returns
 unfolding popWays
-returns c = rw (lt-leb (c .before .before .before .before .args .n) (c .before .before .before .before .args .t .height) (c .if1 .taken))
+returns c =
+    let a = c .before .before .before .before .args in
+    rw (lt-leb (a .n) (a .t .height) (c .if1 .taken))
 
 returns-2 : tie.Need-returns-2
 unfolding popWays
-returns-2 c = rw (le-leb (c .before .before .before .before .before .before .args .n) (c .before .before .before .before .before .before .args .t .height) (c .before .before .if1 .left), c .way-toward .ensures, c .before .lowered-by .ensures)
+returns-2 c =
+    let d = c .before .before in
+    let a = d .before .before .before .before .args in
+    rw (le-leb (a .n) (a .t .height) (d .if1 .left), c .way-toward .ensures, c .before .lowered-by .ensures)
 
 pub pop-ways-spec : {M : Type 1} → statement M
 pop-ways-spec = tie.close (tie.spec returns (λ c κs. search needs) (λ c κs. search needs) returns-2)

@@ -10,11 +10,17 @@ returns c = rw (ne-eqb (c .before .before .args .t .height) (c .before .before .
 
 returns-2 : tie.Need-returns-2
 unfolding rtnWays
-returns-2 c = rw (eq-eqb (c .before .before .before .before .args .t .height) (c .before .before .before .before .args .results) (c .before .before .if1 .left), ne-eqb (c .before .before .before .before .args .t .origin) 0 (c .if2 .taken))
+returns-2 c =
+    let d = c .before .before in
+    let a = d .before .before .args in
+    rw (eq-eqb (a .t .height) (a .results) (d .if1 .left), ne-eqb (a .t .origin) 0 (c .if2 .taken))
 
 returns-3 : tie.Need-returns-3
 unfolding rtnWays
-returns-3 c = rw (eq-eqb (c .before .before .before .before .args .t .height) (c .before .before .before .before .args .results) (c .before .before .if1 .left), eq-eqb (c .before .before .before .before .args .t .origin) 0 (c .if2 .left))
+returns-3 c =
+    let d = c .before .before in
+    let a = d .before .before .args in
+    rw (eq-eqb (a .t .height) (a .results) (d .if1 .left), eq-eqb (a .t .origin) 0 (c .if2 .left))
 
 pub rtn-ways-spec : {M : Type 1} → statement M
 rtn-ways-spec = tie.close (tie.spec returns returns-2 returns-3)

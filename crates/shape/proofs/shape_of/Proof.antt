@@ -9,7 +9,9 @@ use Rattle.shape.proofs.shape_of.Tie as tie
 add-t24 : tie.Need-add-t24
 add-t24 c =
     let i = c .before .before .before .i3 .given .0 in
-    record { fits = omega (arith, c .before .popped-words3 .ensures, c .words-in2 .ensures, popped-small (i .0), words-small (i .1 .0)) }
+    let base = popped-small (i .0) in
+    let mode = words-small (i .1 .0) in
+    record { fits = omega (arith, c .before .popped-words3 .ensures, c .words-in2 .ensures, base, mode) }
 
 pub shape-of-spec : {M : Type 1} → statement M
 unfolding shapeOf

@@ -10,17 +10,28 @@ use Rattle.compact.proofs.top.label_height.Tie as tie
 -- With a label the definition goes on from its origin.
 at-label : (c : tie.Else1) →
     let a = c .before .before .before .args in
-    labelHeight (a .code .now) (a .w .now) (a .origin) ≡ labelHeight (a .code .now) (a .w .now) (suc (a .origin - 1))
-at-label c = at-origin (labelHeight (c .before .before .before .args .code .now) (c .before .before .before .args .w .now)) (c .before .before .before .args .origin) (c .if1 .left)
+    let height = labelHeight (a .code .now) (a .w .now) in
+    height (a .origin) ≡ height (suc (a .origin - 1))
+at-label c =
+    let a = c .before .before .before .args in
+    at-origin (labelHeight (a .code .now) (a .w .now)) (a .origin) (c .if1 .left)
 
 returns-2 : tie.Need-returns-2
-returns-2 c = rw (at-label (c .before .before .before), ← c .before .is-iter .ensures, c .if2 .taken, c .before .before .half-at .ensures)
+returns-2 c =
+    let shown = c .before .before in
+    rw (at-label (shown .before), ← c .before .is-iter .ensures, c .if2 .taken, shown .half-at .ensures)
 
 returns-3 : tie.Need-returns-3
-returns-3 c = rw (at-label (c .before .before .before .before), ← c .before .before .is-iter .ensures, c .before .if2 .left, ← c .before .before .before .half-at .ensures, c .if3 .taken)
+returns-3 c =
+    let iter = c .before .before in
+    let shown = iter .before in
+    rw (at-label (shown .before), ← iter .is-iter .ensures, c .before .if2 .left, ← shown .half-at .ensures, c .if3 .taken)
 
 returns-4 : tie.Need-returns-4
-returns-4 c = rw (at-label (c .before .before .before .before), ← c .before .before .is-iter .ensures, c .before .if2 .left, c .before .before .before .half-at .ensures)
+returns-4 c =
+    let iter = c .before .before in
+    let shown = iter .before in
+    rw (at-label (shown .before), ← iter .is-iter .ensures, c .before .if2 .left, shown .half-at .ensures)
 
 pub label-height-spec : {M : Type 1} → statement M
 label-height-spec =
