@@ -250,8 +250,7 @@ def lint(root=ROOT):
 
 # What the checker says of a need that does not hold: a goal that is another one than what was proved, or that nothing proves.
 FACT = re.compile(
-    r"the two (types|values|indices)|^expected type|does not follow|does not hold|lands at index|no proof of|"
-    r"give a proof of that|no occurrence of the path's|no part of the goal"
+    r"the two (types|values|indices)|^expected type|does not follow|no proof of|give a proof of that|no occurrence of the path's"
 )
 # What it says where a proof file does not fit the code, or rests on something that is not proved. Whatever is in neither list is no fact.
 UNFIT = re.compile(r"was not admitted|can be named from here|has no field|`: module|on the face `κs = 1`|not in scope")
