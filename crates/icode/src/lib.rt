@@ -12,6 +12,7 @@ ghost use Rattle.report.specs.Report.{output, printed, textOf};
 ghost use Rattle.icode.specs.Interface.{lineCode, lookupReply, spanReply, decodeReply};
 
 pub mod bench;
+pub mod mending;
 
 use opcode::Decoded;
 use record::Line;

@@ -1,23 +1,59 @@
--- What the numbers 1 to 7 being absent says, the sizes of the record, its source table and its entries; and how large numbers are. A refusal of 0 passes
--- each of its tests.
-use mathlib.Core.Bool.{Bool, true, false, _&&_, and-eq-true-iff}
+-- What the numbers 1 to 3 and 1 to 7 being absent says, the sizes of the record, its source table and its entries; and how large
+-- numbers are. A refusal of 0 passes each of its tests.
+use mathlib.Core.Bool.{Bool, true, false, cond, _&&_, and-eq-true-iff}
 use mathlib.Core.List.{List}
 use mathlib.Core.Path.{_≡_, refl, sym}
 use Prim.Native.Nat.{ℕ, _≤_}
 use native.Mathlib.Omega.{arith}
 use lib.Dec.{eqb, leb}
 use lib.ListN.{length, drop, length-take}
-use borrow.Author.Tests.{leb-true, eqb-true, eqb-false, not-false}
+use borrow.Author.Tests.{leb-true, ltb-false, eqb-true, eqb-false, not-false, le-leb, le-ltb, eq-eqb, ne-eqb}
 use Rattle.words.specs.Refusal.{Test, refusal}
-use Rattle.words.proofs.Refusal.{Clear, positive, within, cleared, most}
+use Rattle.words.proofs.Refusal.{Clear, positive, within, cleared, most, refusal-append}
 use Rattle.words.proofs.Tests.{either, by-test}
-use Rattle.header.specs.Header.{headerOf, sizesFit, codeAt, codeOf}
+use Rattle.header.specs.Header.{headerOf, sizesFit, recordLength, codeAt, codeOf}
 use Rattle.header.specs.declared.Header.{Header}
 use Rattle.source.specs.Source.{sourceSound}
 use Rattle.entries.specs.Entries.{entriesSound}
-use Rattle.record.specs.Number.{recordTests, recordNumber, afterRecord, readingOf, readingNumber}
+use Rattle.record.specs.Number.{sizeTests, sizeNumber, partTests, recordTests, recordNumber, afterRecord}
+use Rattle.record.specs.Number.{readingOf, readingNumber}
 use Rattle.record.specs.Sound.{SourcesSound}
 use Rattle.record.specs.declared.Reading.{Reading}
+
+-- Where 1 to 3 are given that is the number, else the other tests decide.
+sizes-first : (r : List ℕ) → recordNumber r ≡ cond (eqb (sizeNumber r) 0) (refusal (partTests r)) (sizeNumber r)
+unfolding sizeNumber recordNumber
+sizes-first r = refusal-append (sizeTests r) (partTests r) refl
+
+pub size-refuses : (r : List ℕ) (n : ℕ) → n ≡ sizeNumber r → (n ≡ 0 → ⊥) → n ≡ recordNumber r
+size-refuses r n e some = rw (sizes-first r, ← e, ne-eqb n 0 some)
+
+pub parts-decide : (r : List ℕ) (n : ℕ) → n ≡ sizeNumber r → n ≡ 0 → recordNumber r ≡ refusal (partTests r)
+parts-decide r n e none = rw (sizes-first r, ← e, eq-eqb n 0 none)
+
+pub record Sized (r : List ℕ) : Type 0 where
+  pub header : 28 ≤ length r
+  pub sizes : sizesFit (headerOf r) ≡ true
+  pub whole : length r ≡ recordLength (headerOf r)
+
+pub sized : (r : List ℕ) → sizeNumber r ≡ 0 → Sized r
+unfolding sizeNumber
+sized r e =
+    let c = cleared (sizeTests r) refl e in
+    let size = recordLength (headerOf r) in
+    record {
+      header = ltb-false (length r) 28 (c .0);
+      sizes = not-false (sizesFit (headerOf r)) (c .1 .0);
+      whole = eqb-true (length r) size (not-false (eqb (length r) size) (c .1 .1 .0));
+    }
+
+pub size-cleared : (r : List ℕ) → Sized r → sizeNumber r ≡ 0
+unfolding sizeNumber
+size-cleared r s = rw (le-ltb (length r) 28 (s .header), s .sizes, eq-eqb (length r) (recordLength (headerOf r)) (s .whole))
+
+pub size-range : (r : List ℕ) → sizeNumber r ≤ 3
+unfolding sizeNumber
+size-range r = most 3 (sizeTests r) refl
 
 pub record Numberless (r : List ℕ) : Type 0 where
   pub sizes : sizesFit (headerOf r) ≡ true
@@ -61,26 +97,52 @@ after-range r k tests l w =
 
 -- Sizes that fit are at most the largest.
 pub record Sizes (h : Header) : Type 0 where
+  pub imports : h .imports ≤ 16
   pub code : h .code ≤ 4096
   pub globals : h .globals ≤ 1024
   pub constants : h .constants ≤ 1024
+  pub relocation : h .relocation ≤ 4096
+  pub versions : h .versions ≤ 16
+  pub sources : h .sources ≤ 2048
 
-sizes : (h : Header) → sizesFit h ≡ true → Sizes h
+pub sizes-small : (h : Header) → sizesFit h ≡ true → Sizes h
 unfolding sizesFit
-sizes h e =
-    let rest = leb (h .relocation) 4096 && (leb (h .versions) 16 && leb (h .sources) 2048) in
-    let a = and-eq-true-iff (leb (h .imports) 16) (leb (h .code) 4096 && (leb (h .globals) 1024 && (leb (h .constants) 1024 && rest))) .0 e in
-    let b = and-eq-true-iff (leb (h .code) 4096) (leb (h .globals) 1024 && (leb (h .constants) 1024 && rest)) .0 (a .1) in
-    let c = and-eq-true-iff (leb (h .globals) 1024) (leb (h .constants) 1024 && rest) .0 (b .1) in
-    let d = and-eq-true-iff (leb (h .constants) 1024) rest .0 (c .1) in
+sizes-small h e =
+    let past-relocation = leb (h .versions) 16 && leb (h .sources) 2048 in
+    let past-constants = leb (h .relocation) 4096 && past-relocation in
+    let past-globals = leb (h .constants) 1024 && past-constants in
+    let past-code = leb (h .globals) 1024 && past-globals in
+    let a = and-eq-true-iff (leb (h .imports) 16) (leb (h .code) 4096 && past-code) .0 e in
+    let b = and-eq-true-iff (leb (h .code) 4096) past-code .0 (a .1) in
+    let c = and-eq-true-iff (leb (h .globals) 1024) past-globals .0 (b .1) in
+    let d = and-eq-true-iff (leb (h .constants) 1024) past-constants .0 (c .1) in
+    let f = and-eq-true-iff (leb (h .relocation) 4096) past-relocation .0 (d .1) in
+    let g = and-eq-true-iff (leb (h .versions) 16) (leb (h .sources) 2048) .0 (f .1) in
     record {
+      imports = leb-true (h .imports) 16 (a .0);
       code = leb-true (h .code) 4096 (b .0);
       globals = leb-true (h .globals) 1024 (c .0);
       constants = leb-true (h .constants) 1024 (d .0);
+      relocation = leb-true (h .relocation) 4096 (f .0);
+      versions = leb-true (h .versions) 16 (g .0);
+      sources = leb-true (h .sources) 2048 (g .1);
     }
 
+pub small-sizes : (h : Header) → Sizes h → sizesFit h ≡ true
+unfolding sizesFit
+small-sizes h s =
+    rw (
+      le-leb (h .imports) 16 (s .imports),
+      le-leb (h .code) 4096 (s .code),
+      le-leb (h .globals) 1024 (s .globals),
+      le-leb (h .constants) 1024 (s .constants),
+      le-leb (h .relocation) 4096 (s .relocation),
+      le-leb (h .versions) 16 (s .versions),
+      le-leb (h .sources) 2048 (s .sources),
+    )
+
 pub sound-sizes : (r : List ℕ) → recordNumber r ≡ 0 → Sizes (headerOf r)
-sound-sizes r e = sizes (headerOf r) (numberless r e .sizes)
+sound-sizes r e = sizes-small (headerOf r) (numberless r e .sizes)
 
 pub sound-code : (r : List ℕ) → recordNumber r ≡ 0 → length (codeOf r) ≤ 4096
 unfolding codeOf

@@ -1,6 +1,6 @@
 -- The numbers 1 to 7, what reading a record answers, and the line lookup.
 use mathlib.Core.Bool.{cond, not, _&&_}
-use mathlib.Core.List.{List, [], _∷_}
+use mathlib.Core.List.{List, [], _∷_, _++_}
 use Prim.Native.Nat.{ℕ}
 use lib.Dec.{ltb, eqb}
 use lib.ListN.{length}
@@ -15,19 +15,30 @@ use Rattle.record.specs.declared.Reading.the-variants.{Refused, Sound}
 use Rattle.record.specs.declared.Line.{Line}
 use Rattle.record.specs.declared.Line.the-variants.{At, Refused as NoLine}
 
--- 01's table: record under 28 bytes; a size above its maximum; length not that of the parts; imports or relocation present;
--- version word malformed; source table odd or not as above; entries not as above.
-abbrev pub recordTests : List ℕ → List Test
-recordTests r =
+-- 01's table: record under 28 bytes; a size above its maximum; length not that of the parts. Mending makes these tests too (02, K12).
+abbrev pub sizeTests : List ℕ → List Test
+sizeTests r =
     let h = headerOf r in
     1 when ltb (length r) 28
     ∷ 2 when not (sizesFit h)
     ∷ 3 when not (eqb (length r) (recordLength h))
-    ∷ 4 when not (eqb (h .imports) 0 && eqb (h .relocation) 0)
+    ∷ []
+
+unfoldable pub sizeNumber : List ℕ → ℕ
+sizeNumber r = refusal (sizeTests r)
+
+-- Imports or relocation present; version word malformed; source table odd or not as above; entries not as above.
+abbrev pub partTests : List ℕ → List Test
+partTests r =
+    let h = headerOf r in
+    4 when not (eqb (h .imports) 0 && eqb (h .relocation) 0)
     ∷ 5 when not (versionSound r h)
     ∷ 6 when not (sourceSound r h)
     ∷ 7 when not (entriesSound (codeOf r))
     ∷ []
+
+abbrev pub recordTests : List ℕ → List Test
+recordTests r = sizeTests r ++ partTests r
 
 unfoldable pub recordNumber : List ℕ → ℕ
 recordNumber r = refusal (recordTests r)

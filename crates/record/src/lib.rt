@@ -1,6 +1,6 @@
 // The record of 5.1: which number refuses it, and which source line an offset belongs to.
 ghost use mathlib.Core.Path.{_≡_};
-ghost use Rattle.record.specs.Number.{recordNumber, readingOf, lineSpan};
+ghost use Rattle.record.specs.Number.{sizeNumber, recordNumber, readingOf, lineSpan};
 use header::Header;
 use source::Lookup;
 
@@ -16,9 +16,9 @@ pub enum Line {
     At(Lookup),
 }
 
-// 0, or the lowest of the numbers 1 to 7 that refuses the record.
-pub fn record_number(r: &[u8]) -> u32
-    ensures { λ n. ⌜ n ≡ recordNumber (now (r .entry)) ⌝ }
+// 0, or the lowest of the numbers 1 to 3: the record has the sizes that its header says.
+pub fn size_number(r: &[u8]) -> u32
+    ensures { λ n. ⌜ n ≡ sizeNumber (now (r .entry)) ⌝ }
 {
     if r.len() < 28 {
         return 1;
@@ -30,6 +30,18 @@ pub fn record_number(r: &[u8]) -> u32
     if r.len() != header::record_length(h) {
         return 3;
     }
+    0
+}
+
+// 0, or the lowest of the numbers 1 to 7 that refuses the record.
+pub fn record_number(r: &[u8]) -> u32
+    ensures { λ n. ⌜ n ≡ recordNumber (now (r .entry)) ⌝ }
+{
+    let number = size_number(r);
+    if number != 0 {
+        return number;
+    }
+    let h = header::header_of(r);
     if h.imports != 0 {
         return 4;
     }

@@ -3,7 +3,7 @@ ghost use mathlib.Core.Path.{_≡_};
 ghost use mathlib.Core.Bool.{true};
 ghost use mathlib.Core.List.{List};
 ghost use Prim.Native.Nat.{ℕ, _≤_, _+_, _-_};
-ghost use lib.ListN.{length, set, take, drop};
+ghost use lib.ListN.{length, take, drop};
 ghost use lib.Seq.{sets};
 ghost use Rattle.state.specs.Fits.{fits};
 ghost use Prim.Native.Nat.{_<_};
@@ -24,21 +24,12 @@ use opcode::instruction::Instruction;
 use registers::Areas;
 use registers::Registers;
 
-// The word at a place set; nothing past the end.
-fn set_word(s: &mut [u32], i: usize, x: u32)
-    ensures { λ _. ⌜ now (s .exit) ≡ set (now (s .entry)) i x ⌝ }
-{
-    if i < s.len() {
-        s[i] = x;
-    }
-}
-
 // The words of `src` copied to the front of `dst`, as many as it has room for.
 fn copy_words(dst: &mut [u32], src: &[u32])
     ensures { λ _. ⌜ now (dst .exit) ≡ sets (now (dst .entry)) 0 (now (src .entry)) ⌝ }
 {
     for i in 0..src.len() {
-        set_word(dst, i, src[i]);
+        words::set_word(dst, i, src[i]);
     }
 }
 
@@ -67,11 +58,11 @@ fn write_words(memory: &mut [u32], stack: &[u32], low: usize, gone: u32, write: 
     match write {
         Write::NoWrite => {}
         Write::WriteOne(a, x) => {
-            set_word(memory, a as usize, x);
+            words::set_word(memory, a as usize, x);
         }
         Write::WriteTwo(a, x, y) => {
-            set_word(memory, a as usize, x);
-            set_word(memory, (a as usize) + 1, y);
+            words::set_word(memory, a as usize, x);
+            words::set_word(memory, (a as usize) + 1, y);
         }
         Write::WriteGone(a) => {
             move_words(memory, a, stack, low, gone);
@@ -85,12 +76,12 @@ fn push_words(stack: &mut [u32], low: usize, push: Push)
     match push {
         Push::NoPush => {}
         Push::PushOne(x) => {
-            set_word(stack, low, x);
+            words::set_word(stack, low, x);
         }
         Push::PushTwo(x, y) => {
-            set_word(stack, low, x);
+            words::set_word(stack, low, x);
             if low < stack.len() {
-                set_word(stack, low + 1, y);
+                words::set_word(stack, low + 1, y);
             }
         }
     }

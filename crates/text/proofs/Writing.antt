@@ -4,12 +4,12 @@ use Prim.Native.Nat.{ℕ, zero, suc, _+_, _*_, _-_, _/_, _%_, _≤_, _<_}
 use mathlib.Core.Path.{_≡_, refl, sym, _∙_, ap}
 use mathlib.Core.List.{List, [], _∷_, _++_, append-assoc, append-nil}
 use native.Mathlib.Nat.{add-zero}
-use native.Mathlib.Numerals.{add-one}
 use native.Mathlib.Omega.{arith}
 use lib.Dec.{ltb}
 use lib.ListN.{length, set, getD, drop, length-append}
-use lib.Seq.{length-sets, drop-cons}
+use lib.Seq.{length-sets}
 use Rattle.words.proofs.Tests.{either}
+use Rattle.words.proofs.Slices.{drop-one}
 use Rattle.words.proofs.Sets.{sets-then}
 use Rattle.words.proofs.Arms.{Other, past}
 use Rattle.text.specs.Text.{power, digits, width, decimal, wordsText, numbered, Wrote}
@@ -55,10 +55,6 @@ module _ {before text out rest : List ℕ} {at place : ℕ} (l : Left before at 
 
   pub left-length : length out ≡ length before
   left-length = wrote-length (l .wrote)
-
--- One more of a list.
-pub drop-one : (s : List ℕ) (i : ℕ) → i < length s → drop i s ≡ getD s i 0 ∷ drop (i + 1) s
-drop-one s i h = rw (add-one i) (drop-cons s i 0 h)
 
 -- The next of w digits.
 pub digits-one :

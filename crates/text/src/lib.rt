@@ -1,16 +1,8 @@
 // Printed text, written as far as there is room: so a first pass over an empty buffer tells how long it is.
 ghost use mathlib.Core.Path.{_≡_};
 ghost use Prim.Native.Nat.{_≤_, _<_};
-ghost use lib.ListN.{length, set};
+ghost use lib.ListN.{length};
 ghost use Rattle.text.specs.Text.{power, width, decimal, wordsText, listLine, numbered, checkLine, endLine, Wrote};
-
-fn put_byte(out: &mut [u8], at: usize, b: u8)
-    ensures { λ _. ⌜ now (out .exit) ≡ set (now (out .entry)) at b ⌝ }
-{
-    if at < out.len() {
-        out[at] = b;
-    }
-}
 
 // Constant text.
 fn put_bytes(out: &mut [u8], at: usize, s: &[u8]) -> usize
@@ -19,7 +11,7 @@ fn put_bytes(out: &mut [u8], at: usize, s: &[u8]) -> usize
     ensures { λ r. ⌜ Wrote (now (out .entry)) at (now (s .entry)) r (now (out .exit)) ⌝ }
 {
     for i in 0..s.len() {
-        put_byte(out, at + i, s[i]);
+        words::set_byte(out, at + i, s[i]);
     }
     at + s.len()
 }
@@ -83,7 +75,7 @@ fn put_number(out: &mut [u8], at: usize, n: u32) -> usize
     let digits = width_of(n);
     for i in 0..digits {
         let digit = n / power_of_ten(digits - 1 - i) % 10;
-        put_byte(out, at + (i as usize), 48 + (digit as u8));
+        words::set_byte(out, at + (i as usize), 48 + (digit as u8));
     }
     at + (digits as usize)
 }
@@ -108,7 +100,7 @@ pub fn put_list(out: &mut [u8], at: usize, letter: u8, xs: &[u32]) -> usize
     requires { ⌜ length (now xs) ≤ 65536 ⌝ }
     ensures { λ r. ⌜ Wrote (now (out .entry)) at (listLine letter (now (xs .entry))) r (now (out .exit)) ⌝ }
 {
-    put_byte(out, at, letter);
+    words::set_byte(out, at, letter);
     let place = put_words(out, at + 1, xs);
     put_bytes(out, place, b"\n")
 }

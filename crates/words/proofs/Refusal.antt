@@ -1,12 +1,12 @@
--- What a refusal says of its tests: without a number none of them is given, and a number is at most the largest. By induction on the
--- tests; whether their numbers are as asked is computed.
+-- What a refusal says of its tests: without a number none of them is given, a number is at most the largest, and of tests behind
+-- other tests these decide first. By induction on the tests; whether their numbers are as asked is computed.
 use mathlib.Core.Bool.{Bool, true, false, cond, _&&_, and-eq-true-iff}
-use mathlib.Core.List.{List, [], _∷_}
+use mathlib.Core.List.{List, [], _∷_, _++_}
 use mathlib.Core.Path.{_≡_, refl}
 use Prim.Native.Nat.{ℕ, _≤_, zero-le}
 use native.Mathlib.Omega.{arith}
-use lib.Dec.{leb}
-use borrow.Author.Tests.{leb-true}
+use lib.Dec.{leb, eqb}
+use borrow.Author.Tests.{leb-true, ne-eqb}
 use Rattle.words.specs.Refusal.{Test, _when_, refusal}
 use Rattle.words.proofs.Tests.{either}
 
@@ -40,3 +40,11 @@ most k [] w = zero-le
 most k (n when given ∷ rest) w =
     let q = and-eq-true-iff (leb n k) (within k rest) .0 w in
     either (λ (i : ℕ). i ≤ k) given n (refusal rest) (leb-true n k (q .0)) (most k rest (q .1))
+
+pub refusal-append : (tests more : List Test) → positive tests ≡ true →
+    refusal (tests ++ more) ≡ cond (eqb (refusal tests) 0) (refusal more) (refusal tests)
+refusal-append [] more p = refl
+refusal-append (n when true ∷ rest) more p =
+    let some = leb-true 1 n (and-eq-true-iff (leb 1 n) (positive rest) .0 p .0) in
+    rw (ne-eqb n 0 (λ e. omega arith))
+refusal-append (n when false ∷ rest) more p = refusal-append rest more (and-eq-true-iff (leb 1 n) (positive rest) .0 p .1)

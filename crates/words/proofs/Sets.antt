@@ -14,6 +14,9 @@ pub sets-then : (l : List ℕ) (i : ℕ) (x y : List ℕ) → sets (sets l i x) 
 sets-then l i [] y = rw (add-zero i)
 sets-then l i (v ∷ x) y = rw (add-suc i (length x), ← suc-add i (length x)) (sets-then (set l i v) (suc i) x y)
 
+pub sets-behind : (l : List ℕ) (i j : ℕ) (x y : List ℕ) → j ≡ i + length x → sets (sets l i x) j y ≡ sets l i (x ++ y)
+sets-behind l i j x y e = rw e (sets-then l i x y)
+
 pub sets-out : (l : List ℕ) (i : ℕ) (vs : List ℕ) → length l ≤ i → sets l i vs ≡ l
 sets-out l i [] h = refl
 sets-out l i (v ∷ vs) h = rw (set-out l i v h) (sets-out l (suc i) vs (omega arith))

@@ -1,7 +1,7 @@
-// Total reads from slices: a place past the end reads as 0.
+// Total reads from slices, and total stores: a place past the end reads as 0, and nothing is stored there.
 ghost use mathlib.Core.Path.{_≡_};
 ghost use Prim.Native.Nat.{_+_, _*_};
-ghost use lib.ListN.{take, drop};
+ghost use lib.ListN.{take, drop, set};
 ghost use Rattle.words.specs.Bytes.{byteAt, halfwordAt, wordAt};
 
 pub fn byte_at(s: &[u8], i: usize) -> u8
@@ -90,4 +90,21 @@ pub fn part(s: &[u8], at: usize, n: usize) -> &[u8]
         return &s[at..];
     }
     &s[at..at + n]
+}
+
+// The byte or the word at a place set; nothing past the end.
+pub fn set_byte(s: &mut [u8], i: usize, b: u8)
+    ensures { λ _. ⌜ now (s .exit) ≡ set (now (s .entry)) i b ⌝ }
+{
+    if i < s.len() {
+        s[i] = b;
+    }
+}
+
+pub fn set_word(s: &mut [u32], i: usize, w: u32)
+    ensures { λ _. ⌜ now (s .exit) ≡ set (now (s .entry)) i w ⌝ }
+{
+    if i < s.len() {
+        s[i] = w;
+    }
 }

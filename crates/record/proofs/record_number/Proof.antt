@@ -1,136 +1,115 @@
--- `record::record_number` meets its contract: each return is the first test of the table that is given, and the last one none.
-use mathlib.Core.Bool.{not, _&&_}
-use mathlib.Core.List.{[], _∷_}
+-- `record::record_number` meets its contract: the number of the sizes where there is one; else each return is the first test of
+-- the parts that is given, and the last one none.
+use mathlib.Core.Bool.{not, cond}
 use mathlib.Core.Path.{_≡_}
-use lib.Dec.{eqb}
 use borrow.Author.Needs.{needs}
-use borrow.Author.Tests.{eq-eqb, ne-eqb, le-ltb, lt-ltb}
+use borrow.Author.Tests.{eq-eqb, ne-eqb}
 use Rattle.record.proofs.record_number.Statement.{statement}
-use Rattle.record.specs.Number.{recordNumber}
-use Rattle.words.specs.Refusal.{refusal, _when_}
-use Rattle.header.specs.Header.{codeOf}
-use Rattle.version.specs.Version.{versionSound}
-use Rattle.source.specs.Source.{sourceSound}
-use Rattle.entries.specs.Entries.{entriesSound}
+use Rattle.record.specs.Number.{partTests, recordNumber}
+use Rattle.words.specs.Refusal.{refusal}
+use Rattle.record.proofs.Sound.{size-refuses, parts-decide}
 use Rattle.record.proofs.record_number.Tie as tie
 
 returns : tie.Need-returns
-unfolding recordNumber
-returns c = rw (lt-ltb _ 28 (c .if1 .taken))
+returns c =
+    let sizes = c .before in
+    let r = sizes .before .before .args .r .now in
+    size-refuses r (sizes .size-number .result) (sizes .size-number .ensures) (c .if1 .taken)
+
+-- Where 1 to 3 are not given, the tests of the parts decide.
+parts : (c : tie.After-header-of) →
+    let r = c .before .before .before .before .args .r .now in
+    recordNumber r ≡ refusal (partTests r)
+parts c =
+    let sizes = c .before .before in
+    let r = sizes .before .before .args .r .now in
+    parts-decide r (sizes .size-number .result) (sizes .size-number .ensures) (c .before .if1 .left)
 
 returns-2 : tie.Need-returns-2
-unfolding recordNumber
-returns-2 c = rw (
-  le-ltb _ 28 (c .before .before .before .if1 .left),
-  ← c .before .before .header-of .ensures,
-  ← c .before .sizes-fit .ensures,
-  c .if2 .taken,
-)
+returns-2 c =
+    let read = c .before .before in
+    rw (parts read, ← read .header-of .ensures, ne-eqb _ 0 (c .if2 .taken))
 
 returns-3 : tie.Need-returns-3
-unfolding recordNumber
-returns-3 c = rw (
-  le-ltb _ 28 (c .before .before .before .before .before .if1 .left),
-  ← c .before .before .before .before .header-of .ensures,
-  ← c .before .before .before .sizes-fit .ensures,
-  c .before .before .if2 .left,
-  ← c .before .record-length .ensures,
-  ne-eqb _ _ (c .if3 .taken),
-)
-
--- Where 1 to 3 are not given, the rest of the table decides.
-three-pass : (c : tie.Else3) →
-    let r = c .before .before .before .before .before .before .before .args .r .now in
-    let h = c .before .before .before .before .header-of .result in
-    recordNumber r
-    ≡ refusal
-    (4 when not (eqb (h .imports) 0 && eqb (h .relocation) 0)
-    ∷ 5 when not (versionSound r h)
-    ∷ 6 when not (sourceSound r h)
-    ∷ 7 when not (entriesSound (codeOf r))
-    ∷ [])
-unfolding recordNumber
-three-pass c =
-    rw (
-      le-ltb _ 28 (c .before .before .before .before .before .if1 .left),
-      ← c .before .before .before .before .header-of .ensures,
-      ← c .before .before .before .sizes-fit .ensures,
-      c .before .before .if2 .left,
-      ← c .before .record-length .ensures,
-      eq-eqb _ _ (c .if3 .left),
-    )
+returns-3 c =
+    let alone = c .before .before in
+    let read = alone .before .before in
+    rw (parts read, ← read .header-of .ensures, eq-eqb _ 0 (alone .if2 .left), ne-eqb _ 0 (c .if3 .taken))
 
 returns-4 : tie.Need-returns-4
-returns-4 c = rw (three-pass (c .before .before), ne-eqb _ 0 (c .if4 .taken))
+returns-4 c =
+    let fixed = c .before .before in
+    let alone = fixed .before .before in
+    let read = alone .before .before in
+    rw (
+      parts read,
+      ← read .header-of .ensures,
+      eq-eqb _ 0 (alone .if2 .left),
+      eq-eqb _ 0 (fixed .if3 .left),
+      ← c .before .version-sound .ensures,
+      c .if4 .taken,
+    )
 
 returns-5 : tie.Need-returns-5
-returns-5 c = rw (three-pass (c .before .before .before .before), eq-eqb _ 0 (c .before .before .if4 .left), ne-eqb _ 0 (c .if5 .taken))
+returns-5 c =
+    let version = c .before .before in
+    let fixed = version .before .before in
+    let alone = fixed .before .before in
+    let read = alone .before .before in
+    rw (
+      parts read,
+      ← read .header-of .ensures,
+      eq-eqb _ 0 (alone .if2 .left),
+      eq-eqb _ 0 (fixed .if3 .left),
+      ← version .before .version-sound .ensures,
+      version .if4 .left,
+      ← c .before .source-sound .ensures,
+      c .if5 .taken,
+    )
+
+-- Where 1 to 6 are not given, the entries decide.
+entries : (c : tie.After-entries-sound) →
+    let sizes = c .before .before .before .before .before .before .before .before .before .before .before .before in
+    recordNumber (sizes .before .before .args .r .now) ≡ cond (not (c .entries-sound .result)) 7 0
+entries c =
+    let source = c .before .before in
+    let version = source .before .before in
+    let fixed = version .before .before in
+    let alone = fixed .before .before in
+    let read = alone .before .before in
+    rw (
+      parts read,
+      ← read .header-of .ensures,
+      eq-eqb _ 0 (alone .if2 .left),
+      eq-eqb _ 0 (fixed .if3 .left),
+      ← version .before .version-sound .ensures,
+      version .if4 .left,
+      ← source .before .source-sound .ensures,
+      source .if5 .left,
+      ← c .before .code-of .ensures,
+      ← c .entries-sound .ensures,
+    )
 
 returns-6 : tie.Need-returns-6
-returns-6 c = rw (
-  three-pass (c .before .before .before .before .before .before),
-  eq-eqb _ 0 (c .before .before .before .before .if4 .left),
-  eq-eqb _ 0 (c .before .before .if5 .left),
-  ← c .before .version-sound .ensures,
-  c .if6 .taken,
-)
+returns-6 c = rw (entries (c .before), c .if6 .taken)
 
 returns-7 : tie.Need-returns-7
-returns-7 c = rw (
-  three-pass (c .before .before .before .before .before .before .before .before),
-  eq-eqb _ 0 (c .before .before .before .before .before .before .if4 .left),
-  eq-eqb _ 0 (c .before .before .before .before .if5 .left),
-  ← c .before .before .before .version-sound .ensures,
-  c .before .before .if6 .left,
-  ← c .before .source-sound .ensures,
-  c .if7 .taken,
-)
-
-returns-8 : tie.Need-returns-8
-returns-8 c = rw (
-  three-pass (c .before .before .before .before .before .before .before .before .before .before .before),
-  eq-eqb _ 0 (c .before .before .before .before .before .before .before .before .before .if4 .left),
-  eq-eqb _ 0 (c .before .before .before .before .before .before .before .if5 .left),
-  ← c .before .before .before .before .before .before .version-sound .ensures,
-  c .before .before .before .before .before .if6 .left,
-  ← c .before .before .before .before .source-sound .ensures,
-  c .before .before .before .if7 .left,
-  ← c .before .before .code-of .ensures,
-  ← c .before .entries-sound .ensures,
-  c .if8 .taken,
-)
-
-returns-9 : tie.Need-returns-9
-returns-9 c = rw (
-  three-pass (c .before .before .before .before .before .before .before .before .before .before .before),
-  eq-eqb _ 0 (c .before .before .before .before .before .before .before .before .before .if4 .left),
-  eq-eqb _ 0 (c .before .before .before .before .before .before .before .if5 .left),
-  ← c .before .before .before .before .before .before .version-sound .ensures,
-  c .before .before .before .before .before .if6 .left,
-  ← c .before .before .before .before .source-sound .ensures,
-  c .before .before .before .if7 .left,
-  ← c .before .before .code-of .ensures,
-  ← c .before .entries-sound .ensures,
-  c .if8 .left,
-)
+returns-7 c = rw (entries (c .before), c .if6 .left)
 
 pub record-number-spec : {M : Type 1} → statement M
 record-number-spec =
     tie.close
     (tie.spec
+    (λ c κs. search needs)
     returns
     (λ c κs. search needs)
-    (λ c κs. search needs)
     returns-2
-    (λ c κs. search needs)
     returns-3
+    (λ c κs. search needs)
     returns-4
+    (λ c κs. search needs)
     returns-5
     (λ c κs. search needs)
+    (λ c κs. search needs)
     returns-6
-    (λ c κs. search needs)
-    returns-7
-    (λ c κs. search needs)
-    (λ c κs. search needs)
-    returns-8
-    returns-9)
+    returns-7)

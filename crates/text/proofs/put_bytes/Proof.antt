@@ -5,7 +5,8 @@ use native.Mathlib.Omega.{arith}
 use lib.ListN.{length, drop, drop-of-length-le}
 use borrow.Author.Needs.{needs}
 use Rattle.text.proofs.put_bytes.Statement.{statement}
-use Rattle.text.proofs.Writing.{Left, left-start, left-next, left-over, left-length, wrote-one, drop-one}
+use Rattle.text.proofs.Writing.{Left, left-start, left-next, left-over, left-length, wrote-one}
+use Rattle.words.proofs.Slices.{drop-one}
 use Rattle.text.proofs.put_bytes.Tie as tie
 
 abbrev Inv-loop : tie.InvT-loop
@@ -18,7 +19,7 @@ loop-holds : tie.Need-loop-holds Inv-loop μ-loop
 loop-holds c = (refl, omega arith, left-start refl (omega arith))
 
 loop-again : tie.Need-loop-again Inv-loop μ-loop
-loop-again c = (refl, omega (arith, c .before .before .before .before .before .before .loop .inv .0), left-next (c .before .before .before .before .before .before .loop .inv .2) (drop-one (c .before .before .before .before .before .before .before .before .before .args .s .now) (c .before .before .before .before .before .before .loop .i) (omega (arith, c .before .before .before .before .before .before .loop .inv .0))) (wrote-one (c .before .before .put-byte .ensures) (omega arith)))
+loop-again c = (refl, omega (arith, c .before .before .before .before .before .before .loop .inv .0), left-next (c .before .before .before .before .before .before .loop .inv .2) (drop-one (c .before .before .before .before .before .before .before .before .before .args .s .now) (c .before .before .before .before .before .before .loop .i) (omega (arith, c .before .before .before .before .before .before .loop .inv .0))) (wrote-one (c .before .before .set-byte .ensures) (omega arith)))
 
 same-length : tie.Need-same-length Inv-loop μ-loop
 same-length c = left-length (c .before .loop .inv .2)

@@ -12,7 +12,7 @@ put-bytes-requires c κs = omega (arith, c .before .before .before .before .put-
 
 returns : tie.Need-returns
 unfolding listLine
-returns c = wrote-then (wrote-one (c .before .before .before .before .before .before .before .before .before .before .before .put-byte .ensures) refl) (wrote-then (c .before .before .before .before .before .before .before .put-words .ensures) (c .before .before .put-bytes .ensures))
+returns c = wrote-then (wrote-one (c .before .before .before .before .before .before .before .before .before .before .before .set-byte .ensures) refl) (wrote-then (c .before .before .before .before .before .before .before .put-words .ensures) (c .before .before .put-bytes .ensures))
 
 pub put-list-spec : {M : Type 1} → statement M
 put-list-spec =

@@ -24,7 +24,7 @@ div-digit : tie.Need-div-digit Inv-loop μ-loop
 div-digit c = rw (c .power-of-ten .ensures) (power-positive (c .before .before .before .width-of .result - 1 - c .before .before .loop .i))
 
 loop-again : tie.Need-loop-again Inv-loop μ-loop
-loop-again c = (omega arith, left-next (c .before .before .before .before .before .before .loop .inv .1) (digits-one (c .before .before .before .before .before .before .before .width-of .result) (c .before .before .before .before .before .before .loop .i) (c .before .before .before .before .before .before .before .before .before .args .n) (c .before .before .before .before .before .loop-test .taken)) (wrote-one (rw (← c .before .before .before .before .power-of-ten .ensures) (c .before .before .put-byte .ensures)) (omega arith)))
+loop-again c = (omega arith, left-next (c .before .before .before .before .before .before .loop .inv .1) (digits-one (c .before .before .before .before .before .before .before .width-of .result) (c .before .before .before .before .before .before .loop .i) (c .before .before .before .before .before .before .before .before .before .args .n) (c .before .before .before .before .before .loop-test .taken)) (wrote-one (rw (← c .before .before .before .before .power-of-ten .ensures) (c .before .before .set-byte .ensures)) (omega arith)))
 
 same-length : tie.Need-same-length Inv-loop μ-loop
 same-length c = left-length (c .before .loop .inv .1)

@@ -1,0 +1,32 @@
+-- Mending for C: what it answers, and what it leaves in the record's buffer, the list's and the counts.
+use mathlib.Core.Bool.{cond}
+use mathlib.Core.List.{List, _++_}
+use Prim.Native.Nat.{ℕ}
+use lib.Dec.{ltb, eqb}
+use lib.ListN.{length, drop}
+use Rattle.record.specs.Number.{sizeNumber}
+use Rattle.mend.specs.declared.Mending.{Mending}
+use Rattle.mend.specs.declared.Mending.the-variants.{Refused, Mended}
+use Rattle.mend.specs.Mend.{Outcome, mendOf, mendingValues}
+
+pub record Reply : Type 0 where
+  pub answer : ℕ
+  pub out : List ℕ
+  pub places : List ℕ
+  pub counts : List ℕ
+
+abbrev pub reply : ℕ → List ℕ → List ℕ → List ℕ → Reply
+reply n out places counts = record { answer = n; out = out; places = places; counts = counts }
+
+-- The number; or 0, and the values in the first two words.
+abbrev pub replyOf : Mending → List ℕ → List ℕ → List ℕ → Reply
+replyOf (Refused n) out places counts = reply n out places counts
+replyOf (Mended bytes words) out places counts = reply 0 out places (mendingValues (Mended bytes words) ++ drop 2 counts)
+
+-- Numbers 1 to 3; then 8, for counts that have not two words too.
+unfoldable pub mendReply : List ℕ → List ℕ → List ℕ → List ℕ → Reply
+mendReply r out places counts =
+    let a = mendOf r out places in
+    cond (eqb (sizeNumber r) 0)
+    (cond (ltb (length counts) 2) (reply 8 out places counts) (replyOf (a .answer) (a .out) (a .places) counts))
+    (reply (sizeNumber r) out places counts)

@@ -1,0 +1,64 @@
+-- What holds of a mended record, as statements. `r` is a record that the numbers 1 to 3 do not refuse.
+use mathlib.Core.Bool.{Bool, true, false, cond}
+use mathlib.Core.List.{List, [], _∷_, _++_}
+use mathlib.Core.Path.{_≡_}
+use Prim.Native.Nat.{ℕ, zero, suc, _+_, _-_}
+use lib.Dec.{eqb}
+use lib.ListN.{length, take, drop}
+use Rattle.words.specs.Bytes.{Bytes}
+use Rattle.words.specs.Order.{rising}
+use Rattle.header.specs.Header.{headerOf, versionsAt}
+use Rattle.version.specs.Version.{versionSound}
+use Rattle.source.specs.Source.{sourceSound}
+use Rattle.record.specs.Number.{sizeNumber}
+use Rattle.mend.specs.Mend.{droppedWords, mendedRecord}
+
+-- "Every other part is byte for byte the same": the sizes of the other parts, and all bytes from the import list to the relocation table.
+pub record SameParts (r r' : List ℕ) : Type 0 where
+  pub sizes : take 20 r' ≡ take 20 r
+  pub parts : take (versionsAt (headerOf r) - 28) (drop 28 r') ≡ take (versionsAt (headerOf r) - 28) (drop 28 r)
+
+abbrev pub KeepsParts : Type 0
+KeepsParts = (r : List ℕ) → Bytes r → sizeNumber r ≡ 0 → SameParts r (mendedRecord r)
+
+-- "a sound record comes out identical", with nothing dropped.
+abbrev pub KeepsSound : Type 0
+KeepsSound =
+    (r : List ℕ) → Bytes r → sizeNumber r ≡ 0 → versionSound r (headerOf r) ≡ true → sourceSound r (headerOf r) ≡ true
+    → (mendedRecord r ≡ r) × (droppedWords r ≡ [])
+
+-- What comes out is a record that the numbers 1 to 3 do not refuse, and neither do 5 and 6.
+pub record IsMended (r : List ℕ) : Type 0 where
+  pub sized : sizeNumber r ≡ 0
+  pub version : versionSound r (headerOf r) ≡ true
+  pub source : sourceSound r (headerOf r) ≡ true
+
+abbrev pub Mends : Type 0
+Mends = (r : List ℕ) → Bytes r → sizeNumber r ≡ 0 → IsMended (mendedRecord r)
+
+-- "mending twice changes nothing more".
+abbrev pub MendsOnce : Type 0
+MendsOnce =
+    (r : List ℕ) → Bytes r → sizeNumber r ≡ 0 → (mendedRecord (mendedRecord r) ≡ mendedRecord r) × (droppedWords (mendedRecord r) ≡ [])
+
+-- The places rise, each of a word of the old record's version and source tables.
+abbrev pub PlacesRise : Type 0
+PlacesRise = (r : List ℕ) → sizeNumber r ≡ 0 → rising (length r) (droppedWords r) ≡ true
+
+-- Whether a place is among these.
+abbrev pub among : ℕ → List ℕ → Bool
+among at [] = false
+among at (x ∷ xs) = cond (eqb at x) true (among at xs)
+
+-- The bytes of n words from a place on, without those at the dropped places.
+abbrev pub leftFrom : List ℕ → List ℕ → (at n : ℕ) → List ℕ
+leftFrom r dropped at zero = []
+leftFrom r dropped at (suc n) =
+    cond (among at dropped) (leftFrom r dropped (at + 4) n) (take 4 (drop at r) ++ leftFrom r dropped (at + 4) n)
+
+-- What is left of both tables without the dropped words is what the new record has there.
+abbrev pub DropsJustThese : Type 0
+DropsJustThese =
+    (r : List ℕ) → sizeNumber r ≡ 0
+    → leftFrom r (droppedWords r) (versionsAt (headerOf r)) (headerOf r .versions + headerOf r .sources)
+    ≡ drop (versionsAt (headerOf r)) (mendedRecord r)
