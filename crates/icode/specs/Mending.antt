@@ -7,7 +7,7 @@ use lib.ListN.{length, drop}
 use Rattle.record.specs.Number.{sizeNumber}
 use Rattle.mend.specs.declared.Mending.{Mending}
 use Rattle.mend.specs.declared.Mending.the-variants.{Refused, Mended}
-use Rattle.mend.specs.Mend.{Outcome, mendOf, mendingValues}
+use Rattle.mend.specs.Mend.{mendOf, mendingValues}
 
 pub record Reply : Type 0 where
   pub answer : ℕ
