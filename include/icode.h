@@ -29,6 +29,20 @@ uint64_t icode_line(const uint8_t *record, size_t record_len, uint32_t offset);
  * Before the first pair the line is 0 and begins at offset 0. Outside the code the last three words are 0. */
 uint32_t icode_line_span(const uint8_t *record, size_t record_len, uint32_t offset, uint32_t *span, size_t span_len);
 
+/* Mends what keeps a record from being sound with 5 or 6. A malformed version word empties the version table. A source table of odd size
+ * loses its last word; then, from the front, a pair is kept exactly if its offset is below the code size and above the last kept one.
+ * Answers the first of these that holds:
+ *   1 to 3  as icode_record_number gives them,
+ *   8       out is shorter than the new record, places has fewer words than are dropped, or counts_len is under 2,
+ *   0       the record is mended; icode_record_number never gives 5 or 6 for the new one.
+ * Only 0 writes, and then just this; what lies past it in each buffer is not written:
+ *   out        the new record, with the sizes of both tables as they are now and all else as it was,
+ *   places     the byte place in the old record of each dropped word, rising,
+ *   counts[0]  the bytes of the new record, never more than record_len,
+ *   counts[1]  the words dropped, 0 for a sound record, which comes out as it was. */
+uint32_t icode_mend(const uint8_t *record, size_t record_len, uint8_t *out, size_t out_len, uint32_t *places, size_t places_len,
+                    uint32_t *counts, size_t counts_len);
+
 /* Checks a record before it runs. results has one byte for each procedure, from 0 on: how many result words it leaves, 0 to 2, and 0
  * for procedure 0. Answers 0 where the record is accepted, else the lowest number that refuses it:
  *   1 to 7    as above,

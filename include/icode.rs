@@ -11,6 +11,16 @@ extern "C" {
         span: *mut u32,
         span_len: usize,
     ) -> u32;
+    fn icode_mend(
+        record: *const u8,
+        record_len: usize,
+        out: *mut u8,
+        out_len: usize,
+        places: *mut u32,
+        places_len: usize,
+        counts: *mut u32,
+        counts_len: usize,
+    ) -> u32;
     fn icode_check(
         record: *const u8,
         record_len: usize,
@@ -73,6 +83,21 @@ pub fn line(record: &[u8], offset: u32) -> u64 {
 
 pub fn line_span(record: &[u8], offset: u32, span: &mut [u32]) -> u32 {
     unsafe { icode_line_span(record.as_ptr(), record.len(), offset, span.as_mut_ptr(), span.len()) }
+}
+
+pub fn mend(record: &[u8], out: &mut [u8], places: &mut [u32], counts: &mut [u32]) -> u32 {
+    unsafe {
+        icode_mend(
+            record.as_ptr(),
+            record.len(),
+            out.as_mut_ptr(),
+            out.len(),
+            places.as_mut_ptr(),
+            places.len(),
+            counts.as_mut_ptr(),
+            counts.len(),
+        )
+    }
 }
 
 pub fn check(record: &[u8], results: &[u8], workspace: &mut [u16]) -> u32 {

@@ -23,6 +23,7 @@ impl FromStr for Case {
             "run" => Case::Run { record, budget: tokens.number()?, machine: tokens.machine()? },
             "line" => Case::Line { record, offset: tokens.number()? },
             "span" => Case::Span { record, offset: tokens.number()? },
+            "mend" => Case::Mend { record, out: tokens.bytes()?, places: tokens.words()? },
             _ => return Err(format!("unknown verb {verb}")),
         };
         match tokens.0.next() {
@@ -44,6 +45,7 @@ impl Display for Case {
             }
             Case::Run { budget, machine, .. } => write!(f, "{budget} {machine}"),
             Case::Line { offset, .. } | Case::Span { offset, .. } => write!(f, "{offset}"),
+            Case::Mend { out, places, .. } => write!(f, "{} {}", Hex(out), List(places)),
         }
     }
 }
@@ -66,6 +68,9 @@ impl Display for Answer {
             }
             Answer::Span(Ok(Span::Outside)) => write!(f, "span outside"),
             Answer::Span(Err(number)) => write!(f, "span refused {number}"),
+            Answer::Mend { number, counts, out, places } => {
+                write!(f, "mend {number} {} {} {}", Numbers(counts), Hex(out), List(places))
+            }
         }
     }
 }
@@ -171,12 +176,14 @@ mod tests {
             "run 0f 4294967295 2 3 4 5 6 7 0 1 9",
             "line ff 12",
             "span - 4294967295",
+            "mend 0b eeee 3 2*777 0",
+            "mend - - 0",
         ];
         for line in lines {
             assert_eq!(line.parse::<Case>().map(|case| case.to_string()).as_deref(), Ok(line));
         }
-        let malformed =
-            ["", "check", "load - 0 3 4*7 0", "line ff 12 13", "line f 1", "span 00", "run"];
+        let malformed = ["", "check", "load - 0 3 4*7 0", "line ff 12 13", "line f 1", "run"];
+        let malformed = malformed.into_iter().chain(["span 00", "mend - -", "mend - - 1"]);
         for line in malformed {
             assert!(line.parse::<Case>().is_err(), "{line}");
         }

@@ -1,7 +1,7 @@
 //! One call of the interface as data: the case, and the answer with all words as they are
 //! afterwards. `case_text` gives both their text form.
 
-use crate::interface::{Interface, OUTCOME_WORDS, SPAN_WORDS, STATE_WORDS};
+use crate::interface::{Interface, MEND_COUNTS, OUTCOME_WORDS, SPAN_WORDS, STATE_WORDS};
 use crate::record::Span;
 
 pub type State = [u32; STATE_WORDS];
@@ -14,6 +14,7 @@ pub enum Case {
     Run { record: Vec<u8>, budget: u32, machine: Words },
     Line { record: Vec<u8>, offset: u32 },
     Span { record: Vec<u8>, offset: u32 },
+    Mend { record: Vec<u8>, out: Vec<u8>, places: Vec<u32> },
 }
 
 /// What a machine keeps between runs.
@@ -44,6 +45,13 @@ pub enum Answer {
     Line(Result<u32, u32>),
     /// The span, or the refusal.
     Span(Result<Span, u32>),
+    /// The counts (bytes of the new record, words dropped) are 0 when refused.
+    Mend {
+        number: u32,
+        counts: [u32; MEND_COUNTS],
+        out: Vec<u8>,
+        places: Vec<u32>,
+    },
 }
 
 impl Case {
@@ -54,6 +62,7 @@ impl Case {
             Case::Run { .. } => "run",
             Case::Line { .. } => "line",
             Case::Span { .. } => "span",
+            Case::Mend { .. } => "mend",
         }
     }
 
@@ -63,7 +72,8 @@ impl Case {
             | Case::Load { record, .. }
             | Case::Run { record, .. }
             | Case::Line { record, .. }
-            | Case::Span { record, .. } => record,
+            | Case::Span { record, .. }
+            | Case::Mend { record, .. } => record,
         }
     }
 
@@ -113,6 +123,18 @@ impl Case {
                     _ => panic!("answered {number}, and wrote span {words:?}"),
                 })
             }
+            Case::Mend { record, out, places } => {
+                let (mut out, mut places) = (out.clone(), places.clone());
+                let mut counts = [u32::MAX; MEND_COUNTS];
+                let number = (library.mend)(record, &mut out, &mut places, &mut counts);
+                let counts = match (number, counts) {
+                    (0, counts) => counts,
+                    // A refusal leaves the counts as they were, too.
+                    (1.., [u32::MAX, u32::MAX]) => [0; MEND_COUNTS],
+                    _ => panic!("refused with {number}, but wrote counts {counts:?}"),
+                };
+                Answer::Mend { number, counts, out, places }
+            }
         }
     }
 }
@@ -121,7 +143,9 @@ impl Answer {
     /// The refusal of 1 to 24, or 0.
     pub fn number(&self) -> u32 {
         match *self {
-            Answer::Check { number, .. } | Answer::Load { number, .. } => number,
+            Answer::Check { number, .. }
+            | Answer::Load { number, .. }
+            | Answer::Mend { number, .. } => number,
             Answer::Run { ended: Err(number), .. }
             | Answer::Line(Err(number))
             | Answer::Span(Err(number)) => number,

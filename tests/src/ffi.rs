@@ -9,6 +9,7 @@ pub const PROVED: Interface = Interface {
     number: archive::record_number,
     line: archive::line,
     span: archive::line_span,
+    mend: archive::mend,
     check: archive::check,
     report: archive::report,
     decode: archive::decode,

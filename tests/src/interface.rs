@@ -3,15 +3,18 @@
 
 use crate::instruction::{self, Fault};
 use crate::machine::{self, Registers};
+use crate::mend::{mended, Mended};
 use crate::parts::{parts, PARTS};
 use crate::record::{Record, Span};
 use crate::{check, record, report};
 
-/// Words of a state (pc, fp, mp, gp, height, calls), of an outcome (end, at, steps), and of a span
-/// (1 outside the code or 0, first, last, line).
+/// Words of a state (pc, fp, mp, gp, height, calls), of an outcome (end, at, steps), of a span
+/// (1 outside the code or 0, first, last, line), and of the counts of mending (bytes of the new
+/// record, words dropped).
 pub const STATE_WORDS: usize = 6;
 pub const OUTCOME_WORDS: usize = 3;
 pub const SPAN_WORDS: usize = 4;
+pub const MEND_COUNTS: usize = 2;
 
 /// The calls of one implementation.
 #[derive(Clone, Copy)]
@@ -20,6 +23,7 @@ pub struct Interface {
     /// number * 2^32 + line
     pub line: fn(record: &[u8], offset: u32) -> u64,
     pub span: fn(record: &[u8], offset: u32, span: &mut [u32]) -> u32,
+    pub mend: Mend,
     pub check: fn(record: &[u8], results: &[u8], workspace: &mut [u16]) -> u32,
     pub report: fn(run_file: &[u8], out: &mut [u8]) -> usize,
     pub decode: fn(code: &[u8], limit: usize, at: usize, out: &mut [u32]) -> u32,
@@ -27,6 +31,7 @@ pub struct Interface {
     pub run: Run,
 }
 
+type Mend = fn(record: &[u8], out: &mut [u8], places: &mut [u32], counts: &mut [u32]) -> u32;
 type Load = fn(
     record: &[u8],
     parameters: &[u32],
@@ -48,6 +53,7 @@ pub const REFERENCE: Interface = Interface {
     number: record::number,
     line,
     span,
+    mend,
     check: check::check,
     report: report::report,
     decode,
@@ -72,6 +78,21 @@ fn span(record: &[u8], offset: u32, span: &mut [u32]) -> u32 {
         Span::Found { first, last, line } => [0, first, last, line],
         Span::Outside => [1, 0, 0, 0],
     };
+    0
+}
+
+fn mend(record: &[u8], out: &mut [u8], places: &mut [u32], counts: &mut [u32]) -> u32 {
+    let Mended { record, dropped } = match mended(record) {
+        Ok(mended) => mended,
+        Err(number) => return number,
+    };
+    let out = out.get_mut(..record.len());
+    let places = places.get_mut(..dropped.len());
+    let counts = counts.first_chunk_mut::<MEND_COUNTS>();
+    let (Some(out), Some(places), Some(counts)) = (out, places, counts) else { return 8 };
+    out.copy_from_slice(&record);
+    places.copy_from_slice(&dropped);
+    *counts = [record.len() as u32, dropped.len() as u32];
     0
 }
 

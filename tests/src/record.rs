@@ -51,9 +51,21 @@ impl Span {
     }
 }
 
-impl<'a> Record<'a> {
-    /// The record's parts, or the lowest number of 1 to 7 that applies.
-    pub fn read(bytes: &'a [u8]) -> Result<Record<'a>, u32> {
+/// The parts of a record whose sizes fit, as they stand behind the header.
+pub struct Split<'a> {
+    pub imports: &'a [u8],
+    pub code: &'a [u8],
+    /// Number of global words, which have no part.
+    pub globals: u32,
+    pub constants: &'a [u8],
+    pub relocation: &'a [u8],
+    pub version: &'a [u8],
+    pub source: &'a [u8],
+}
+
+impl<'a> Split<'a> {
+    /// The parts, or the lowest number of 1 to 3 that applies.
+    pub fn read(bytes: &'a [u8]) -> Result<Split<'a>, u32> {
         if bytes.len() < HEADER_BYTES {
             return Err(1);
         }
@@ -62,16 +74,28 @@ impl<'a> Record<'a> {
             return Err(2);
         }
         let [imports, code, globals, constants, relocation, version, source] = sizes;
-        let words = imports + constants + relocation + version + source;
-        if bytes.len() != HEADER_BYTES + code as usize + 4 * words as usize {
+        let lengths = [4 * imports, code, 4 * constants, 4 * relocation, 4 * version, 4 * source];
+        if bytes.len() != HEADER_BYTES + lengths.iter().sum::<u32>() as usize {
             return Err(3);
         }
-        if imports + relocation > 0 {
+        let mut rest = &bytes[HEADER_BYTES..];
+        let [imports, code, constants, relocation, version, source] = lengths.map(|length| {
+            let (part, behind) = rest.split_at(length as usize);
+            rest = behind;
+            part
+        });
+        Ok(Split { imports, code, globals, constants, relocation, version, source })
+    }
+}
+
+impl<'a> Record<'a> {
+    /// The record's parts, or the lowest number of 1 to 7 that applies.
+    pub fn read(bytes: &'a [u8]) -> Result<Record<'a>, u32> {
+        let Split { imports, code, globals, constants, relocation, version, source } =
+            Split::read(bytes)?;
+        if !imports.is_empty() || !relocation.is_empty() {
             return Err(4);
         }
-        let (code, rest) = bytes[HEADER_BYTES..].split_at(code as usize);
-        let (constants, rest) = rest.split_at(4 * constants as usize);
-        let (version, source) = rest.split_at(4 * version as usize);
         if !version_sound(version) {
             return Err(5);
         }
@@ -137,7 +161,7 @@ pub fn number(bytes: &[u8]) -> u32 {
 }
 
 /// Empty, or the first word reads "nn/x": a digit or space, a digit, "/", a hyphen or capital.
-fn version_sound(table: &[u8]) -> bool {
+pub fn version_sound(table: &[u8]) -> bool {
     match table {
         [] => true,
         [tens, units, b'/', issue, ..] => {

@@ -126,7 +126,7 @@ fn run_page(path: &Path, library: &Interface, findings: &mut Findings) -> Result
     Ok(())
 }
 
-/// What an answer tells about the record alone: its number where that is 1 to 7, else soundness.
+/// Holds the record's own number to what an answer tells about it, if it does.
 fn note_record(
     record: &[u8],
     answer: &str,
@@ -134,14 +134,23 @@ fn note_record(
     library: &Interface,
     findings: &mut Findings,
 ) {
+    if let Some(expected) = record_number(answer) {
+        let found = (library.number)(record).to_string();
+        findings.note("record", name, expected, &found);
+    }
+}
+
+/// The record's number where it is 1 to 7, else 0: a sound record. Mending looks at 1 to 3 alone, so
+/// that another answer leaves it open.
+fn record_number(answer: &str) -> Option<&str> {
     let words: Vec<&str> = answer.split_whitespace().collect();
     let number = match words[..] {
+        ["mend", number @ ("1" | "2" | "3"), ..] => number,
+        ["mend", ..] => return None,
         ["run" | "line" | "span", "refused", number, ..] | ["check" | "load", number, ..] => number,
         _ => "0",
     };
-    let expected = if ["1", "2", "3", "4", "5", "6", "7"].contains(&number) { number } else { "0" };
-    let found = (library.number)(record).to_string();
-    findings.note("record", name, expected, &found);
+    Some(if ["1", "2", "3", "4", "5", "6", "7"].contains(&number) { number } else { "0" })
 }
 
 fn read_text(path: &Path) -> Result<String, String> {

@@ -256,6 +256,10 @@ pub fn with_lines(random: &mut Random) -> Vec<u8> {
 
 /// A sound record with every size at its largest.
 pub fn largest(random: &mut Random) -> Vec<u8> {
+    largest_parts(random).assemble()
+}
+
+fn largest_parts(random: &mut Random) -> Parts {
     let mut code = code_of_any_bytes(random);
     code.resize(LARGEST[1] as usize, 0xff);
     let constants = random.words(LARGEST[3] as usize);
@@ -263,5 +267,45 @@ pub fn largest(random: &mut Random) -> Vec<u8> {
     parts.version = vec![*b"12/B"; LARGEST[5] as usize];
     let stride = LARGEST[1] / (LARGEST[6] / 2);
     parts.source = (0..LARGEST[6] / 2).flat_map(|pair| [pair * stride, random.bits()]).collect();
+    parts
+}
+
+/// A record whose sizes fit, with tables to be mended: a malformed version word, pairs that should
+/// not stand among the others, and an odd word. Now and then it has what mending leaves alone:
+/// imports, relocation, damaged entries.
+pub fn worn(random: &mut Random) -> Vec<u8> {
+    let mut parts = if random.percent(1) { largest_parts(random) } else { sound(random) };
+    if random.percent(30) {
+        damage_version(random, &mut parts);
+    }
+    for _ in 0..random.pick(&[0, 1, 1, 2, 5]) {
+        insert_pair(random, &mut parts);
+    }
+    if random.percent(20) {
+        parts.source.push(random.word());
+    }
+    parts.source.truncate(LARGEST[6] as usize);
+    match random.below(20) {
+        0 => parts.imports = words_up_to(random, &[1, 16]),
+        1 => parts.relocation = words_up_to(random, &[1, 40]),
+        2 => damage_entries(random, &mut parts.code),
+        _ => {}
+    }
     parts.assemble()
+}
+
+/// A pair somewhere in the source table, at an offset near that before it, near the end of the code
+/// or anywhere.
+fn insert_pair(random: &mut Random, parts: &mut Parts) {
+    let size = parts.code.len() as u32;
+    let at = 2 * random.below(parts.source.len() / 2 + 1);
+    let before = if at > 0 { parts.source[at - 2] } else { 0 };
+    let near = [before.saturating_sub(1), before, before.saturating_add(1)];
+    let offset = match random.below(4) {
+        0 => random.pick(&near),
+        1 => random.pick(&[0, size.saturating_sub(1), size, size + 1, u32::MAX]),
+        2 => random.below(size as usize) as u32,
+        _ => random.word(),
+    };
+    parts.source.splice(at..at, [offset, random.word()]);
 }
