@@ -1,11 +1,12 @@
 #!/usr/bin/env python3
 """Writes the example run files, byte by byte.
 
-    examples/make.py            writes page-eleven.run and page-twelve.run beside this script
+    examples/make.py            writes page-eleven.run, page-twelve.run and those of the tape beside this script
     examples/make.py --check    compares them with what it would write, and changes nothing
 
 Both pages have the same record. It takes two catalogue positions as parameters, stores their separation and divides by it. On page
-eleven the positions differ; on page twelve a star is listed twice.
+eleven the positions differ; on page twelve a star is listed twice. page-twelve-damaged.run is page twelve from a tape that has damaged
+both tables of the record, page-twelve-mended.run the same without what request K12 (02) drops of it.
 """
 
 import sys
@@ -35,22 +36,39 @@ SOURCE_PAIRS = [(2, 11), (6, 12), (12, 13)]  # offset in the code, source line
 
 GLOBALS = 4  # first position, second position, separation, figure
 
+DAMAGED_VERSION = b"!3/-"  # a bit of the first byte has turned, so that it is neither a digit nor a space
 
-def record():
-    source = b"".join(word(offset) + word(line) for offset, line in SOURCE_PAIRS)
+DAMAGED_SOURCE = [
+    2, 11,
+    6, 12,
+    6, 12,          # the tape was read twice here: the offset does not rise
+    0x4000000C, 13, # a bit of the offset has turned: it is not below the code size
+    14,             # the first half of a pair
+]
+
+MENDED_SOURCE = [2, 11, 6, 12]
+
+
+def pairs(source):
+    return [number for pair in source for number in pair]
+
+
+def record(version, source):
+    """A record with these bytes in the version table and these words in the source table."""
+    source = b"".join(map(word, source))
     header = [
         word(0),                  # import list, in words
         word(len(CODE)),          # code, in bytes
         word(GLOBALS),            # globals, in words; they have no part in the record
         word(0),                  # constants, in words
         word(0),                  # relocation, in words
-        word(len(VERSION) // 4),  # version table, in words
+        word(len(version) // 4),  # version table, in words
         word(len(source) // 4),   # source table, in words: two for each pair
     ]
-    return b"".join(header) + CODE + VERSION + source
+    return b"".join(header) + CODE + version + source
 
 
-def run_file(first, second):
+def run_file(first, second, version=VERSION, source=pairs(SOURCE_PAIRS)):
     return b"".join([
         b"TRK",        # every run file begins so
         halfword(1),   # version of the run file's format
@@ -62,13 +80,15 @@ def run_file(first, second):
         word(100),     # budget, in steps
         halfword(64),  # memory, in words
         halfword(16),  # stack, in words
-        record(),
+        record(version, source),
     ])
 
 
 PAGES = {
     "page-eleven.run": run_file(7216, 7196),
     "page-twelve.run": run_file(7216, 7216),
+    "page-twelve-damaged.run": run_file(7216, 7216, DAMAGED_VERSION, DAMAGED_SOURCE),
+    "page-twelve-mended.run": run_file(7216, 7216, b"", MENDED_SOURCE),
 }
 
 

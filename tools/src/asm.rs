@@ -11,6 +11,7 @@ mod tokens;
 
 use crate::arguments::{Arguments, Flag};
 use crate::command::Command;
+use crate::destination::Destination;
 use crate::failure::{shown, Failure, Status};
 use crate::input;
 use crate::output::Output;
@@ -19,8 +20,6 @@ use crate::verdict::{split_run_file, Verdict};
 use build::Built;
 use program::TextFault;
 use std::ffi::OsStr;
-use std::fs;
-use std::io::{self, IsTerminal, Write};
 
 /// Longer than the text of any record that is accepted, with room for comments.
 const MAX_TEXT_BYTES: usize = 4 << 20;
@@ -76,26 +75,13 @@ written.
 fn run(arguments: &Arguments, out: &mut Output) -> Result<Status, Failure> {
     let usage = |fault: String| Failure::Usage(fault, USAGE);
     let name = arguments.one_file().map_err(usage)?;
-    let file = arguments.value("-o").filter(|file| *file != "-");
-    if file.is_none() && io::stdout().is_terminal() {
-        return Err(usage("standard output is a terminal; -o OUT names a file".to_string()));
-    }
-    if file.is_some_and(|file| is_same(file, name)) {
+    let to = Destination::of(arguments.value("-o")).map_err(usage)?;
+    if to.is(name) {
         return Err(usage("OUT is the text itself".to_string()));
     }
     let built = assemble(name, arguments.has("--no-check"))?;
-    match file {
-        None => out.write_all(&built.bytes)?,
-        Some(file) => fs::write(file, &built.bytes)
-            .map_err(|error| Failure::UnwritableFile(file.to_owned(), error))?,
-    }
+    to.write(out, &built.bytes)?;
     Ok(Status::Done)
-}
-
-/// Tells whether two names are of the same file, so that a text is not written over.
-fn is_same(one: &OsStr, other: &OsStr) -> bool {
-    let found = fs::canonicalize(one).ok();
-    found.is_some() && found == fs::canonicalize(other).ok()
 }
 
 fn assemble(name: &OsStr, unchecked: bool) -> Result<Built, Failure> {

@@ -20,6 +20,12 @@ pub fn hex(bytes: &[u8]) -> String {
     pairs.join(" ")
 }
 
+/// Writes bytes as text in quotes, with a point for each that is no letter, digit or sign.
+pub fn quoted(bytes: &[u8]) -> String {
+    let shown = |&byte: &u8| if matches!(byte, b' '..=b'~') { char::from(byte) } else { '.' };
+    format!("\"{}\"", bytes.iter().map(shown).collect::<String>())
+}
+
 /// Writes numbers with a space before each.
 pub fn spaced(numbers: impl IntoIterator<Item = impl Display>) -> String {
     numbers.into_iter().map(|number| format!(" {number}")).collect()

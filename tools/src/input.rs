@@ -2,7 +2,7 @@
 
 use crate::failure::Failure;
 use crate::output::NOT_OPEN;
-use crate::standard;
+use crate::{record, standard};
 use std::ffi::OsStr;
 use std::fs::File;
 use std::io::{self, Read};
@@ -14,6 +14,16 @@ pub fn read(name: &OsStr, most: usize) -> Result<Vec<u8>, Failure> {
     open(name)
         .and_then(|source| source.take(most as u64 + 1).read_to_end(&mut bytes))
         .map_err(|error| Failure::Unreadable(name.to_owned(), error))?;
+    Ok(bytes)
+}
+
+/// Reads a record or a run file; refuses what is longer than any.
+pub fn read_any(name: &OsStr) -> Result<Vec<u8>, Failure> {
+    let bytes = read(name, record::MAX_BYTES)?;
+    if bytes.len() > record::MAX_BYTES {
+        let why = "longer than any record or run file".to_string();
+        return Err(Failure::Refused(name.to_owned(), why));
+    }
     Ok(bytes)
 }
 

@@ -25,6 +25,12 @@ pub struct Span {
     pub line: u32,
 }
 
+/// A mended record, and the byte places of the dropped words in the old one, rising.
+pub struct Mended {
+    pub record: Vec<u8>,
+    pub places: Vec<usize>,
+}
+
 /// What the library reads of an instruction.
 pub struct Decoded {
     pub double: bool,
@@ -54,6 +60,21 @@ pub fn line_span(record: &[u8], offset: usize) -> Option<Span> {
     let [outside, first, last, line] = span;
     let found = number == 0 && outside == 0;
     found.then_some(Span { first: first as usize, last: last as usize, line })
+}
+
+/// Mends a record, or answers its number, 1 to 3. The new one is never longer.
+pub fn mend(record: &[u8]) -> Result<Mended, u32> {
+    let mut out = vec![0; record.len()];
+    let mut places = vec![0; record.len() / 4];
+    let mut counts = [0; 2];
+    let number = archive::mend(record, &mut out, &mut places, &mut counts);
+    if number != 0 {
+        return Err(number);
+    }
+    let [bytes, words] = counts.map(|count| count as usize);
+    out.truncate(bytes);
+    places.truncate(words);
+    Ok(Mended { record: out, places: places.into_iter().map(|at| at as usize).collect() })
 }
 
 /// Checks, loads and runs a run file, and answers its page.

@@ -14,9 +14,9 @@ use crate::failure::{escaped, Failure, Status};
 use crate::meaning::meaning;
 use crate::outcome::{Ended, Page};
 use crate::output::Output;
-use crate::record::{self, Record};
-use crate::run_file::{is_run_file, RunFile};
-use crate::verdict::{split_run_file, Verdict};
+use crate::record::Record;
+use crate::run_file::RunFile;
+use crate::verdict::{split_any, Verdict};
 use crate::{input, library};
 use marks::Marks;
 use rows::Listing;
@@ -66,19 +66,12 @@ fn run(arguments: &Arguments, out: &mut Output) -> Result<Status, Failure> {
     let name = arguments.one_file().map_err(usage)?;
     let digits = arguments.value("--results").map(parse_results);
     let digits = digits.transpose().map_err(usage)?;
-    let bytes = input::read(name, record::MAX_BYTES)?;
-    let refused = |why: String| Failure::Refused(name.to_owned(), why);
-    if bytes.len() > record::MAX_BYTES {
-        return Err(refused("longer than any record or run file".to_string()));
-    }
-    let file = match is_run_file(&bytes) {
-        true => Some(split_run_file(name, &bytes)?),
-        false => None,
-    };
+    let bytes = input::read_any(name)?;
+    let file = split_any(name, &bytes)?;
     let listed = Listed::of(&bytes, file, digits);
     if arguments.has("--asm") {
         let record = Record::split(listed.record).ok().filter(|record| record.number == 0);
-        let no_text = || refused(listed.verdict.refusal());
+        let no_text = || Failure::Refused(name.to_owned(), listed.verdict.refusal());
         text::print(out, &listed, &record.ok_or_else(no_text)?)?;
         return Ok(listed.verdict.status());
     }

@@ -1,11 +1,12 @@
 //! The program for people who work with I-Code: `list` shows a record or a run file, `asm` makes
-//! one from text, `trace` shows its run step by step, `page` prints its page. The proved library
-//! decodes, checks, loads and runs; nothing of that is done here.
+//! one from text, `trace` shows its run step by step, `page` prints its page, `mend` mends its
+//! tables. The proved library decodes, checks, loads, runs and mends; nothing of that is done here.
 
 #![deny(unsafe_code)]
 
 mod arguments;
 mod command;
+mod destination;
 mod failure;
 mod input;
 mod output;
@@ -32,6 +33,7 @@ mod verdict;
 
 mod asm;
 mod list;
+mod mend;
 mod page;
 mod trace;
 
@@ -41,7 +43,8 @@ use std::env;
 use std::io::Write;
 use std::process::ExitCode;
 
-const COMMANDS: [Command; 4] = [list::COMMAND, asm::COMMAND, trace::COMMAND, page::COMMAND];
+const COMMANDS: [Command; 5] =
+    [list::COMMAND, asm::COMMAND, trace::COMMAND, page::COMMAND, mend::COMMAND];
 
 fn main() -> ExitCode {
     let mut out = Output::open();

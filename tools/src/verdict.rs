@@ -7,7 +7,7 @@ use crate::machine::Machine;
 use crate::meaning::meaning;
 use crate::pictures::{self, NO_PICTURE};
 use crate::record::Record;
-use crate::run_file::RunFile;
+use crate::run_file::{is_run_file, RunFile};
 use crate::{library, record_faults};
 use std::ffi::OsStr;
 
@@ -84,6 +84,11 @@ impl Verdict {
 /// Writes a refusal with its reason.
 pub fn refusal(number: u32, reason: &str) -> String {
     format!("refused with {number}: {}: {reason}", meaning(number))
+}
+
+/// Takes a run file apart; none where the file is meant as a record.
+pub fn split_any<'a>(name: &OsStr, bytes: &'a [u8]) -> Result<Option<RunFile<'a>>, Failure> {
+    is_run_file(bytes).then(|| split_run_file(name, bytes)).transpose()
 }
 
 /// Takes a run file apart, or refuses it with the rule that it breaks.

@@ -1,6 +1,6 @@
 //! The head of a run file, and the sizes and tables of a record.
 
-use crate::bytes::{hex, spaced, words};
+use crate::bytes::{hex, quoted, spaced, words};
 use crate::record::{sizes, total_bytes, Kind, Record, KINDS};
 use crate::run_file::RunFile;
 use std::io::{self, Write};
@@ -51,9 +51,7 @@ fn print_version(out: &mut impl Write, version: &[u8]) -> io::Result<()> {
     if version.is_empty() {
         return Ok(());
     }
-    let shown = |&byte: &u8| if matches!(byte, b' '..=b'~') { char::from(byte) } else { '.' };
-    let text: String = version.iter().map(shown).collect();
-    writeln!(out, "  version    \"{text}\"  {}", hex(version))
+    writeln!(out, "  version    {}  {}", quoted(version), hex(version))
 }
 
 /// Prints words in rows, each with the index of its first.
