@@ -101,6 +101,11 @@ def marked(text):
     return " ".join(f"{mark}{at}" for at, mark in marks_of(text).items() if mark != " ")
 
 
+def mend_numbers(report):
+    """The numbers that mend gives before and after, 0 where the file is accepted."""
+    return [int(number or 0) for number in re.findall(r"^  (?:refused with (\d+): |accepted)", report, re.MULTILINE)]
+
+
 def pages(*folders):
     """The stored run files, each with its page."""
     for folder in folders or (VECTORS / "pages", EXAMPLES):

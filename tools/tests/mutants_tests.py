@@ -59,7 +59,7 @@ def number_of(out, err):
 
 
 def damaged_file(tests, name, content):
-    """Through list, list --asm and trace. Answers the number of list where the file is taken as a run file."""
+    """Through list, list --asm, trace and mend. Answers the number of list where the file is taken as a run file."""
     _, out, err = answered(tests, name, content, "list")
     listed = number_of(out, err)
     tests.expect(f"{name}: marks", ("!" in marked(out.decode())) == (10 <= listed <= 15), (out, content.hex()))
@@ -74,7 +74,23 @@ def damaged_file(tests, name, content):
         made, out, err = answered(tests, name, text, "asm", "--no-check")
         tests.expect(f"{name}: round trip", (made, out) == (0, content), (made, out, err, content.hex()))
     answered(tests, name, content, "asm")
+    mended_file(tests, name, content, listed)
     return listed if run_file else 16
+
+
+def mended_file(tests, name, content, listed):
+    """Through mend, which refuses what list refuses with 1, 2, 3 or 16. What it writes is refused by neither 5 nor 6, and stays as it is
+    when it is mended again; a file with nothing to mend comes out as it was."""
+    status, new, err = answered(tests, name, content, "mend", "-o", "-")
+    if listed in (1, 2, 3, 16):
+        tests.expect(f"{name}: not mended", (status, new, number_of(b"", err)) == (1, b"", listed), (status, new, err, content.hex()))
+        return
+    before, after = mend_numbers(err)
+    _, out, _ = tests.list(new)
+    good = (before, after, status) == (listed, number_of(out.encode(), ""), min(after, 1)) and after not in (5, 6)
+    tests.expect(f"{name}: mended", good and (new == content or listed in (4, 5, 6)), (status, new.hex(), err, content.hex()))
+    _, again, err = answered(tests, name, new, "mend", "-o", "-")
+    tests.expect(f"{name}: mended again", again == new and "\nnothing is dropped\n" in err, (again.hex(), err, content.hex()))
 
 
 def batch_of_pages(tests, folder, batch):

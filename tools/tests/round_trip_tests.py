@@ -40,6 +40,7 @@ def test(tests):
     for page, report in pages():
         accepted += round_trip(tests, page.name, page.read_bytes(), (), report.startswith("check 0\n"))
     tests.expect("enough of them are accepted", accepted >= MIN_ACCEPTED, accepted)
-    for page, _ in pages(EXAMPLES):
-        made, out, err = tests.run_bytes("asm", page.with_suffix(".icode"))
+    for text in sorted(EXAMPLES.glob("*.icode")):
+        page = text.with_suffix(".run")
+        made, out, err = tests.run_bytes("asm", text)
         tests.expect(f"text of {page.name}", (made, out, err) == (0, page.read_bytes(), ""), (made, out, err))

@@ -6,14 +6,14 @@ import tempfile
 from pathlib import Path
 from harness import *
 
-COMMANDS = ("list", "asm", "trace", "page")
+COMMANDS = ("list", "asm", "trace", "page", "mend")
 PAGE = EXAMPLES / "page-eleven.run"
 TEXT = "; nothing but a RTN\n.procedure 0\n    RTN\n"
 
 
 def test_usage(tests):
     tests.expect_run("no command", (), 2, "no command is given\nusage: icode COMMAND")
-    tests.expect_run("unknown command", ("lst", PAGE), 2, "unknown command 'lst'; there are list, asm, trace, page\nusage: icode COMMAND")
+    tests.expect_run("unknown command", ("lst", PAGE), 2, "unknown command 'lst'; there are list, asm, trace, page, mend\nusage: icode COMMAND")
     tests.expect_run("option before the command", ("--signed", "page", PAGE), 2, "unknown command '--signed'")
     for command in COMMANDS:
         usage = f"\nusage: icode {command} "
@@ -79,7 +79,7 @@ def test_outputs(tests, folder):
     os.close(read)
     helps = [(command, "--help") for command in COMMANDS]
     for arguments in (("list", PAGE), ("list", "--asm", PAGE), ("trace", PAGE), ("page", PAGE), ("page", PAGE, PAGE), ("asm", text),
-                      ("--help",), ("--version",), *helps):
+                      ("mend", PAGE), ("mend", PAGE, "-o", "-"), ("mend", PAGE, "-o", folder / "unsaid"), ("--help",), ("--version",), *helps):
         for name, reason, output in outputs(write):
             status, _, err = tests.run(*arguments, **output)
             good = status == 2 and err == f"icode: cannot write to standard output: {reason}\n"
@@ -109,7 +109,8 @@ def test_written(tests, folder):
     found, out, err = tests.run_bytes("asm", text, "-o", "-")
     tests.expect("-o -", (found, out, err) == (0, record_of(b"\0\2\xe9"), ""), (found, out, err))
     master, terminal = pty.openpty()
-    tests.expect_run("to a terminal", ("asm", text), 2, "standard output is a terminal; -o OUT names a file", stdout=terminal)
+    for arguments in (("asm", text), ("mend", PAGE, "-o", "-")):
+        tests.expect_run(f"{arguments} to a terminal", arguments, 2, "standard output is a terminal; -o OUT names a file", stdout=terminal)
     os.close(master)
     os.close(terminal)
     with open("/dev/null", "wb") as null:
