@@ -1,4 +1,4 @@
-"""Documents and stored outputs: each command in them prints what stands there; the examples' README has every byte of page twelve."""
+"""Documents and stored outputs: each command in them prints what stands there; the examples' README has the bytes of page twelve."""
 
 import re
 from pathlib import Path
@@ -6,7 +6,7 @@ from harness import *
 from transcripts import count, run_transcript
 
 STORED = Path(__file__).parent / "stored"
-DOCUMENTS = {ROOT / "docs" / "USING.md": 8, EXAMPLES / "README.md": 4}  # with the commands that they have at least
+DOCUMENTS = {ROOT / "docs" / "USING.md": 15, EXAMPLES / "README.md": 8}  # with the commands that they have at least
 
 
 def difference(found, expected):
@@ -15,15 +15,25 @@ def difference(found, expected):
     return next((pair for pair in pairs if pair[0] != pair[1]), None)
 
 
+def byte_rows(text):
+    """The rows of a README's table of bytes: place and content of each."""
+    rows = re.findall(r"^\| (\d+) \| (`[^|]*) \|", text, re.MULTILINE)
+    return [(int(at), bytes.fromhex(cell.replace("`", ""))) for at, cell in rows]
+
+
 def test_example_bytes(tests, readme):
-    """The table in the README has every byte of page twelve, at its place."""
-    file = (EXAMPLES / "page-twelve.run").read_bytes()
-    place = 0
-    for at, cell in re.findall(r"^\| (\d+) \| (`[^|]*) \|", readme, re.MULTILINE):
-        content = bytes.fromhex(cell.replace("`", ""))
-        tests.expect(f"README, byte {at}", int(at) == place and file[place:place + len(content)] == content, cell)
-        place += len(content)
-    tests.expect("README, all bytes", place == len(file), place)
+    """The README has every byte of page twelve, at its place; and those of the damaged tape that are other than on page twelve."""
+    whole, _, damaged = readme.partition("\n## A damaged tape\n")
+    twelve, tape = ((EXAMPLES / f"{name}.run").read_bytes() for name in ("page-twelve", "page-twelve-damaged"))
+    tests.expect("README, page twelve", places_hold(byte_rows(whole), twelve) and b"".join(row for _, row in byte_rows(whole)) == twelve)
+    tests.expect("README, damaged tape", places_hold(byte_rows(damaged), tape))
+    for at, content in byte_rows(damaged):
+        twelve = twelve[:at] + content + twelve[at + len(content):]
+    tests.expect("README, all of the damage", twelve == tape, twelve)
+
+
+def places_hold(rows, file):
+    return all(file[at:at + len(content)] == content for at, content in rows)
 
 
 def test(tests):
