@@ -166,7 +166,7 @@ fn write(
             out.write_all(new)?;
             out.say(report.trim_end())?;
         }
-        None => write!(out, "{report}nothing is written; -o OUT or --in-place writes it\n")?,
+        None => writeln!(out, "{report}nothing is written; -o OUT or --in-place writes it")?,
         Some(file @ Destination::File(name)) => {
             write!(out, "{report}")?;
             out.flush()?;
