@@ -6,8 +6,7 @@ use lib.Dec.{ltb, eqb}
 use lib.ListN.{length, drop}
 use Rattle.record.specs.Number.{sizeNumber}
 use Rattle.mend.specs.declared.Mending.{Mending}
-use Rattle.mend.specs.declared.Mending.the-variants.{Refused, Mended}
-use Rattle.mend.specs.Mend.{mendOf, mendingValues}
+use Rattle.mend.specs.Mend.{mendOf, mendingNumber, mendingValues}
 
 pub record Reply : Type 0 where
   pub answer : ℕ
@@ -18,10 +17,9 @@ pub record Reply : Type 0 where
 abbrev pub reply : ℕ → List ℕ → List ℕ → List ℕ → Reply
 reply n out places counts = record { answer = n; out = out; places = places; counts = counts }
 
--- The number; or 0, and the values in the first two words.
+-- The number, and the values in the first words.
 abbrev pub replyOf : Mending → List ℕ → List ℕ → List ℕ → Reply
-replyOf (Refused n) out places counts = reply n out places counts
-replyOf (Mended bytes words) out places counts = reply 0 out places (mendingValues (Mended bytes words) ++ drop 2 counts)
+replyOf a out places counts = reply (mendingNumber a) out places (mendingValues a ++ drop (length (mendingValues a)) counts)
 
 -- Numbers 1 to 3; then 8, for counts that have not two words too.
 unfoldable pub mendReply : List ℕ → List ℕ → List ℕ → List ℕ → Reply

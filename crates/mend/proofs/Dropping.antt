@@ -3,7 +3,7 @@
 use mathlib.Core.Bool.{Bool, true, false}
 use mathlib.Core.List.{List, [], _∷_, _++_, append-nil, append-assoc}
 use mathlib.Core.Path.{_≡_, _∙_, refl, sym}
-use Prim.Native.Nat.{ℕ, zero, suc, _+_, _*_, _-_, _/_, _%_, _≤_, _<_, zero-le}
+use Prim.Native.Nat.{ℕ, zero, suc, _+_, _*_, _-_, _/_, _%_, _≤_, _<_}
 use native.Mathlib.Omega.{arith}
 use native.Mathlib.Nat.{sub-self, sub-zero, zero-add, add-zero, suc-add}
 use lib.ListN.{length, take, drop}
@@ -15,9 +15,9 @@ use Rattle.header.specs.Header.{headerOf, versionsAt, sourcesAt}
 use Rattle.version.specs.Version.{versionSound}
 use Rattle.record.specs.Number.{sizeNumber}
 use Rattle.mend.specs.Mend.{keptPairs, droppedPairs, wordPlaces, droppedWords, pairBytes}
-use Rattle.mend.specs.Mended.{PlacesRise, among, leftFrom, DropsJustThese}
+use Rattle.mend.specs.Mended.{PlacesRise, Shortens, isListed, leftFrom, DropsJustThese}
 use Rattle.mend.proofs.Sifting.{Sifted, over, keep, lose, sifted}
-use Rattle.mend.proofs.Measuring.{left, pairs, lost, odd, m}
+use Rattle.mend.proofs.Measuring.{left, pairs, lost, odd, m, mended-length, dropped-length}
 use Rattle.mend.proofs.Pieces.{from-versions}
 
 -- Words in a row rise, and so do the words of the pairs that are dropped.
@@ -62,7 +62,7 @@ module _ (r : List ℕ) (none : sizeNumber r ≡ 0) where
       let end : place ≤ length r = omega (arith, small .whole, small .sources) in
       rises-append (length r) place at (droppedPairs r h) (odd r) (omega arith) end (pairs-rise (sifted r h 0 at n)) odd-rises
 
-  rise : Rises (length r) 0 (droppedWords r)
+  rise : Rises (length r) (versionsAt (headerOf r)) (droppedWords r)
   unfolding droppedWords
   rise =
       let h = headerOf r in
@@ -70,22 +70,27 @@ module _ (r : List ℕ) (none : sizeNumber r ≡ 0) where
       let small = m r none in
       let first = wordPlaces at (lost r) in
       let end : sourcesAt h ≤ length r = omega (arith, small .whole, small .sources) in
-      rises-append (length r) (sourcesAt h) 0 first (droppedPairs r h ++ odd r) zero-le end
-      (rises-wider (at + 4 * lost r) (sourcesAt h) at 0 first (omega (arith, small .sources)) zero-le (words-rise at (lost r)))
+      rises-append (length r) (sourcesAt h) at first (droppedPairs r h ++ odd r) (omega (arith, small .sources)) end
+      (rises-wider (at + 4 * lost r) (sourcesAt h) at at first (omega (arith, small .sources)) (omega arith) (words-rise at (lost r)))
       table-rises
 
 pub places-rise : PlacesRise
-places-rise r none = rising-holds (length r) 0 (droppedWords r) (rise r none)
+places-rise r none = rising-holds (length r) (versionsAt (headerOf r)) (droppedWords r) (rise r none)
+
+pub shortens : Shortens
+shortens r none =
+    let small = m r none in
+    omega (arith, mended-length r none, dropped-length r none, small .whole, small .versions, small .counted)
 
 -- Places before a place, and places behind it, are not that place.
-among-behind : (limit least at : ℕ) (xs : List ℕ) → at < least → Rises limit least xs → among at xs ≡ false
-among-behind limit least at [] l s = refl
-among-behind limit least at (x ∷ xs) l s =
-    rw (ne-eqb at x (λ e. omega (arith, s .0))) (among-behind limit (x + 1) at xs (omega (arith, s .0)) (s .2))
+listed-behind : (limit least at : ℕ) (xs : List ℕ) → at < least → Rises limit least xs → isListed at xs ≡ false
+listed-behind limit least at [] l s = refl
+listed-behind limit least at (x ∷ xs) l s =
+    rw (ne-eqb at x (λ e. omega (arith, s .0))) (listed-behind limit (x + 1) at xs (omega (arith, s .0)) (s .2))
 
-among-before : (least at : ℕ) (xs ys : List ℕ) → Rises at least xs → among at (xs ++ ys) ≡ among at ys
-among-before least at [] ys s = refl
-among-before least at (x ∷ xs) ys s = rw (ne-eqb at x (λ e. omega (arith, s .1))) (among-before (x + 1) at xs ys (s .2))
+listed-before : (least at : ℕ) (xs ys : List ℕ) → Rises at least xs → isListed at (xs ++ ys) ≡ isListed at ys
+listed-before least at [] ys s = refl
+listed-before least at (x ∷ xs) ys s = rw (ne-eqb at x (λ e. omega (arith, s .1))) (listed-before (x + 1) at xs ys (s .2))
 
 module _ (r : List ℕ) where
   -- Places before those that are looked at count for nothing.
@@ -93,7 +98,7 @@ module _ (r : List ℕ) where
   forgotten least at zero xs ys s = refl
   forgotten least at (suc n) xs ys s =
       let next = rises-wider at (at + 4) least least xs (omega arith) (omega arith) s in
-      rw (among-before least at xs ys s, forgotten least (at + 4) n xs ys next)
+      rw (listed-before least at xs ys s, forgotten least (at + 4) n xs ys next)
 
   -- Words that are all dropped, and words of which none is.
   words-lost : (at n m : ℕ) (ys : List ℕ) → leftFrom r (wordPlaces at n ++ ys) at (n + m) ≡ leftFrom r ys (at + 4 * n) m
@@ -112,7 +117,7 @@ module _ (r : List ℕ) where
       let size : 4 * suc n ≡ 4 + 4 * n = omega arith in
       rw (
         suc-add n m,
-        among-behind limit (at + 4 * suc n) at ys (omega arith) s,
+        listed-behind limit (at + 4 * suc n) at ys (omega arith) s,
         words-left limit (at + 4) n m ys (rw place at s),
         place,
         size,

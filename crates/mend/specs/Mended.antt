@@ -2,11 +2,11 @@
 use mathlib.Core.Bool.{Bool, true, false, cond}
 use mathlib.Core.List.{List, [], _∷_, _++_}
 use mathlib.Core.Path.{_≡_}
-use Prim.Native.Nat.{ℕ, zero, suc, _+_, _-_}
+use Prim.Native.Nat.{ℕ, zero, suc, _+_, _*_, _-_}
 use lib.Dec.{eqb}
 use lib.ListN.{length, take, drop}
 use Rattle.words.specs.Bytes.{Bytes}
-use Rattle.words.specs.Order.{rising}
+use Rattle.words.specs.Order.{risingFrom}
 use Rattle.header.specs.Header.{headerOf, versionsAt}
 use Rattle.version.specs.Version.{versionSound}
 use Rattle.source.specs.Source.{sourceSound}
@@ -41,22 +41,27 @@ abbrev pub MendsOnce : Type 0
 MendsOnce =
     (r : List ℕ) → Bytes r → sizeNumber r ≡ 0 → (mendedRecord (mendedRecord r) ≡ mendedRecord r) × (droppedWords (mendedRecord r) ≡ [])
 
--- The places rise, each of a word of the old record's version and source tables.
+-- The places rise from the version table on, and lie in the old record.
 abbrev pub PlacesRise : Type 0
-PlacesRise = (r : List ℕ) → sizeNumber r ≡ 0 → rising (length r) (droppedWords r) ≡ true
+PlacesRise = (r : List ℕ) → sizeNumber r ≡ 0 → risingFrom (length r) (versionsAt (headerOf r)) (droppedWords r) ≡ true
 
--- Whether a place is among these.
-abbrev pub among : ℕ → List ℕ → Bool
-among at [] = false
-among at (x ∷ xs) = cond (eqb at x) true (among at xs)
+-- The new record is shorter by the dropped words, and never longer.
+abbrev pub Shortens : Type 0
+Shortens = (r : List ℕ) → sizeNumber r ≡ 0 → length (mendedRecord r) + 4 * length (droppedWords r) ≡ length r
+
+-- Whether a place is in the list.
+abbrev pub isListed : ℕ → List ℕ → Bool
+isListed at [] = false
+isListed at (x ∷ xs) = cond (eqb at x) true (isListed at xs)
 
 -- The bytes of n words from a place on, without those at the dropped places.
 abbrev pub leftFrom : List ℕ → List ℕ → (at n : ℕ) → List ℕ
 leftFrom r dropped at zero = []
 leftFrom r dropped at (suc n) =
-    cond (among at dropped) (leftFrom r dropped (at + 4) n) (take 4 (drop at r) ++ leftFrom r dropped (at + 4) n)
+    cond (isListed at dropped) (leftFrom r dropped (at + 4) n) (take 4 (drop at r) ++ leftFrom r dropped (at + 4) n)
 
--- What is left of both tables without the dropped words is what the new record has there.
+-- What is left of both tables without the dropped words is what the new record has there. By `Shortens` each place is one of their
+-- words.
 abbrev pub DropsJustThese : Type 0
 DropsJustThese =
     (r : List ℕ) → sizeNumber r ≡ 0
