@@ -134,8 +134,8 @@ impl<'a> Judged<'a> {
         }
     }
 
-    /// Says whether it is accepted, and where results decided on that which nobody gave: from 9 on
-    /// the numbers go by them.
+    /// Says whether it is accepted. From 9 on the numbers go by the results, so that it also says
+    /// where nobody gave these.
     fn verdict_text(&self) -> String {
         let text = match self.verdict.is_accepted() {
             true => "accepted".to_string(),

@@ -248,7 +248,8 @@ def test_in_place(tests, folder):
         name.unlink()
         file.unlink()
     file.write_bytes(DAMAGED)
-    status, said, err = tests.run("mend", "--in-place", "file", cwd=within, preexec_fn=lambda: Path(f".icode-{os.getpid()}-0").write_text("left"))
+    leave = {"preexec_fn": lambda: Path(f".icode-{os.getpid()}-0").write_text("left")}
+    status, said, err = tests.run("mend", "--in-place", "file", cwd=within, **leave)
     left = sorted(path.read_bytes() for path in within.iterdir())
     tests.expect("a temporary file that was left", (status, left) == (0, sorted([MENDED, b"left"])), (status, left, err))
 
@@ -265,8 +266,10 @@ def test_pipe(tests, folder):
     tests.expect("--in-place of a pipe", good and COLUMNS in said and list(folder.iterdir()) == [pipe], (status, said, err))
 
 
-def closed(descriptor):
-    return {"preexec_fn": lambda: os.close(descriptor)}
+def lost(stream, descriptor, full, unwritable):
+    """Outputs that take nothing, by name."""
+    closed = {stream: None, "preexec_fn": lambda: os.close(descriptor)}
+    return {"closed": closed, "full": {stream: full}, "not for writing": {stream: unwritable}}
 
 
 def test_unsaid(tests, folder):
@@ -275,13 +278,13 @@ def test_unsaid(tests, folder):
     file.write_bytes(DAMAGED)
     with open("/dev/full", "wb") as full, open("/dev/null", "rb") as unwritable:
         for option in ((), ("--in-place",), ("-o", out)):
-            for output in ({"stdout": None, **closed(1)}, {"stdout": full}, {"stdout": unwritable}):
+            for name, output in lost("stdout", 1, full, unwritable).items():
                 status, _, err = tests.run("mend", file, *option, **output)
                 good = status == 2 and "icode: cannot write to standard output: " in err and holds(folder, file=DAMAGED)
-                tests.expect(f"{option}, {output}", good, (status, err))
-        for errors in ({"stderr": None, **closed(2)}, {"stderr": full}, {"stderr": unwritable}):
+                tests.expect(f"{option}, output {name}", good, (status, err))
+        for name, errors in lost("stderr", 2, full, unwritable).items():
             status, new, _ = tests.run_bytes("mend", file, "-o", "-", **errors)
-            tests.expect(f"-o -, {errors}", (status, new) == (2, b""), (status, new))
+            tests.expect(f"-o -, standard error {name}", (status, new) == (2, b""), (status, new))
         status, _, err = tests.run("mend", file, "-o", "-", stdout=full)
         good = status == 2 and COLUMNS in err and err.endswith("\nicode: cannot write to standard output: No space left on device\n")
         tests.expect("-o -, what is dropped is said first", good, (status, err))
