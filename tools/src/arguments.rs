@@ -11,6 +11,11 @@ pub struct Flag {
     pub value: Option<&'static str>,
 }
 
+/// How many result words each procedure leaves, which a record does not hold itself.
+pub const RESULTS: Flag = Flag { name: "--results", value: Some("DIGITS") };
+
+const MAX_PROCEDURES: usize = 256;
+
 pub struct Arguments {
     pub help: bool,
     pub files: Vec<OsString>,
@@ -61,6 +66,17 @@ impl Arguments {
         let fault =
             || format!("{name} takes a number from 0 to {}, not '{}'", u32::MAX, escaped(value));
         number.map(Some).ok_or_else(fault)
+    }
+
+    /// Reads the value of `RESULTS`: a digit for each procedure.
+    pub fn results(&self) -> Result<Option<Vec<u8>>, String> {
+        let Some(digits) = self.value(RESULTS.name) else { return Ok(None) };
+        let bytes = digits.as_bytes();
+        if bytes.len() > MAX_PROCEDURES || !bytes.iter().all(u8::is_ascii_digit) {
+            let fault = "is no list of digits, one for each of at most 256 procedures";
+            return Err(format!("'{}' {fault}", escaped(digits)));
+        }
+        Ok(Some(bytes.iter().map(|digit| digit - b'0').collect()))
     }
 
     pub fn one_file(&self) -> Result<&OsStr, String> {

@@ -32,6 +32,8 @@ pub enum Failure {
     Unreadable(OsString, io::Error),
     /// Of standard output.
     Unwritable(io::Error),
+    /// Of standard error, where it is to have what stands nowhere else.
+    Unsaid(io::Error),
     UnwritableFile(OsString, io::Error),
     /// A file that is refused, with the reason.
     Refused(OsString, String),
@@ -64,6 +66,9 @@ impl Failure {
             }
             Failure::Unwritable(error) => {
                 format!("{PROGRAM}: cannot write to standard output: {}", reason(error))
+            }
+            Failure::Unsaid(error) => {
+                format!("{PROGRAM}: cannot write to standard error: {}", reason(error))
             }
             Failure::UnwritableFile(name, error) => {
                 format!("{PROGRAM}: cannot write '{}': {}", shown(name), reason(error))

@@ -8,32 +8,25 @@ mod parts;
 mod rows;
 mod text;
 
-use crate::arguments::{Arguments, Flag};
+use crate::arguments::{Arguments, Flag, RESULTS};
 use crate::command::Command;
-use crate::failure::{escaped, Failure, Status};
+use crate::failure::{Failure, Status};
+use crate::judged::Judged;
 use crate::meaning::meaning;
 use crate::outcome::{Ended, Page};
 use crate::output::Output;
 use crate::record::Record;
-use crate::run_file::RunFile;
-use crate::verdict::{split_any, Verdict};
 use crate::{input, library};
 use marks::Marks;
 use rows::Listing;
-use std::ffi::OsStr;
 use std::io::{self, Write};
-
-const MAX_PROCEDURES: usize = 256;
 
 pub const COMMAND: Command = Command {
     name: "list",
     summary: "shows a record or a run file, with the place behind a refusal or a trap",
     usage: USAGE,
     help: HELP,
-    flags: &[
-        Flag { name: "--asm", value: None },
-        Flag { name: "--results", value: Some("DIGITS") },
-    ],
+    flags: &[Flag { name: "--asm", value: None }, RESULTS],
     run,
 };
 
@@ -64,50 +57,21 @@ A run file is run as it stands. Before the offset there may be a mark:
 fn run(arguments: &Arguments, out: &mut Output) -> Result<Status, Failure> {
     let usage = |fault| Failure::Usage(fault, USAGE);
     let name = arguments.one_file().map_err(usage)?;
-    let digits = arguments.value("--results").map(parse_results);
-    let digits = digits.transpose().map_err(usage)?;
+    let results = arguments.results().map_err(usage)?;
     let bytes = input::read_any(name)?;
-    let file = split_any(name, &bytes)?;
-    let listed = Listed::of(&bytes, file, digits);
+    let listed = Judged::of(name, &bytes, results.as_deref())?;
     if arguments.has("--asm") {
         let record = Record::split(listed.record).ok().filter(|record| record.number == 0);
-        let no_text = || Failure::Refused(name.to_owned(), listed.verdict.refusal());
-        text::print(out, &listed, &record.ok_or_else(no_text)?)?;
+        text::print(out, &listed, &record.ok_or_else(|| listed.refused(name))?)?;
         return Ok(listed.verdict.status());
     }
-    Ok(listed.print(out, &bytes)?)
+    Ok(listed.print(out)?)
 }
 
-/// Reads a results list from its digits.
-fn parse_results(digits: &OsStr) -> Result<Vec<u8>, String> {
-    let bytes = digits.as_encoded_bytes();
-    if bytes.len() > MAX_PROCEDURES || !bytes.iter().all(u8::is_ascii_digit) {
-        let fault = "is no list of digits, one for each of at most 256 procedures";
-        return Err(format!("'{}' {fault}", escaped(digits)));
-    }
-    Ok(bytes.iter().map(|digit| digit - b'0').collect())
-}
-
-/// A file with what check and load say of it.
-struct Listed<'a> {
-    file: Option<RunFile<'a>>,
-    record: &'a [u8],
-    /// As asked for, or of the run file.
-    results: Option<Vec<u8>>,
-    verdict: Verdict,
-}
-
-impl<'a> Listed<'a> {
-    fn of(bytes: &'a [u8], file: Option<RunFile<'a>>, digits: Option<Vec<u8>>) -> Listed<'a> {
-        let record = file.as_ref().map_or(bytes, |file| file.record);
-        let results = digits.or_else(|| file.as_ref().map(|file| file.results.to_vec()));
-        let verdict = Verdict::of(record, results.as_deref(), file.as_ref());
-        Listed { file, record, results, verdict }
-    }
-
-    fn print(&self, out: &mut Output, bytes: &[u8]) -> io::Result<Status> {
+impl Judged<'_> {
+    fn print(&self, out: &mut Output) -> io::Result<Status> {
         if let Some(file) = &self.file {
-            parts::print_head(out, file, bytes.len())?;
+            parts::print_head(out, file, self.bytes.len())?;
         }
         let split = Record::split(self.record);
         parts::print_sizes(out, self.record)?;
@@ -115,7 +79,7 @@ impl<'a> Listed<'a> {
             parts::print_tables(out, record, self.results.is_none())?;
         }
         self.print_verdict(out)?;
-        let ended = self.file.as_ref().and_then(|_| run_end(bytes));
+        let ended = self.file.as_ref().and_then(|_| run_end(self.bytes));
         let marks = Marks::new(&self.verdict, self.record, ended.as_ref());
         marks.print_end(out)?;
         match &split {

@@ -8,6 +8,7 @@ mod arguments;
 mod command;
 mod destination;
 mod failure;
+mod files;
 mod input;
 mod output;
 #[allow(unsafe_code)]
@@ -25,6 +26,7 @@ mod sheet;
 mod switch_table;
 
 mod faults;
+mod judged;
 mod machine;
 mod outcome;
 mod pictures;

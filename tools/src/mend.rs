@@ -3,130 +3,148 @@
 
 mod dropped;
 
-use crate::arguments::{Arguments, Flag};
+use crate::arguments::{Arguments, Flag, RESULTS};
 use crate::bytes::counted;
 use crate::command::Command;
 use crate::destination::Destination;
 use crate::failure::{escaped, Failure, Status};
 use crate::input;
+use crate::judged::Judged;
 use crate::library::{self, Mended};
-use crate::output::Output;
+use crate::output::{self, Output};
 use crate::record::Record;
-use crate::verdict::{split_any, Verdict};
 use std::ffi::OsStr;
-use std::io::Write;
+use std::fs;
+use std::io::{self, Write};
 
 pub const COMMAND: Command = Command {
     name: "mend",
     summary: "drops what refuses a record with 5 or 6, and says what that was",
     usage: USAGE,
     help: HELP,
-    flags: &[Flag { name: "-o", value: Some("OUT") }, Flag { name: "--in-place", value: None }],
+    flags: &[
+        Flag { name: OUT, value: Some("OUT") },
+        Flag { name: IN_PLACE, value: None },
+        Flag { name: DRY_RUN, value: None },
+        RESULTS,
+    ],
     run,
 };
 
-const USAGE: &str = "icode mend [-o OUT | --in-place] FILE";
+const OUT: &str = "-o";
+const IN_PLACE: &str = "--in-place";
+const DRY_RUN: &str = "--dry-run";
+
+/// Stands behind the name of the mended file where no other is asked for.
+const ENDING: &str = ".mended";
+
+const USAGE: &str = "icode mend [-o OUT | --in-place | --dry-run] [--results DIGITS] FILE";
 
 const HELP: &str = "\
 Mends what refuses a record, or the record in a run file, with 5 or 6 (- is standard input):
 
-  version table  loses all its words where the first is malformed
+  version table  loses all its words where the first is malformed (5)
   source table   loses its last word where it has an odd number of them; then, from the front, every
-                 pair whose offset is not below the code size or not above the last kept one
+                 pair whose offset is not below the code size or not above the last kept one (6)
 
 Their sizes in the header follow. All else stays byte for byte, and so does the head of a run file.
-Prints each dropped word with its byte place in the old record, and what check and load say before
-and after. A mended file may still be refused, by 4, 7 or a later number: it is written all the
-same, and the exit status is 1. What is refused with 1, 2, 3 or 16 cannot be mended.
+Prints each dropped word, with its byte in the old record and the number that refuses it, and what
+check and load say before and after; then writes the mended file. It may still be refused, by 4, 7
+or a later number: it is written all the same, and the exit status is 1. What is refused with 1, 2,
+3 or 16 cannot be mended.
 
-Without these nothing is written:
+The mended file is FILE.mended, which must not exist; where nothing is dropped, none is written.
+One of these asks for something else:
 
-  -o OUT      write the mended file to OUT, which is not FILE; -o - is standard output, and then the
-              rest goes to standard error
-  --in-place  write it over FILE
+  -o OUT            write it to OUT, which is not FILE, over what is there; -o - is standard output,
+                    and then the rest goes to standard error
+  --in-place        write it over FILE
+  --dry-run         write nothing
+
+  --results DIGITS  how many result words each procedure leaves, from procedure 0 on, such as 001;
+                    else the run file's list. Without it a record alone is judged with all results 0
 ";
 
 fn run(arguments: &Arguments, out: &mut Output) -> Result<Status, Failure> {
     let usage = |fault| Failure::Usage(fault, USAGE);
     let name = arguments.one_file().map_err(usage)?;
     let to = destination(arguments, name).map_err(usage)?;
+    let results = arguments.results().map_err(usage)?;
     let old = input::read_any(name)?;
-    let before = Judged::of(name, &old)?;
+    let before = Judged::of(name, &old, results.as_deref())?;
     let mended = library::mend(before.record).map_err(|_| before.refused(name))?;
     let new = [before.head(), &mended.record].concat();
-    let after = Judged::of(name, &new)?;
+    let after = Judged::of(name, &new, results.as_deref())?;
     let report = describe(&before, &mended, &after);
-    write(out, to, &report, &new)?;
+    match to {
+        None => writeln!(out, "{report}nothing is written, as {DRY_RUN} asks")?,
+        Some(Destination::New(_)) if mended.places.is_empty() => {
+            writeln!(out, "{report}nothing is written, since nothing is dropped")?;
+        }
+        Some(to) => write(out, &to, &report, &new)?,
+    }
     Ok(after.verdict.status())
 }
 
-/// Finds where the mended file goes: nowhere, unless that is asked for.
+/// Finds where the mended file goes: nowhere in a dry run.
 fn destination<'a>(
     arguments: &'a Arguments,
     name: &'a OsStr,
 ) -> Result<Option<Destination<'a>>, String> {
-    let to = match (arguments.value("-o"), arguments.has("--in-place")) {
-        (Some(_), true) => return Err("-o and --in-place exclude each other".to_string()),
-        (None, true) if name == "-" => {
-            return Err("standard input cannot be written in place".to_string());
+    let asked = |option: &&str| arguments.has(option);
+    match [OUT, IN_PLACE, DRY_RUN].into_iter().filter(asked).collect::<Vec<_>>()[..] {
+        [DRY_RUN] => Ok(None),
+        [OUT] => {
+            let to = Destination::of(arguments.value(OUT))?;
+            match to.is(name) {
+                true => Err(format!("OUT is FILE itself; {IN_PLACE} writes over it")),
+                false => Ok(Some(to)),
+            }
         }
-        (None, true) => return Ok(Some(Destination::File(name))),
-        (None, false) => return Ok(None),
-        (to, false) => Destination::of(to)?,
-    };
-    match to.is(name) {
-        true => Err("OUT is FILE itself; --in-place writes over it".to_string()),
-        false => Ok(Some(to)),
+        [IN_PLACE] if name == "-" => Err("standard input cannot be written in place".to_string()),
+        [IN_PLACE] => Ok(Some(Destination::InPlace(name))),
+        [] if name == "-" => {
+            let why = format!("standard input has no name to add {ENDING} to");
+            Err(format!("{why}; it needs -o OUT or {DRY_RUN}"))
+        }
+        [] => {
+            let beside = [name, OsStr::new(ENDING)].into_iter().collect();
+            Ok(Some(Destination::New(beside)))
+        }
+        _ => Err(format!("{OUT}, {IN_PLACE} and {DRY_RUN} exclude each other")),
     }
-}
-
-/// A record or a run file, with what check and load say of it.
-struct Judged<'a> {
-    bytes: &'a [u8],
-    record: &'a [u8],
-    is_run_file: bool,
-    verdict: Verdict,
 }
 
 impl<'a> Judged<'a> {
-    fn of(name: &OsStr, bytes: &'a [u8]) -> Result<Judged<'a>, Failure> {
-        let file = split_any(name, bytes)?;
-        let record = file.as_ref().map_or(bytes, |file| file.record);
-        let results = file.as_ref().map(|file| file.results);
-        let verdict = Verdict::of(record, results, file.as_ref());
-        Ok(Judged { bytes, record, is_run_file: file.is_some(), verdict })
-    }
-
     /// Cuts off what stands before the record.
     fn head(&self) -> &'a [u8] {
         &self.bytes[..self.bytes.len() - self.record.len()]
     }
 
-    fn refused(&self, name: &OsStr) -> Failure {
-        Failure::Refused(name.to_owned(), self.verdict.refusal())
-    }
-
     fn size_text(&self) -> String {
         let len = |bytes: &[u8]| counted(bytes.len(), "byte", "bytes");
-        match self.is_run_file {
-            true => format!(
+        match &self.file {
+            Some(_) => format!(
                 "run file, {}, with a record of {} from byte {} on",
                 len(self.bytes),
                 len(self.record),
                 self.head().len()
             ),
-            false => format!("record, {}", len(self.bytes)),
+            None => format!("record, {}", len(self.bytes)),
         }
     }
 
-    /// Says whether it is accepted. A record has no results list, by which the numbers from 9 on go.
+    /// Says whether it is accepted. From 9 on the numbers go by the results, so that it also says
+    /// where nobody gave these.
     fn verdict_text(&self) -> String {
         let text = match self.verdict.is_accepted() {
             true => "accepted".to_string(),
             false => self.verdict.refusal(),
         };
         match self.verdict.number {
-            0 | 9.. if !self.is_run_file => format!("{text} (all results taken as 0)"),
+            0 | 9.. if self.results.is_none() => {
+                format!("{text} (all results taken as 0; {} gives others)", RESULTS.name)
+            }
             _ => text,
         }
     }
@@ -142,7 +160,8 @@ fn describe(before: &Judged, mended: &Mended, after: &Judged) -> String {
         0 => "nothing is dropped".to_string(),
         count => {
             let words = counted(count, "word is", "words are");
-            format!("{words} dropped, each by its byte in the record:\n{}", rows.join("\n"))
+            let columns = "byte in the record, number that refuses it, what it was";
+            format!("{words} dropped ({columns}):\n{}", rows.join("\n"))
         }
     };
     format!(
@@ -155,24 +174,18 @@ fn describe(before: &Judged, mended: &Mended, after: &Judged) -> String {
 }
 
 /// Prints what is dropped, which nothing may show any more afterwards, then writes the new file.
-fn write(
-    out: &mut Output,
-    to: Option<Destination>,
-    report: &str,
-    new: &[u8],
-) -> Result<(), Failure> {
-    match to {
-        Some(Destination::Standard) => {
-            out.write_all(new)?;
-            out.say(report.trim_end())?;
-        }
-        None => writeln!(out, "{report}nothing is written; -o OUT or --in-place writes it")?,
-        Some(file @ Destination::File(name)) => {
-            write!(out, "{report}")?;
-            out.flush()?;
-            file.write(out, new)?;
-            writeln!(out, "written to {}", escaped(name))?;
-        }
+fn write(out: &mut Output, to: &Destination, report: &str, new: &[u8]) -> Result<(), Failure> {
+    let Some(name) = to.name() else {
+        output::report(report).map_err(Failure::Unsaid)?;
+        return to.write(out, new);
+    };
+    if matches!(to, Destination::New(_)) && fs::symlink_metadata(name).is_ok() {
+        let why = "it exists; -o OUT names another file, and --in-place writes over FILE";
+        return Err(Failure::UnwritableFile(name.to_owned(), io::Error::other(why)));
     }
+    write!(out, "{report}")?;
+    out.flush()?;
+    to.write(out, new)?;
+    writeln!(out, "written to {}", escaped(name))?;
     Ok(())
 }

@@ -32,6 +32,15 @@ impl Output {
     }
 }
 
+/// Writes to standard error what stands nowhere else, so that a lost byte is an error.
+pub fn report(text: &str) -> io::Result<()> {
+    if standard::error_was_closed() {
+        return Err(io::Error::from_raw_os_error(NOT_OPEN));
+    }
+    // Takes a descriptor of its own: writes to `io::stderr` succeed where it is not for writing.
+    File::from(io::stderr().as_fd().try_clone_to_owned()?).write_all(text.as_bytes())
+}
+
 /// Writes a message to standard error. Where that takes nothing, the exit status has to do.
 pub fn complain(message: &str) {
     let _ = io::stderr().write_all(format!("{message}\n").as_bytes());

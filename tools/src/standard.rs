@@ -1,10 +1,10 @@
-//! Whether standard input and output were open when the program began. Rust's start-up opens
+//! Whether standard input, output and error were open when the program began. Rust's start-up opens
 //! /dev/null in place of a closed one, so that writing would seem to succeed: this looks before it.
 
 use std::sync::atomic::{AtomicBool, Ordering::Relaxed};
 
-/// Of standard input and standard output, which have the descriptors 0 and 1.
-static CLOSED: [AtomicBool; 2] = [AtomicBool::new(false), AtomicBool::new(false)];
+/// Of standard input, standard output and standard error, which have the descriptors 0 to 2.
+static CLOSED: [AtomicBool; 3] = [const { AtomicBool::new(false) }; 3];
 
 /// Asks for a descriptor's flags; fails where it is not open.
 const F_GETFD: i32 = 1;
@@ -31,4 +31,8 @@ pub fn input_was_closed() -> bool {
 
 pub fn output_was_closed() -> bool {
     CLOSED[1].load(Relaxed)
+}
+
+pub fn error_was_closed() -> bool {
+    CLOSED[2].load(Relaxed)
 }

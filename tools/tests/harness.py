@@ -28,8 +28,9 @@ class Tests:
         if "input" in more:
             del more["stdin"]
         more.setdefault("stdout", subprocess.PIPE)
-        done = subprocess.run([self.program, *arguments], stderr=subprocess.PIPE, timeout=60, check=False, **more)
-        return done.returncode, done.stdout or b"", done.stderr.decode()
+        more.setdefault("stderr", subprocess.PIPE)
+        done = subprocess.run([self.program, *arguments], timeout=60, check=False, **more)
+        return done.returncode, done.stdout or b"", (done.stderr or b"").decode()
 
     def run(self, *arguments, **more):
         status, out, err = self.run_bytes(*arguments, **more)

@@ -1,22 +1,36 @@
-"""icode mend: the stored calls, what it says of each dropped word, run files with their heads, and that it writes only where it is asked to."""
+"""icode mend: the stored calls, what it says of each dropped word, run files with their heads, that it writes only where it may, and that
+nothing is lost where it cannot write."""
 
 import os
 import re
+import resource
+import signal
+import stat
+import subprocess
 import tempfile
+import threading
 from pathlib import Path
 from harness import *
 
 SOUND = bytes([0, 2, 0xE9])
-ROW = re.compile(r"^ *(\d+)  (.*)$", re.MULTILINE)
+ROW = re.compile(r"^ *(\d+)  (\d+)  (.*)$", re.MULTILINE)
+COLUMNS = "dropped (byte in the record, number that refuses it, what it was):\n"
 MIN_MENDED = 150  # among the stored calls
+MIN_WITH_RESULTS = 10  # among the stored calls
 LONGEST = 8_192  # bytes of a run file
+NOBODY = 65_534  # has no rights but those of everybody
 
 
-def mended(tests, content):
-    """Exit status, the mended file, the dropped words with their places, and the numbers before and after."""
-    status, new, report = tests.run_bytes("mend", "-o", "-", "-", input=content)
-    rows = [(int(at), text) for at, text in ROW.findall(report)]
+def mended(tests, content, *options):
+    """Exit status, the mended file, the dropped words with their places and numbers, and the numbers before and after."""
+    status, new, report = tests.run_bytes("mend", "-o", "-", *options, "-", input=content)
+    rows = [(int(at), int(number), text) for at, number, text in ROW.findall(report)]
     return status, new, rows, mend_numbers(report)
+
+
+def source_at(record):
+    """The byte of a record at which its source table begins."""
+    return len(record) - 4 * words_in(record[:28])[6]
 
 
 def test_stored(tests):
@@ -32,8 +46,9 @@ def test_stored(tests):
         count += 1
         _, new, rows, (before, after) = mended(tests, record)
         listed = [word for text in answer[6:] for word in [int(text.split("*")[-1])] * int(text.split("*")[0] if "*" in text else 1)]
-        places = [at for at, _ in rows]
-        good = new == from_hex(answer[4])[:length] and places == listed[:int(answer[3])] and after not in (5, 6)
+        places = [at for at, _, _ in rows]
+        numbered = all(refusing == (6 if at >= source_at(record) else 5) for at, refusing, _ in rows)
+        good = numbered and new == from_hex(answer[4])[:length] and places == listed[:int(answer[3])] and after not in (5, 6)
         tests.expect(f"mend {case[1]}", good and (before in (5, 6) or before == 4 or (places, new) == ([], record)), (new.hex(), rows))
     tests.expect("enough of them are mended", count >= MIN_MENDED, count)
 
@@ -41,26 +56,31 @@ def test_stored(tests):
 # Records: name, numbers before and after, what is said of each dropped word, record.
 RECORDS = [
     ("sound", [0, 0], [], record_of(SOUND, b" 3/-AAAA", word_bytes([0, 1, 2, 2]))),
-    ("version", [5, 0], [(31, 'version word 0, "3/- " (33 2f 2d 20): malformed')], record_of(SOUND, b"3/- ")),
-    ("versions", [5, 0], [(31, 'version word 0, ".3/-" (80 33 2f 2d): malformed'),
-                          (35, 'version word 1, " 3/-" (20 33 2f 2d): behind a malformed one')], record_of(SOUND, b"\x803/- 3/-")),
-    ("odd", [6, 0], [(31, "the last of 1 source words, 7: of no pair")], record_of(SOUND, source=word_bytes([7]))),
-    ("odd behind a pair", [6, 0], [(39, "the last of 3 source words, 2: of no pair")], record_of(SOUND, source=word_bytes([1, 9, 2]))),
-    ("at the code size", [6, 0], [(31, "pair 0, offset 3: not below 3, the code size"), (35, "pair 0, line 9")],
+    ("version", [5, 0], [(31, 5, 'version word 0, "3/- " (33 2f 2d 20): malformed')], record_of(SOUND, b"3/- ")),
+    ("versions", [5, 0], [(31, 5, 'version word 0, ".3/-" (80 33 2f 2d): malformed'),
+                          (35, 5, 'version word 1, " 3/-" (20 33 2f 2d): behind a malformed one')], record_of(SOUND, b"\x803/- 3/-")),
+    ("odd", [6, 0], [(31, 6, "the last of 1 source words, 7: of no pair")], record_of(SOUND, source=word_bytes([7]))),
+    ("odd behind a pair", [6, 0], [(39, 6, "the last of 3 source words, 2: of no pair")], record_of(SOUND, source=word_bytes([1, 9, 2]))),
+    ("at the code size", [6, 0], [(31, 6, "pair 0, offset 3: not below 3, the code size"), (35, 6, "pair 0, line 9")],
      record_of(SOUND, source=word_bytes([3, 9, 2, 1]))),
-    ("beyond", [6, 0], [(39, "pair 1, offset 4294967295: not below 3, the code size"), (43, "pair 1, line 9")],
+    ("beyond", [6, 0], [(39, 6, "pair 1, offset 4294967295: not below 3, the code size"), (43, 6, "pair 1, line 9")],
      record_of(SOUND, source=word_bytes([0, 1, 0xFFFFFFFF, 9]))),
-    ("equal", [6, 0], [(39, "pair 1, offset 1: not above 1, that of pair 0"), (43, "pair 1, line 9")],
+    ("equal", [6, 0], [(39, 6, "pair 1, offset 1: not above 1, that of pair 0"), (43, 6, "pair 1, line 9")],
      record_of(SOUND, source=word_bytes([1, 1, 1, 9, 2, 2]))),
-    ("the last kept one", [6, 0], [(39, "pair 1, offset 5: not below 3, the code size"), (43, "pair 1, line 9"),
-                                   (47, "pair 2, offset 0: not above 1, that of pair 0"), (51, "pair 2, line 8")],
+    ("the last kept one", [6, 0], [(39, 6, "pair 1, offset 5: not below 3, the code size"), (43, 6, "pair 1, line 9"),
+                                   (47, 6, "pair 2, offset 0: not above 1, that of pair 0"), (51, 6, "pair 2, line 8")],
      record_of(SOUND, source=word_bytes([1, 1, 5, 9, 0, 8, 2, 2]))),
-    ("imports", [4, 4], [(35, 'version word 0, "xxxx" (78 78 78 78): malformed')],
+    ("imports", [4, 4], [(35, 5, 'version word 0, "xxxx" (78 78 78 78): malformed')],
      word_bytes([1, 3, 0, 0, 0, 1, 0, 0]) + SOUND + b"xxxx"),
-    ("entries", [6, 7], [(29, "the last of 1 source words, 7: of no pair")], record_of(b"\0", source=word_bytes([7]))),
-    ("instructions", [6, 10], [(32, "the last of 1 source words, 7: of no pair")],
+    ("relocation, and both tables", [4, 4], [(35, 5, 'version word 0, "xxxx" (78 78 78 78): malformed'),
+                                             (47, 6, "pair 1, offset 3: not below 3, the code size"), (51, 6, "pair 1, line 9")],
+     word_bytes([0, 3, 0, 0, 1, 1, 4]) + SOUND + bytes(4) + b"xxxx" + word_bytes([1, 1, 3, 9])),
+    ("both tables", [5, 0], [(31, 5, 'version word 0, "xxxx" (78 78 78 78): malformed'), (35, 6, "the last of 1 source words, 7: of no pair")],
+     record_of(SOUND, b"xxxx", word_bytes([7]))),
+    ("entries", [6, 7], [(29, 6, "the last of 1 source words, 7: of no pair")], record_of(b"\0", source=word_bytes([7]))),
+    ("instructions", [6, 10], [(32, 6, "the last of 1 source words, 7: of no pair")],
      record_of(bytes([0, 2, 0x9B, 0xE9]), source=word_bytes([7]))),
-    ("globals", [6, 0], [(35, "the last of 1 source words, 7: of no pair")],
+    ("globals", [6, 0], [(35, 6, "the last of 1 source words, 7: of no pair")],
      record_of(SOUND, source=word_bytes([7]), sizes=[0, 3, 5, 1, 0, 0, 1], constants=bytes(4))),
 ]
 
@@ -68,7 +88,7 @@ RECORDS = [
 def without(record, rows):
     """A record without these words, and its sizes of both tables."""
     kept, sizes = record, words_in(record[:28])
-    for at, text in reversed(rows):
+    for at, _, text in reversed(rows):
         kept = kept[:at] + kept[at + 4:]
         sizes[5 if text.startswith("version") else 6] -= 1
     return word_bytes(sizes) + kept[28:]
@@ -120,17 +140,78 @@ def test_limit(tests):
     tests.expect("a record with the largest tables", good, (status, len(new), len(rows), numbers))
 
 
-def test_written(tests, folder):
-    """FILE is written over only in place, by none of its names otherwise; OUT only where there is something to write."""
-    file, out = folder / "file", folder / "out"
-    damaged = record_of(SOUND, b"3/- ")
-    file.write_bytes(damaged)
+def test_results(tests):
+    """A record whose procedures leave results is judged with those that --results gives, and with all 0 without it."""
+    count = 0
+    for case, answer in cases():
+        results = from_hex(case[2]) if case[0] == "check" else b""
+        if not any(results) or answer[1] != "0":
+            continue
+        count += 1
+        record = from_hex(case[1])
+        damaged = record[:24] + word_bytes([words_in(record[:28])[6] + 1]) + record[28:] + bytes(4)
+        found = mended(tests, damaged, "--results", digits_of(results))
+        tests.expect(f"results {case[1][:80]}", found[:2] == (0, record) and found[3] == [6, 0], found)
+        _, said, _ = tests.run("mend", "--dry-run", "-", input=damaged)
+        named = re.findall(r"(?:accepted|refused with (?:9|1[0-5]): .*) \(all results taken as 0; --results gives others\)$", said, re.MULTILINE)
+        tests.expect(f"no results {case[1][:80]}", len(named) == 1, said)
+    tests.expect("enough records have results", count >= MIN_WITH_RESULTS, count)
+    status, _, _, numbers = mended(tests, run_file_of(record_of(SOUND)), "--results", "00")
+    tests.expect("--results goes before a run file's list", (status, numbers) == (1, [9, 9]), numbers)
+    for digits in ("x", "0 1", "0" * 257):
+        found = [tests.run(command, "--results", digits, "x")[2].splitlines()[0] for command in ("list", "mend")]
+        tests.expect(f"--results {digits}", "no list of digits" in found[0] and found[0] == found[1], found)
+
+
+DAMAGED = record_of(SOUND, b"3/- ")
+MENDED = record_of(SOUND)
+STILL_REFUSED = record_of(bytes([0, 2, 0x9B]), b"3/- ")  # with 10
+
+
+def holds(folder, **files):
+    """Whether a folder has just these files, by name and content."""
+    return {path.name: path.read_bytes() for path in folder.iterdir()} == {name.replace("_", "."): content for name, content in files.items()}
+
+
+def test_beside(tests, folder):
+    """Without -o a file FILE.mended is made, where something is dropped; none is written over."""
+    file, beside = folder / "file", folder / "file.mended"
+    file.write_bytes(DAMAGED)
+    status, dry, err = tests.run("mend", "--dry-run", file)
+    good = (status, err) == (0, "") and COLUMNS in dry and dry.endswith("\nnothing is written, as --dry-run asks\n")
+    tests.expect("--dry-run", good and holds(folder, file=DAMAGED), (status, dry, err))
     status, said, err = tests.run("mend", file)
-    good = (status, err) == (0, "") and said.endswith("\nnothing is written; -o OUT or --in-place writes it\n")
-    tests.expect("without -o", good and sorted(folder.iterdir()) == [file] and file.read_bytes() == damaged, (status, said, err))
-    status, said, err = tests.run("mend", file, "-o", out)
-    good = (status, err) == (0, "") and said.endswith(f"\nwritten to {out}\n") and "refused with 5: " in said
-    tests.expect("-o", good and (file.read_bytes(), out.read_bytes()) == (damaged, record_of(SOUND)), (status, said, err))
+    good = (status, err) == (0, "") and said.endswith(f"\nwritten to {beside}\n") and said.splitlines()[:-1] == dry.splitlines()[:-1]
+    tests.expect("FILE.mended", good and holds(folder, file=DAMAGED, file_mended=MENDED), (status, said, err))
+    beside.write_bytes(b"before")
+    there = f"icode: cannot write '{beside}': it exists; -o OUT names another file, and --in-place writes over FILE\n"
+    tests.expect_run("FILE.mended is there", ("mend", file), 2, there)
+    tests.expect("FILE.mended is as it was", holds(folder, file=DAMAGED, file_mended=b"before"))
+    beside.unlink()
+    beside.symlink_to("nowhere")
+    tests.expect_run("FILE.mended is a link", ("mend", file), 2, there)
+    tests.expect("nothing is made behind the link", sorted(folder.iterdir()) == [file, beside])
+    file.write_bytes(MENDED)
+    status, said, err = tests.run("mend", file)
+    good = (status, err) == (0, "") and said.endswith("\nnothing is written, since nothing is dropped\n")
+    tests.expect("nothing is dropped", good and sorted(folder.iterdir()) == [file, beside], (status, said, err))
+    beside.unlink()
+    file.write_bytes(STILL_REFUSED)
+    status, said, err = tests.run("mend", "file", cwd=folder)
+    good = (status, err) == (1, "") and said.endswith("\nwritten to file.mended\n") and "refused with 10: " in said
+    tests.expect("still refused", good and holds(folder, file=STILL_REFUSED, file_mended=record_of(bytes([0, 2, 0x9B]))), (status, said, err))
+
+
+def test_out(tests, folder):
+    """OUT is written over, but not where it is FILE by any of its names."""
+    file, out = folder / "file", folder / "out"
+    file.write_bytes(DAMAGED)
+    for content, words in ((DAMAGED, "refused with 5: "), (MENDED, "\nnothing is dropped\n")):
+        file.write_bytes(content)
+        out.write_bytes(b"before")
+        status, said, err = tests.run("mend", file, "-o", out)
+        good = (status, err) == (0, "") and said.endswith(f"\nwritten to {out}\n") and words in said
+        tests.expect("-o", good and holds(folder, file=content, out=MENDED), (status, said, err))
     (folder / "link").symlink_to(file)
     os.link(file, folder / "name")
     for name in ("file", "./file", "link", "name"):
@@ -138,19 +219,7 @@ def test_written(tests, folder):
         tests.expect_run(f"-o {name}", ("mend", "file", "-o", name), 2, words, cwd=folder)
         with open(file, "rb") as stdin:
             tests.expect_run(f"- -o {name}", ("mend", "-", "-o", name), 2, words, cwd=folder, stdin=stdin)
-    tests.expect("FILE is as it was", file.read_bytes() == damaged)
-    for content in (b"", record_of(SOUND) + b"\0", run_file_of(b"")[:-1], run_file_of(record_of(SOUND)[:-1])):
-        file.write_bytes(content)
-        for option in (("-o", out), ("--in-place",)):
-            tests.expect_run(f"{option}, refused", ("mend", file, *option), 1, "refused with ")
-        tests.expect("nothing is written", (file.read_bytes(), out.read_bytes()) == (content, record_of(SOUND)))
-    file.write_bytes(damaged)
-    status, said, err = tests.run("mend", file, "--in-place", stdout=None, preexec_fn=lambda: os.close(1))
-    good = status == 2 and "cannot write to standard output" in err and file.read_bytes() == damaged
-    tests.expect("nothing is dropped unsaid", good, (status, said, err))
-    status, said, err = tests.run("mend", "--in-place", file)
-    good = (status, err) == (0, "") and said.endswith(f"\nwritten to {file}\n") and file.read_bytes() == record_of(SOUND)
-    tests.expect("--in-place", good, (status, said, err))
+    tests.expect("FILE is as it was", file.read_bytes() == MENDED)
     for target, reason in (("/dev/full", "No space left on device"), (folder, "Is a directory")):
         status, said, err = tests.run("mend", file, "-o", target)
         good = status == 2 and err == f"icode: cannot write '{target}': {reason}\n" and "written to" not in said
@@ -159,10 +228,127 @@ def test_written(tests, folder):
         tests.expect_run("-o /dev/null from itself", ("mend", "-", "-o", "/dev/null"), 1, "refused with 1: ", stdin=null)
 
 
+def test_in_place(tests, folder):
+    """FILE is written over, through a link, with its owner and permissions; another name of it keeps the old bytes."""
+    within = folder / "within"
+    within.mkdir()
+    file, link, name = within / "file", folder / "link", folder / "name"
+    link.symlink_to("within/file")
+    owner = (NOBODY, NOBODY) if os.geteuid() == 0 else (os.geteuid(), os.getegid())
+    for target, mode in ((file, 0o640), (link, 0o604), (file, 0o4755)):
+        file.write_bytes(DAMAGED)
+        os.chown(file, *owner)
+        file.chmod(mode)
+        os.link(file, name)
+        status, said, err = tests.run("mend", "--in-place", target)
+        good = (status, err) == (0, "") and said.endswith(f"\nwritten to {target}\n") and name.read_bytes() == DAMAGED
+        found = file.stat()
+        good = good and (stat.S_IMODE(found.st_mode), found.st_uid, found.st_gid) == (mode, *owner) and link.is_symlink()
+        tests.expect(f"--in-place {target}", good and holds(within, file=MENDED), (status, said, err, found))
+        name.unlink()
+        file.unlink()
+    file.write_bytes(DAMAGED)
+    leave = {"preexec_fn": lambda: Path(f".icode-{os.getpid()}-0").write_text("left")}
+    status, said, err = tests.run("mend", "--in-place", "file", cwd=within, **leave)
+    left = sorted(path.read_bytes() for path in within.iterdir())
+    tests.expect("a temporary file that was left", (status, left) == (0, sorted([MENDED, b"left"])), (status, left, err))
+
+
+def test_pipe(tests, folder):
+    """A pipe that has a name is not replaced by a file."""
+    pipe = folder / "pipe"
+    os.mkfifo(pipe)
+    writer = threading.Thread(target=lambda: pipe.write_bytes(DAMAGED))
+    writer.start()
+    status, said, err = tests.run("mend", "--in-place", pipe)
+    writer.join()
+    good = (status, err) == (2, f"icode: cannot write '{pipe}': it is no regular file\n") and pipe.is_fifo()
+    tests.expect("--in-place of a pipe", good and COLUMNS in said and list(folder.iterdir()) == [pipe], (status, said, err))
+
+
+def lost(stream, descriptor, full, unwritable):
+    """Outputs that take nothing, by name."""
+    closed = {stream: None, "preexec_fn": lambda: os.close(descriptor)}
+    return {"closed": closed, "full": {stream: full}, "not for writing": {stream: unwritable}}
+
+
+def test_unsaid(tests, folder):
+    """Nothing is written where it cannot be said what is dropped."""
+    file, out = folder / "file", folder / "out"
+    file.write_bytes(DAMAGED)
+    with open("/dev/full", "wb") as full, open("/dev/null", "rb") as unwritable:
+        for option in ((), ("--in-place",), ("-o", out)):
+            for name, output in lost("stdout", 1, full, unwritable).items():
+                status, _, err = tests.run("mend", file, *option, **output)
+                good = status == 2 and "icode: cannot write to standard output: " in err and holds(folder, file=DAMAGED)
+                tests.expect(f"{option}, output {name}", good, (status, err))
+        for name, errors in lost("stderr", 2, full, unwritable).items():
+            status, new, _ = tests.run_bytes("mend", file, "-o", "-", **errors)
+            tests.expect(f"-o -, standard error {name}", (status, new) == (2, b""), (status, new))
+        status, _, err = tests.run("mend", file, "-o", "-", stdout=full)
+        good = status == 2 and COLUMNS in err and err.endswith("\nicode: cannot write to standard output: No space left on device\n")
+        tests.expect("-o -, what is dropped is said first", good, (status, err))
+
+
+def short_files():
+    """Lets a file have no more than ten bytes, as on a disk that is almost full."""
+    signal.signal(signal.SIGXFSZ, signal.SIG_IGN)
+    resource.setrlimit(resource.RLIMIT_FSIZE, (10, 10))
+
+
+def test_no_room(tests, folder):
+    """FILE stays as it is where there is no room for the new one, and nothing is left beside it; what is dropped is said all the same."""
+    file = folder / "file"
+    file.write_bytes(DAMAGED)
+    for option, target in (((), folder / "file.mended"), (("--in-place",), file)):
+        status, said, err = tests.run("mend", file, *option, preexec_fn=short_files)
+        good = (status, err) == (2, f"icode: cannot write '{target}': File too large\n") and COLUMNS in said and "written to" not in said
+        tests.expect(f"{option}, no room", good and holds(folder, file=DAMAGED), (status, said, err))
+
+
+def test_protected(tests, folder):
+    """A folder that takes no new file, and a file that may not be written, for one who is not root."""
+    open_, locked = folder / "open", folder / "locked"
+    for within, mode in ((open_, 0o777), (locked, 0o555)):
+        within.mkdir()
+        (within / "file").write_bytes(DAMAGED)
+        (within / "file").chmod(0o666 if within == locked else 0o444)
+        within.chmod(mode)
+    folder.chmod(0o755)
+    user = {"user": NOBODY, "group": NOBODY, "extra_groups": []} if os.geteuid() == 0 else {}
+    try:
+        tests.run("--version", **user)
+    except (PermissionError, subprocess.SubprocessError) as error:
+        print(f"skipped: mend in folders and over files that are protected: root may write all, and nobody cannot run the program: {error}")
+        return
+    for within, option, target in ((locked, (), "file.mended"), (locked, ("--in-place",), "file"), (open_, ("--in-place",), "file")):
+        status, said, err = tests.run("mend", within / "file", *option, **user)
+        good = (status, err) == (2, f"icode: cannot write '{within / target}': Permission denied\n") and COLUMNS in said
+        tests.expect(f"{option} in {within.name}", good and holds(within, file=DAMAGED), (status, said, err))
+    locked.chmod(0o755)
+
+
+def test_refused(tests, folder):
+    """What cannot be mended is not written."""
+    file, out = folder / "file", folder / "out"
+    out.write_bytes(b"before")
+    for content in (b"", MENDED + b"\0", run_file_of(b"")[:-1], run_file_of(MENDED[:-1])):
+        file.write_bytes(content)
+        for option in ((), ("-o", out), ("--in-place",), ("--dry-run",)):
+            tests.expect_run(f"{option}, refused", ("mend", file, *option), 1, "refused with ")
+        tests.expect("nothing is written", holds(folder, file=content, out=b"before"))
+
+
 def test_options(tests):
-    for arguments, words in ((("mend", "-o", "x", "--in-place", "y"), "-o and --in-place exclude each other"),
+    exclude = "-o, --in-place and --dry-run exclude each other"
+    for arguments, words in ((("mend", "-o", "x", "--in-place", "y"), exclude),
+                             (("mend", "-o", "x", "--dry-run", "y"), exclude),
+                             (("mend", "--dry-run", "--in-place", "y"), exclude),
                              (("mend", "--in-place", "-"), "standard input cannot be written in place"),
+                             (("mend", "-"), "standard input has no name to add .mended to; it needs -o OUT or --dry-run"),
                              (("mend", "x", "-o"), "-o needs OUT behind it"),
+                             (("mend", "--results"), "--results needs DIGITS behind it"),
+                             (("mend", "--dry-run=x", "x"), "--dry-run takes no value"),
                              (("mend", "--in-place=x", "x"), "--in-place takes no value")):
         tests.expect_run(f"{arguments}", arguments, 2, f"{words}\nusage: icode mend ")
 
@@ -179,7 +365,9 @@ def test(tests):
     test_records(tests)
     test_run_files(tests)
     test_limit(tests)
+    test_results(tests)
     test_options(tests)
     test_example(tests)
-    with tempfile.TemporaryDirectory() as folder:
-        test_written(tests, Path(folder))
+    for part in (test_beside, test_out, test_in_place, test_pipe, test_unsaid, test_no_room, test_protected, test_refused):
+        with tempfile.TemporaryDirectory() as folder:
+            part(tests, Path(folder))

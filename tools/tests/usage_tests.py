@@ -59,9 +59,10 @@ def test_inputs(tests, folder):
             tests.expect_run(f"{command} '{shown}'", (command, name), 2, f"icode: cannot read '{shown}': {reason}\n", cwd=folder)
         closed = {"stdin": None, "preexec_fn": lambda: os.close(0)}
         words = "icode: cannot read 'standard input': Bad file descriptor\n"
-        tests.expect_run(f"{command}, closed input", (command, "-"), 2, words, **closed)
+        arguments = (command, "--dry-run", "-") if command == "mend" else (command, "-")
+        tests.expect_run(f"{command}, closed input", arguments, 2, words, **closed)
         with open("/dev/zero", "rb") as endless:
-            status, _, err = tests.run(command, "-", stdin=endless)
+            status, _, err = tests.run(*arguments, stdin=endless)
         tests.expect(f"{command}, input without an end", status == 1 and "longer than" in err, (status, err))
 
 
@@ -82,7 +83,8 @@ def test_outputs(tests, folder):
                       ("mend", PAGE), ("mend", PAGE, "-o", "-"), ("mend", PAGE, "-o", folder / "unsaid"), ("--help",), ("--version",), *helps):
         for name, reason, output in outputs(write):
             status, _, err = tests.run(*arguments, **output)
-            good = status == 2 and err == f"icode: cannot write to standard output: {reason}\n"
+            report, message, rest = err.partition(f"icode: cannot write to standard output: {reason}\n")
+            good = status == 2 and message and rest == "" and (report == "" or "-" in arguments)
             tests.expect(f"{arguments} to {name} output", good, (status, err))
     os.close(write)
     for out, reason in (("/dev/full", "No space left on device"), (folder, "Is a directory"),

@@ -1,9 +1,9 @@
 //! A record or run file as the text that `icode asm` makes it from.
 
-use super::Listed;
 use crate::bytes::{spaced, word, words};
 use crate::code::{procedures, Procedure};
 use crate::instruction::Instruction;
+use crate::judged::Judged;
 use crate::meaning::meaning;
 use crate::record::Record;
 use crate::run_file::RunFile;
@@ -14,7 +14,7 @@ const WORDS_IN_ROW: usize = 8;
 const BYTES_IN_ROW: usize = 16;
 
 /// Prints the text of a sound record, and of its run file.
-pub fn print(out: &mut impl Write, listed: &Listed, record: &Record) -> io::Result<()> {
+pub fn print(out: &mut impl Write, listed: &Judged, record: &Record) -> io::Result<()> {
     let verdict = &listed.verdict;
     if !verdict.is_accepted() {
         let (number, reason) = (verdict.number, &verdict.reason);

@@ -3,16 +3,29 @@
 use crate::bytes::{hex, quoted, word};
 use crate::record::Record;
 
-/// Writes a row for each dropped word, with its byte place in the record.
+/// The numbers that refuse a malformed version word, and an odd source table or one whose offsets do
+/// not rise or are not below the code size.
+const VERSION_REFUSED: u32 = 5;
+const SOURCE_REFUSED: u32 = 6;
+
+/// Writes a row for each dropped word: its byte place in the record, the number that refuses it, and
+/// what it was.
 pub fn rows(record: &Record, places: &[usize]) -> Vec<String> {
     let source_at = record.bytes.len() - record.source.len();
     let version_at = source_at - record.version.len();
     let source = Source { record, at: source_at, places };
-    let text = |at: usize| match at.checked_sub(source_at) {
-        Some(behind) => source.text(behind / 4),
-        None => version_text(&record.bytes[at..at + 4], (at - version_at) / 4),
+    let numbered = |at: usize| match at.checked_sub(source_at) {
+        Some(behind) => (SOURCE_REFUSED, source.text(behind / 4)),
+        None => {
+            let text = version_text(&record.bytes[at..at + 4], (at - version_at) / 4);
+            (VERSION_REFUSED, text)
+        }
     };
-    places.iter().map(|&at| format!("{at:6}  {}", text(at))).collect()
+    let row = |&at: &usize| {
+        let (number, text) = numbered(at);
+        format!("{at:6}  {number}  {text}")
+    };
+    places.iter().map(row).collect()
 }
 
 fn version_text(bytes: &[u8], index: usize) -> String {
