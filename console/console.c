@@ -12,14 +12,6 @@
 #define PROGRAM "console"
 #define PROGRAM_VERSION "1.0"
 
-enum {
-    REPORT_MAX = 32768, /* the longest report has two lists of 1,024 words, 11 bytes for each: under 22,600 bytes */
-    MALFORMED = 16      /* the number of a run file that is malformed or too long */
-};
-
-/* Ends of a run; the others are traps. */
-enum { END_FINISHED = 0, END_SPENT = 1 };
-
 /* The worst one of all files is the program's. */
 enum status { STATUS_DONE = 0, STATUS_NOT_DONE = 1, STATUS_TROUBLE = 2 };
 
@@ -78,7 +70,7 @@ static void explain_end(const char *name, const struct outcome *outcome)
 {
     char text[LINE_TEXT_MAX];
     const char *line = line_text(outcome->line, text);
-    if (outcome->end == END_SPENT)
+    if (outcome->end == ICODE_SPENT)
         fprintf(stderr, PROGRAM ": %s: spent after %" PRIu32 " steps; next is offset %" PRIu32 ", %s\n", shown_name(name),
                 outcome->steps, outcome->at, line);
     else
@@ -98,9 +90,9 @@ static bool read_outcome(const char *report, struct outcome *outcome)
 /* Checks, loads and runs. */
 static enum status report_file(const char *name, struct bytes file)
 {
-    uint8_t report[REPORT_MAX + 1];
+    uint8_t report[ICODE_REPORT_MAX + 1];
     struct outcome outcome;
-    size_t len = icode_report(file.at, file.len, report, REPORT_MAX);
+    size_t len = icode_report(file.at, file.len, report, ICODE_REPORT_MAX);
     report[len] = '\0';
     if (!read_outcome((const char *)report, &outcome)) {
         fprintf(stderr, PROGRAM ": %s: the library gave no report\n", shown_name(name));
@@ -109,7 +101,7 @@ static enum status report_file(const char *name, struct bytes file)
     (void)fwrite(report, 1, len, stdout);
     if (!flush_output(PROGRAM))
         return STATUS_TROUBLE;
-    if (outcome.check == 0 && outcome.end == END_FINISHED)
+    if (outcome.check == 0 && outcome.end == ICODE_FINISHED)
         return STATUS_DONE;
     if (outcome.check != 0)
         explain_refusal(name, outcome.check, file);
@@ -121,11 +113,11 @@ static enum status report_file(const char *name, struct bytes file)
 /* Checks alone; the line is the one that a report begins with. */
 static enum status check_file(const char *name, struct bytes file)
 {
-    uint16_t workspace[WORKSPACE_MAX];
+    uint16_t workspace[ICODE_WORKSPACE_MAX];
     struct run_file parts;
-    uint32_t number = MALFORMED;
+    uint32_t number = ICODE_RUN_FILE_WRONG;
     if (split_run_file(file, &parts) == NULL)
-        number = icode_check(parts.record.at, parts.record.len, parts.results.at, parts.results.len, workspace, WORKSPACE_MAX);
+        number = icode_check(parts.record.at, parts.record.len, parts.results.at, parts.results.len, workspace, ICODE_WORKSPACE_MAX);
     printf("check %" PRIu32 "\n", number);
     if (!flush_output(PROGRAM))
         return STATUS_TROUBLE;
@@ -137,7 +129,7 @@ static enum status check_file(const char *name, struct bytes file)
 
 static enum status do_file(const char *name, const struct request *request)
 {
-    uint8_t buffer[RUN_FILE_MAX + 1]; /* one byte more shows that a file is too long */
+    uint8_t buffer[ICODE_RUN_FILE_MAX + 1]; /* one byte more shows that a file is too long */
     struct bytes file = {buffer, 0};
     if (!read_input(name, buffer, sizeof buffer, &file.len)) {
         explain_unreadable(PROGRAM, name);

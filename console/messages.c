@@ -1,5 +1,7 @@
 #include "messages.h"
 
+#include "icode.h"
+
 #include <errno.h>
 #include <inttypes.h>
 #include <signal.h>
@@ -11,36 +13,36 @@
 const char *meaning_of(uint32_t number)
 {
     static const char *const meanings[] = {
-        [1] = "record under 28 bytes",
-        [2] = "a size above its maximum",
-        [3] = "length not that of the parts",
-        [4] = "imports or relocation present",
-        [5] = "version word malformed",
-        [6] = "source table odd, or its offsets not strictly rising and below the code size",
-        [7] = "entries not strictly rising and below the code size, or entry 1 not even, at least 4 and at most 512",
-        [8] = "load: more parameters than globals, memory under 3+g+c or over 16,384, stack over 1,024",
-        [9] = "results list of wrong length or content",
-        [10] = "unserved instruction, or prefix before one without that mode",
-        [11] = "instruction runs past its region",
-        [12] = "a successor or switch label is no start in its region",
-        [13] = "procedures 1 and up do not begin with ENTER, ENTER elsewhere, or procedure 0's has parameters",
-        [14] = "callee 0 or not in the entries",
-        [15] = "some region has no picture",
-        [16] = "run file malformed or too long",
-        [20] = "unserved",
-        [21] = "offset or bytes outside the code",
-        [22] = "too few stack words",
-        [23] = "no such callee, 0 included",
-        [24] = "run: a state that does not fit",
-        [30] = "zero divisor",
-        [31] = "number does not fit",
-        [32] = "not live",
-        [33] = "protected",
-        [34] = "not a boolean",
-        [35] = "memory full",
-        [36] = "stack full",
-        [37] = "64 calls",
-        [38] = "FREE below FP",
+        [ICODE_RECORD_SHORT] = "record under 28 bytes",
+        [ICODE_SIZE_ABOVE] = "a size above its maximum",
+        [ICODE_LENGTH_WRONG] = "length not that of the parts",
+        [ICODE_PARTS_UNSERVED] = "imports or relocation present",
+        [ICODE_VERSION_MALFORMED] = "version word malformed",
+        [ICODE_SOURCE_MALFORMED] = "source table odd, or its offsets not strictly rising and below the code size",
+        [ICODE_ENTRIES_MALFORMED] = "entries not strictly rising and below the code size, or entry 1 not even, at least 4 and at most 512",
+        [ICODE_ROOM_WRONG] = "load: more parameters than globals, memory under 3+g+c or over 16,384, stack over 1,024",
+        [ICODE_RESULTS_WRONG] = "results list of wrong length or content",
+        [ICODE_CODE_UNSERVED] = "unserved instruction, or prefix before one without that mode",
+        [ICODE_CODE_PAST] = "instruction runs past its region",
+        [ICODE_NO_START] = "a successor or switch label is no start in its region",
+        [ICODE_ENTER_WRONG] = "procedures 1 and up do not begin with ENTER, ENTER elsewhere, or procedure 0's has parameters",
+        [ICODE_CALLEE_WRONG] = "callee 0 or not in the entries",
+        [ICODE_NO_PICTURE] = "some region has no picture",
+        [ICODE_RUN_FILE_WRONG] = "run file malformed or too long",
+        [ICODE_TRAP_UNSERVED] = "unserved",
+        [ICODE_TRAP_OUTSIDE] = "offset or bytes outside the code",
+        [ICODE_TRAP_TOO_FEW] = "too few stack words",
+        [ICODE_TRAP_CALLEE] = "no such callee, 0 included",
+        [ICODE_STATE_WRONG] = "run: a state that does not fit",
+        [ICODE_TRAP_ZERO_DIVISOR] = "zero divisor",
+        [ICODE_TRAP_RANGE] = "number does not fit",
+        [ICODE_TRAP_NOT_LIVE] = "not live",
+        [ICODE_TRAP_PROTECTED] = "protected",
+        [ICODE_TRAP_NOT_BOOLEAN] = "not a boolean",
+        [ICODE_TRAP_MEMORY_FULL] = "memory full",
+        [ICODE_TRAP_STACK_FULL] = "stack full",
+        [ICODE_TRAP_CALLS] = "64 calls",
+        [ICODE_TRAP_FREE] = "FREE below FP",
     };
     const char *meaning = number < sizeof meanings / sizeof meanings[0] ? meanings[number] : NULL;
     return meaning != NULL ? meaning : "a number without a meaning";

@@ -6,10 +6,6 @@
 #include <inttypes.h>
 #include <stdio.h>
 
-enum { REFUSED_LOAD = 8, REFUSED_SUCCESSOR = 12, REFUSED_ENTER = 13, REFUSED_CALLEE = 14 };
-
-enum { HEADER_BYTES = 28, STACK_MAX = 1024 };
-
 /* Mnemonics as the library numbers them (crates/mnemonic/specs/Mnemonic.antt). */
 enum { JUMP = 13, JUMP_F = 16, CALL = 17, ITER = 51, SWITCH = 53, SWITCH_X = 54, LEAVE = 55, ENTER = 56, RTN = 57 };
 
@@ -29,7 +25,7 @@ struct code {
     const uint8_t *at;
     uint32_t len;
     uint32_t procedures;
-    uint16_t owner[CODE_MAX]; /* by offset: 1 more than the procedure of the instruction that begins there, 0 where none does */
+    uint16_t owner[ICODE_CODE_MAX]; /* by offset: 1 more than the procedure of the instruction that begins there, 0 where none does */
 };
 
 static uint32_t entry(const struct code *code, uint32_t procedure)
@@ -45,9 +41,10 @@ static uint32_t region_end(const struct code *code, uint32_t procedure)
 
 static struct instruction decode(const struct code *code, uint32_t procedure, uint32_t at)
 {
-    uint32_t out[5] = {0};
-    (void)icode_bench_decode(code->at, code->len, region_end(code, procedure), at, out, 5);
-    return (struct instruction){.at = at, .len = out[4], .mnemonic = out[0], .operand = out[2], .procedure = procedure};
+    uint32_t out[ICODE_DECODED_WORDS] = {0};
+    (void)icode_bench_decode(code->at, code->len, region_end(code, procedure), at, out, ICODE_DECODED_WORDS);
+    return (struct instruction){.at = at, .len = out[ICODE_BYTES], .mnemonic = out[ICODE_MNEMONIC], .operand = out[ICODE_OPERAND],
+                                .procedure = procedure};
 }
 
 static struct instruction first_instruction(const struct code *code)
@@ -126,9 +123,9 @@ static bool breaks_callee(const struct code *code, const struct instruction *ins
 static bool breaks(uint32_t number, const struct code *code, const struct instruction *instruction, char reason[REASON_MAX])
 {
     switch (number) {
-    case REFUSED_SUCCESSOR:
+    case ICODE_NO_START:
         return breaks_successors(code, instruction, reason);
-    case REFUSED_ENTER:
+    case ICODE_ENTER_WRONG:
         return breaks_enter(code, instruction, reason);
     default:
         return breaks_callee(code, instruction, reason);
@@ -138,7 +135,7 @@ static bool breaks(uint32_t number, const struct code *code, const struct instru
 /* The first instruction behind 12, 13 or 14, with its place before what it breaks. */
 static void find_in_code(uint32_t number, struct bytes record, char reason[REASON_MAX])
 {
-    struct code code = {.at = record.at + HEADER_BYTES, .len = word_at(record.at + 4)};
+    struct code code = {.at = record.at + ICODE_HEADER_BYTES, .len = word_at(record.at + 4)};
     char fault[REASON_MAX], line[LINE_TEXT_MAX];
     code.procedures = entry(&code, 0) == 2 ? 1 : entry(&code, 1) / 2;
     struct instruction found = first_instruction(&code);
@@ -164,7 +161,7 @@ static void find_load_causes(const struct run_file *parts, char reason[REASON_MA
     if (parts->memory_words < least)
         len += (size_t)snprintf(reason + len, REASON_MAX - len, "%smemory %" PRIu32 ", 3+g+c is %" PRIu32, len > 0 ? ", " : "",
                                 parts->memory_words, least);
-    if (parts->stack_words > STACK_MAX)
+    if (parts->stack_words > ICODE_STACK_MAX)
         (void)snprintf(reason + len, REASON_MAX - len, "%sstack %" PRIu32, len > 0 ? ", " : "", parts->stack_words);
 }
 
@@ -175,8 +172,8 @@ void find_reason(uint32_t number, struct bytes file, char reason[REASON_MAX])
     reason[0] = '\0';
     if (broken != NULL)
         (void)snprintf(reason, REASON_MAX, "%s", broken);
-    else if (number == REFUSED_LOAD)
+    else if (number == ICODE_ROOM_WRONG)
         find_load_causes(&parts, reason);
-    else if (number >= REFUSED_SUCCESSOR && number <= REFUSED_CALLEE)
+    else if (number >= ICODE_NO_START && number <= ICODE_CALLEE_WRONG)
         find_in_code(number, parts.record, reason);
 }

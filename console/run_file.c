@@ -1,5 +1,7 @@
 #include "run_file.h"
 
+#include "icode.h"
+
 #include <errno.h>
 #include <stdio.h>
 #include <string.h>
@@ -36,7 +38,7 @@ const char *split_run_file(struct bytes file, struct run_file *parts)
     static const uint8_t beginning[] = {'T', 'R', 'K', 0, 1};
     struct bytes rest = file, begins, sizes;
 
-    if (file.len > RUN_FILE_MAX)
+    if (file.len > ICODE_RUN_FILE_MAX)
         return "it is longer than 8,192 bytes";
     if (!take(&rest, sizeof beginning, &begins) || memcmp(begins.at, beginning, sizeof beginning) != 0)
         return "it does not begin with TRK and version 1";
@@ -46,7 +48,7 @@ const char *split_run_file(struct bytes file, struct run_file *parts)
     parts->memory_words = halfword_at(sizes.at + 4);
     parts->stack_words = halfword_at(sizes.at + 6);
     parts->record = rest;
-    if (parts->memory_words > RUN_FILE_MEMORY_MAX)
+    if (parts->memory_words > ICODE_RUN_FILE_MEMORY_MAX)
         return "it asks for more than 4,096 words of memory";
     return NULL;
 }

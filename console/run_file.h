@@ -6,13 +6,6 @@
 #include <stddef.h>
 #include <stdint.h>
 
-enum {
-    RUN_FILE_MAX = 8192,        /* bytes of a run file */
-    RUN_FILE_MEMORY_MAX = 4096, /* words of memory that it may ask for */
-    CODE_MAX = 4096,            /* bytes of a record's code */
-    WORKSPACE_MAX = 4 * CODE_MAX /* halfwords that check needs for any record */
-};
-
 /* Part of a buffer. */
 struct bytes {
     const uint8_t *at;

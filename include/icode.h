@@ -1,10 +1,97 @@
-/* The proved I-code library. A slice is a pointer and a length, counted in elements: each pointer is valid for its length, and what is
- * written does not overlap what is read. Nothing is kept between calls, and what is const is left as it is. */
+/* The proved I-code library, for C and C++ on x86-64 Linux: target/staticlib/libicode.a, which takes memset alone from the C library.
+ *
+ * Buffers. A buffer is a pointer and a length, counted in elements. The pointer is valid for its length, aligned for its type (2 for
+ * uint16_t, 4 for uint32_t) and not NULL, not even where the length is 0; a pointer to the end of an array will do there. What is const
+ * is left as it is. What a call writes overlaps nothing else that it is lent; what it only reads may overlap. Nothing else is asked:
+ * any bytes, words and lengths have an answer, and each call returns.
+ *
+ * Threads. Nothing is kept between calls, nothing is allocated, and the library has no data of its own that is written. So threads may
+ * call at once, as long as no call writes what another one is lent.
+ *
+ * Stack. A call needs at most ICODE_THREAD_STACK bytes of its thread's stack, icode_report ICODE_THREAD_STACK_REPORT. No proof speaks of
+ * it; the gate makes its calls on stacks of that size, and tests/guard prints what they took. */
 #ifndef ICODE_H
 #define ICODE_H
 
 #include <stddef.h>
 #include <stdint.h>
+
+/* The version of this interface: MAJOR is another one where a program that uses it may have to change, MINOR where something is added. */
+#define ICODE_VERSION_MAJOR 1
+#define ICODE_VERSION_MINOR 0
+
+/* The numbers handed back; docs/NUMBERS.md says which calls give which. 0 is no refusal. */
+enum icode_number {
+    /* Refusals. */
+    ICODE_RECORD_SHORT = 1,      /* record under 28 bytes */
+    ICODE_SIZE_ABOVE = 2,        /* a size above its maximum */
+    ICODE_LENGTH_WRONG = 3,      /* length not that of the parts */
+    ICODE_PARTS_UNSERVED = 4,    /* imports or relocation present */
+    ICODE_VERSION_MALFORMED = 5, /* version word malformed */
+    ICODE_SOURCE_MALFORMED = 6,  /* source table odd, or its offsets not strictly rising and below the code size */
+    ICODE_ENTRIES_MALFORMED = 7, /* entries not strictly rising and below the code size, or entry 1 not even, at least 4 and at
+                                  * most 512 */
+    ICODE_ROOM_WRONG = 8,        /* load: more parameters than globals, memory under 3+g+c or over 16,384, stack over 1,024; check:
+                                  * workspace under four halfwords per code byte; mend: the new record or the list of dropped words
+                                  * does not fit */
+    ICODE_RESULTS_WRONG = 9,     /* results list of wrong length or content */
+    ICODE_CODE_UNSERVED = 10,    /* unserved instruction, or prefix before one without that mode */
+    ICODE_CODE_PAST = 11,        /* instruction runs past its region */
+    ICODE_NO_START = 12,         /* a successor or switch label is no start in its region */
+    ICODE_ENTER_WRONG = 13,      /* procedures 1 and up do not begin with ENTER, ENTER elsewhere, or procedure 0's has parameters */
+    ICODE_CALLEE_WRONG = 14,     /* callee 0 or not in the entries */
+    ICODE_NO_PICTURE = 15,       /* some region has no picture */
+    ICODE_RUN_FILE_WRONG = 16,   /* run file malformed or too long */
+    /* Code traps, in which no run of an accepted record ends. */
+    ICODE_TRAP_UNSERVED = 20, /* unserved */
+    ICODE_TRAP_OUTSIDE = 21,  /* offset or bytes outside the code */
+    ICODE_TRAP_TOO_FEW = 22,  /* too few stack words */
+    ICODE_TRAP_CALLEE = 23,   /* no such callee, 0 included */
+    /* A refusal again. */
+    ICODE_STATE_WRONG = 24, /* run: a state that does not fit */
+    /* Data traps. */
+    ICODE_TRAP_ZERO_DIVISOR = 30, /* zero divisor */
+    ICODE_TRAP_RANGE = 31,        /* number does not fit */
+    ICODE_TRAP_NOT_LIVE = 32,     /* not live */
+    ICODE_TRAP_PROTECTED = 33,    /* protected */
+    ICODE_TRAP_NOT_BOOLEAN = 34,  /* not a boolean */
+    ICODE_TRAP_MEMORY_FULL = 35,  /* memory full */
+    ICODE_TRAP_STACK_FULL = 36,   /* stack full */
+    ICODE_TRAP_CALLS = 37,        /* 64 calls */
+    ICODE_TRAP_FREE = 38          /* FREE below FP */
+};
+
+/* Ends of a run; the others are the traps. */
+enum icode_end { ICODE_FINISHED = 0, ICODE_SPENT = 1 };
+
+/* Words of a state, of an outcome, of a span, of the counts of a mending, and of a decoded instruction, each by its place; last comes
+ * how many there are. */
+enum { ICODE_PC, ICODE_FP, ICODE_MP, ICODE_GP, ICODE_HEIGHT, ICODE_CALLS, ICODE_STATE_WORDS };
+enum { ICODE_END, ICODE_PLACE, ICODE_STEPS, ICODE_OUTCOME_WORDS };
+enum { ICODE_OUTSIDE, ICODE_FIRST, ICODE_LAST, ICODE_LINE, ICODE_SPAN_WORDS };
+enum { ICODE_MENDED_BYTES, ICODE_DROPPED_WORDS, ICODE_COUNT_WORDS };
+enum { ICODE_MNEMONIC, ICODE_DOUBLE, ICODE_OPERAND, ICODE_SECOND, ICODE_BYTES, ICODE_DECODED_WORDS };
+
+/* Halfwords of workspace that icode_check needs for code of so many bytes. */
+#define ICODE_WORKSPACE(code_bytes) (4 * (code_bytes))
+
+enum {
+    ICODE_HEADER_BYTES = 28,          /* the sizes that a record begins with */
+    ICODE_CODE_MAX = 4096,            /* bytes of code */
+    ICODE_RESULTS_MAX = 256,          /* procedures, and so bytes of a results list */
+    ICODE_RECORD_MAX = 16476,         /* bytes of a sound record */
+    ICODE_MEND_MAX = 32924,           /* bytes of a record that icode_mend takes, and so of the new one */
+    ICODE_PLACES_MAX = 2064,          /* words that it may drop */
+    ICODE_WORKSPACE_MAX = ICODE_WORKSPACE(ICODE_CODE_MAX),
+    ICODE_GLOBALS_MAX = 1024,         /* words, and so parameters */
+    ICODE_MEMORY_MAX = 16384,         /* words */
+    ICODE_STACK_MAX = 1024,           /* words */
+    ICODE_RUN_FILE_MAX = 8192,        /* bytes of a run file */
+    ICODE_RUN_FILE_MEMORY_MAX = 4096, /* words of memory that it may ask for */
+    ICODE_REPORT_MAX = 32768,         /* bytes of out that are enough for any run file */
+    ICODE_THREAD_STACK = 8192,        /* bytes of its thread's stack that a call needs at most .. */
+    ICODE_THREAD_STACK_REPORT = 65536 /* .. and icode_report */
+};
 
 #ifdef __cplusplus
 extern "C" {

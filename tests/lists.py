@@ -2,7 +2,7 @@
 """lists.py: lists that stand in two places say the same. Prints what differs, and exits with 1 where anything does.
 
   docs/OPCODES.md         what the program opcode_table prints, from the proved decoder
-  docs/NUMBERS.md         the messages of the console and of icode list
+  docs/NUMBERS.md         the names of include/icode.h, the messages of the console and of icode list
   docs/ARCHITECTURE.md    the crates of crates.txt, in its order and layers
   crates.txt              the crates that each crate's files name
   docs/PROMISES.md        the public functions of each crate, and the theorems that its specs/ state
@@ -49,8 +49,17 @@ def opcodes():
     yield from differences("docs/OPCODES.md / opcode_table", written, printed)
 
 
+def header_numbers():
+    """What include/icode.h says of each name of a number, and the numbers by name."""
+    listed_there = text("include/icode.h").split("enum icode_number", 1)[1].split("};", 1)[0]
+    found = re.findall(r"(ICODE_\w+) = (\d+),?\s*/\*(.*?)\*/", listed_there, re.S)
+    words = {int(number): re.sub(r"\s*\n\s*\* | +", " ", meaning).strip() for _, number, meaning in found}
+    return words, {name: int(number) for name, number, _ in found}
+
+
 def console_messages():
-    return {int(number): words for number, words in re.findall(r'\[(\d+)\] = "(.*)",', text("console/messages.c"))}
+    names = header_numbers()[1]
+    return {names.get(name, name): words for name, words in re.findall(r'\[(\w+)\] = "(.*)",', text("console/messages.c"))}
 
 
 def listing_messages():
@@ -59,7 +68,7 @@ def listing_messages():
 
 
 def numbers():
-    """A message is a row of its number; the console has one for every number."""
+    """A message is a row of its number; the console has one for every number, and the header a name that says all its rows."""
     meanings = {}
     for number, meaning, *_ in rows("docs/NUMBERS.md"):
         meanings.setdefault(int(number), []).append(meaning)
@@ -71,6 +80,8 @@ def numbers():
                 yield f"docs/NUMBERS.md: {number}: the {name} says: {words}"
     for number in sorted({*meanings} - {*console_messages()}):
         yield f"docs/NUMBERS.md: {number}: the console has no message"
+    rows_of = {number: "; ".join(found) for number, found in meanings.items()}
+    yield from differences("docs/NUMBERS.md / include/icode.h", rows_of, header_numbers()[0])
 
 
 def listed():
