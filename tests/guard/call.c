@@ -125,6 +125,8 @@ static void spoil(const struct call *call)
     uint8_t *written = call->len[OUT] > 0 ? lent(OUT) : NULL;
     if (wrong == WRONG_CONST && call->len[RECORD] > 0)
         ((uint8_t *)lent(RECORD))[0] = 1;
+    if (wrong == WRONG_CONST_STACK && call->len[STILL_STACK] > 0)
+        ((uint32_t *)lent(STILL_STACK))[0] = 1;
     if (wrong == WRONG_AROUND && call->function == LINE_SPAN && now.layout == FRONT)
         ((uint32_t *)lent(SPAN))[call->len[SPAN]] = 1;
     if (wrong == WRONG_PAST && call->function == REPORT && written != NULL && now.answer < call->len[OUT])

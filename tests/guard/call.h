@@ -1,4 +1,4 @@
-/* Calls of the library, each on a stack of the size that the header tells, between guard pages. */
+/* Calls the library, each time on a stack of the size that the header tells, between guard pages. */
 #ifndef CALL_H
 #define CALL_H
 
@@ -6,9 +6,9 @@
 
 enum function { RECORD_NUMBER, LINE, LINE_SPAN, MEND, CHECK, REPORT, BENCH_DECODE, BENCH_LOAD, BENCH_RUN, FUNCTIONS };
 
-/* Ways to call wrongly, to see that the test fails then. */
-enum wrong { RIGHT, WRONG_SHORT_READ, WRONG_SHORT_WRITE, WRONG_CONST, WRONG_AROUND, WRONG_PAST, WRONG_REFUSAL, WRONG_ANSWER, WRONG_TRAP,
-             WRONG_STACK, WRONGS };
+/* Name ways to call wrongly, to see that the test fails then. */
+enum wrong { RIGHT, WRONG_SHORT_READ, WRONG_SHORT_WRITE, WRONG_CONST, WRONG_CONST_STACK, WRONG_AROUND, WRONG_PAST, WRONG_REFUSAL,
+             WRONG_ANSWER, WRONG_TRAP, WRONG_STACK, WRONGS };
 
 struct call {
     enum function function;
@@ -21,23 +21,23 @@ struct call {
 
 const char *function_name(enum function function);
 
-/* The roles that a function is lent; what it may write are those from SPAN on. Ends with ROLES. */
+/* Lists the roles that a function is lent; what it may write are those from SPAN on. The list ends with ROLES. */
 const enum role *function_roles(enum function function);
 
 /* Maps the stacks, and calls wrongly from now on unless it is RIGHT. */
 void make_stacks(enum wrong wrong);
 
-/* Answers what the function answers. */
+/* Makes a call, and answers what the function answers. */
 uint64_t perform(const struct call *call, enum layout layout);
 
 /* Says which call is under way, and where. Answers NULL where there is none. */
 const struct call *call_under_way(enum layout *layout);
 
-/* Bytes of its stack that calls of a function took, at most, and how many it has. */
+/* Tells the bytes of its stack that calls of a function took, at most, and how many it has. */
 size_t stack_taken(enum function function);
 size_t stack_bytes(enum function function);
 
-/* Whether an address is in the guard page of a function's stack. */
+/* Says whether an address is in the guard page of a function's stack. */
 bool stack_overrun(enum function function, const void *address);
 
 #endif

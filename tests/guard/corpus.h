@@ -1,11 +1,11 @@
-/* The stored inputs: run files, and the records of the case lines (tests/vectors/FORMAT.md). */
+/* Reads the stored inputs: run files, and the records of the case lines (tests/vectors/FORMAT.md). */
 #ifndef CORPUS_H
 #define CORPUS_H
 
 #include <stddef.h>
 #include <stdint.h>
 
-/* One input, taken apart. */
+/* Has one input, taken apart. */
 struct stored {
     const uint8_t *file; /* a run file as stored, or NULL for a record alone */
     size_t file_len;

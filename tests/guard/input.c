@@ -46,7 +46,7 @@ static size_t damage(uint8_t *bytes, size_t len, size_t max)
         memmove(bytes + at, bytes + random_below((uint32_t)len), 1);
         return len;
     case 4:
-        return once_in(4) ? at : len - (count < len ? count : len);
+        return once_in(8) ? 0 : once_in(4) ? at : len - (count < len ? count : len);
     default:
         while (count-- > 0 && len < max)
             bytes[len++] = (uint8_t)random_word();

@@ -1,4 +1,4 @@
-/* The inputs of a round: a stored one, as it is or damaged at random, lent as const in both layouts. */
+/* Makes the inputs of a round: a stored one, as it is or damaged at random, lent as const in both layouts. */
 #ifndef INPUT_H
 #define INPUT_H
 

@@ -70,8 +70,10 @@ void make_rooms(void)
 {
     memset(pattern, PATTERN, sizeof pattern);
     for (int role = 0; role < ROLES; role++)
-        for (int layout = 0; layout < LAYOUTS; layout++)
+        for (int layout = 0; layout < LAYOUTS; layout++) {
             rooms[role][layout] = map_behind_guard(room_bytes(role));
+            fill(role, layout, pattern, 0);
+        }
 }
 
 const char *role_name(enum role role)

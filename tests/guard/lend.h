@@ -1,4 +1,4 @@
-/* Buffers between pages that cannot be touched. Each role has two: one begins right behind such a page, the other ends right before
+/* Lends buffers between pages that cannot be touched. Each role has two: one begins right behind such a page, the other ends right before
  * one. What is lent as const cannot be written. */
 #ifndef LEND_H
 #define LEND_H
@@ -17,24 +17,25 @@ enum role {
 
 enum layout { FRONT, BACK, LAYOUTS };
 
-/* Elements of const inputs that can be lent: some more than the library takes. */
+/* Limit the const inputs to some more elements than the library takes. */
 enum { RECORD_MAX = ICODE_MEND_MAX + 100, RESULTS_MAX = 300, PARAMETERS_MAX = 300, RUN_FILE_MAX = ICODE_RUN_FILE_MAX + 8 };
 
 enum { PAGE = 4096 };
 
+/* Maps the buffers, all 0 but for the pattern around an empty one. */
 void make_rooms(void);
 
 const char *role_name(enum role role);
 size_t role_size(enum role role); /* bytes of an element */
 size_t role_max(enum role role);  /* elements that can be lent */
 
-/* The buffer of so many elements. */
+/* Gives the buffer of so many elements. */
 void *lend(enum role role, enum layout layout, size_t len);
 
 /* Fills the buffer, and the rest of its page with a pattern; a const one can then only be read. */
 void fill(enum role role, enum layout layout, const void *contents, size_t len);
 
-/* Whether the pattern around the buffer is as fill left it. */
+/* Says whether the pattern around the buffer is as fill left it. */
 bool surroundings_kept(enum role role, enum layout layout, size_t len);
 
 /* Says what is at an address: a guard page of a role, or the role itself. Answers the role's name, or NULL. */

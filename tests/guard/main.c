@@ -1,4 +1,4 @@
-/* The compiled library between guard pages: a million calls on stored inputs, as they are and damaged at random, with every buffer right
+/* Tries the compiled library between guard pages: a million calls on stored inputs, as they are and damaged at random, with every buffer right
  * behind and right before a page that cannot be touched. Prints counts by function; the last line is 'N passed, M failed'. */
 #define _DEFAULT_SOURCE
 #include "corpus.h"
@@ -18,9 +18,10 @@
 enum { USUAL_COUNT = 1000000 };
 
 static const char *const wrong_names[WRONGS] = {
-    [WRONG_SHORT_READ] = "short-read", [WRONG_SHORT_WRITE] = "short-write", [WRONG_CONST] = "const",
-    [WRONG_AROUND] = "around",         [WRONG_PAST] = "past",               [WRONG_REFUSAL] = "refusal",
-    [WRONG_ANSWER] = "answer",         [WRONG_TRAP] = "trap",               [WRONG_STACK] = "stack",
+    [WRONG_SHORT_READ] = "short-read",   [WRONG_SHORT_WRITE] = "short-write", [WRONG_CONST] = "const",
+    [WRONG_CONST_STACK] = "const-stack", [WRONG_AROUND] = "around",           [WRONG_PAST] = "past",
+    [WRONG_REFUSAL] = "refusal",         [WRONG_ANSWER] = "answer",           [WRONG_TRAP] = "trap",
+    [WRONG_STACK] = "stack",
 };
 
 static uint64_t seed = 1, wanted = USUAL_COUNT;
@@ -80,6 +81,19 @@ static unsigned print_counts(void)
     return kept;
 }
 
+/* Prints how often each buffer was lent with the length 0. Answers of how many that happened; of all of them where few will do. */
+static unsigned print_empty(bool few)
+{
+    unsigned lent = 0;
+    printf("lent with length 0:");
+    for (int role = 0; role < ROLES; role++) {
+        printf("%s %s %" PRIu64 "x", role == 0 ? "" : ",", role_name(role), calls_with_none(role));
+        lent += few || calls_with_none(role) > 0;
+    }
+    printf("%s\n", lent == ROLES ? "" : "; FAILED: some never was");
+    return lent;
+}
+
 static enum wrong wrong_named(const char *name)
 {
     for (int i = RIGHT + 1; i < WRONGS; i++)
@@ -113,7 +127,7 @@ static size_t read_arguments(int argc, char **argv)
 int main(int argc, char **argv)
 {
     struct input input;
-    unsigned kept, arisen, sizes, failing;
+    unsigned kept, arisen, empty, sizes, failing;
     size_t stored = read_arguments(argc, argv);
     seed_random(seed);
     make_noise_pool();
@@ -128,8 +142,9 @@ int main(int argc, char **argv)
     }
     kept = print_counts();
     arisen = print_numbers(wanted < USUAL_COUNT);
+    empty = print_empty(wanted < USUAL_COUNT);
     sizes = try_sizes(&failing);
-    failing += FUNCTIONS - kept + NUMBERED - arisen;
-    printf("%u passed, %u failed\n", kept + arisen + sizes, failing);
+    failing += FUNCTIONS - kept + NUMBERED - arisen + ROLES - empty;
+    printf("%u passed, %u failed\n", kept + arisen + empty + sizes, failing);
     return failing == 0 ? 0 : 1;
 }

@@ -1,10 +1,10 @@
-/* How often each number was handed back, by function, and each end of a run. */
+/* Counts how often each number was handed back, by function, and each end of a run. */
 #ifndef NUMBERS_H
 #define NUMBERS_H
 
 #include "call.h"
 
-/* The ends of runs stand behind the functions. */
+/* Puts the ends of runs behind the functions. */
 enum { ENDS = FUNCTIONS, NUMBERED };
 
 void note_number(unsigned of, uint32_t number);

@@ -9,7 +9,7 @@
 enum { POOL = 1 << 18, PRINTED_MAX = 10 };
 
 static uint32_t pool[POOL / 4];
-static uint64_t rounds, made[FUNCTIONS], broken[FUNCTIONS];
+static uint64_t rounds, made[FUNCTIONS], broken[FUNCTIONS], none[ROLES];
 
 uint64_t rounds_begun(void)
 {
@@ -29,6 +29,11 @@ uint64_t calls_made(enum function function)
 uint64_t promises_broken(enum function function)
 {
     return broken[function];
+}
+
+uint64_t calls_with_none(enum role role)
+{
+    return none[role];
 }
 
 void make_noise_pool(void)
@@ -115,9 +120,10 @@ static uint64_t call_once(const struct call *call, enum layout layout)
             fill(*role, layout, call->contents[*role], call->len[*role]);
     uint64_t answer = perform(call, layout);
     made[call->function]++;
-    for (role = roles; *role != ROLES; role++)
-        if (*role >= SPAN)
-            promise(call, surroundings_kept(*role, layout, call->len[*role]), "bytes around a buffer were written");
+    for (role = roles; *role != ROLES; role++) {
+        none[*role] += call->len[*role] == 0;
+        promise(call, *role < SPAN || surroundings_kept(*role, layout, call->len[*role]), "bytes around a buffer were written");
+    }
     return answer;
 }
 

@@ -1,4 +1,4 @@
-/* One call made in both layouts, and what the header promises of its answer and of the buffers. */
+/* Makes a call in both layouts, and counts what is not as the header promises. */
 #ifndef PROMISE_H
 #define PROMISE_H
 
@@ -11,10 +11,10 @@ struct call new_call(enum function function, const struct input *input);
 /* Calls in both layouts and compares them: answer, buffers, and what is around these. Answers what the function answered. */
 uint64_t call_both(const struct call *call);
 
-/* What a role has after the call. */
+/* Gives what a role has after the call. */
 const void *after(const struct call *call, enum role role);
 
-/* Whether the elements from one on are as they were lent, of a role or of all that the function may write. */
+/* Say whether the elements from one on are as they were lent, of a role or of all that the function may write. */
 bool kept_from(const struct call *call, enum role role, size_t from);
 bool all_kept(const struct call *call);
 
@@ -24,10 +24,13 @@ bool promise(const struct call *call, bool holds, const char *what);
 /* Prints what a call is lent, and in which round. */
 void print_call(const struct call *call, enum layout layout);
 
-/* What was counted: rounds, calls of a function, in each layout for itself, and promises that it broke. */
+/* Tell what was counted: rounds, calls of a function, in each layout for itself, and promises that it broke. */
 uint64_t rounds_begun(void);
 uint64_t calls_made(enum function function);
 uint64_t promises_broken(enum function function);
+
+/* Tells in how many calls a role was lent with the length 0. */
+uint64_t calls_with_none(enum role role);
 
 /* Fills the noise that buffers are lent with. */
 void make_noise_pool(void);

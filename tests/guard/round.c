@@ -181,7 +181,7 @@ static void try_decode(const struct input *input)
     promise(&call, call.at < call.limit && decoded[ICODE_BYTES] >= 1 && decoded[ICODE_BYTES] <= call.limit - call.at, "past the limit");
 }
 
-/* A machine between calls. */
+/* Keeps a machine between calls. */
 struct machine {
     uint32_t memory[ICODE_MEMORY_MAX], stack[ICODE_STACK_MAX], state[ICODE_STATE_WORDS];
     size_t memory_len, stack_len;

@@ -1,4 +1,4 @@
-/* The calls of a round: every function on one input, with buffers of any length. */
+/* Makes the calls of a round: every function on one input, with buffers of any length. */
 #ifndef ROUND_H
 #define ROUND_H
 
@@ -6,7 +6,7 @@
 
 void try_input(const struct input *input);
 
-/* How many rounds had a record that was accepted, and runs of it that were followed to an end. */
+/* Tell how many rounds had a record that was accepted, and runs of it that were followed to an end. */
 unsigned long accepted_records(void);
 unsigned long accepted_runs(void);
 

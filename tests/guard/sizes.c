@@ -98,6 +98,7 @@ static void try_check_sizes(void)
     len = make_record(largest, 1);
     expect(icode_check(record, len, results, 1, workspace, ICODE_WORKSPACE_MAX) == 0 &&
                icode_check(record, len, results, 1, workspace, ICODE_WORKSPACE_MAX - 1) == ICODE_ROOM_WRONG, "ICODE_WORKSPACE_MAX");
+    expect(icode_check(record, len, record, 1, workspace, ICODE_WORKSPACE_MAX) == 0, "a results list inside the record");
 }
 
 /* Reports a run file of so many bytes that asks for so much memory. Answers the number of its check. */

@@ -1,4 +1,4 @@
-/* The header's sizes, tried: at each the library takes what one more is refused for. */
+/* Tries the header's sizes: at each the library takes what it refuses one above it. */
 #ifndef SIZES_H
 #define SIZES_H
 
