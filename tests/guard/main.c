@@ -1,5 +1,5 @@
-/* Tries the compiled library between guard pages: a million calls on stored inputs, as they are and damaged at random, with every buffer right
- * behind and right before a page that cannot be touched. Prints counts by function; the last line is 'N passed, M failed'. */
+/* Tries the compiled library between guard pages: a million calls on stored inputs, as they are and damaged at random, with every buffer
+ * right behind and right before a page that cannot be touched. Prints counts by function; the last line is 'N passed, M failed'. */
 #define _DEFAULT_SOURCE
 #include "corpus.h"
 #include "numbers.h"
