@@ -24,17 +24,17 @@ use Rattle.operate.specs.Arithmetic.{modZ, signedValue, unsignedValue, negatedV
 use Rattle.operate.specs.Sets.{setWord}
 use Rattle.operate.specs.Value.{signedWord, unsignedWord, invertedValue}
 use Rattle.operate.specs.Operation.{operationValue}
-use Rattle.effect.specs.Data.{loadFrom, addressOf, storeTo, allocated, freed}
+use Rattle.effect.specs.Data.{loadEffect, loadAddressEffect, storeEffect, allocEffect, freeEffect}
 use Rattle.registers.specs.Memory.{live, protects}
-use Rattle.control.specs.Control.{jumps, jumpsIfFalse, jumpsKeeping, iterates, nextSum, repeats}
-use Rattle.control.specs.Control.{switches, searches, calls, enters, returns}
+use Rattle.control.specs.Control.{jumpEffect, jumpCEffect, jumpTFEffect, iterEffect, nextSum, nextEffect}
+use Rattle.control.specs.Control.{switchEffect, callEffect, enterEffect, rtnEffect}
 use Rattle.execute.specs.Execute.{execute}
 use Rattle.state.specs.Fits.{sizesTaken, headerKept, registersFit, fits}
 use Rattle.load.specs.Load.{constantWords, initialData, loadedMemory, startOf, loadNumber, loadOf}
 use Rattle.machine.specs.Run.{runNumber, runOf}
-use Rattle.step.specs.Step.{settled, performed, stepOf}
+use Rattle.step.specs.Step.{apply, perform, stepOf}
 use Rattle.conformance.specs.Cases.{recordFor, checked, played, table, Stands}
 
 pub stands : Stands
-unfolding halfwordAt wordAt entryAt entryCount countSound entriesInOrder entriesSound regionEnd headerOf sizesFit codeAt constantsAt relocationAt versionsAt sourcesAt recordLength codeOf recordNumber readingOf sourceOffsets sourceSound issueAt versionSound instructionAt decodeIn decodeAt lengthIn lengthAt extended exitDistance elseDistance branchDistance rangeDistance rangeHolds searchDistance rowOf modZ signedValue unsignedValue negatedValue invertedValue setWord operationValue signedWord unsignedWord loadFrom addressOf storeTo allocated freed live protects jumps jumpsIfFalse jumpsKeeping iterates nextSum repeats switches searches calls enters returns execute sizesTaken headerKept registersFit fits constantWords initialData loadedMemory startOf loadNumber loadOf runNumber runOf settled performed stepOf recordFor played table shapeOf cutOf switchTargets strays misplaced uncallable anywhere codeNumber ways waysAt visited walkOf resultsSound listNumber verdictOf checkOf checked
+unfolding halfwordAt wordAt entryAt entryCount countSound entriesInOrder entriesSound regionEnd headerOf sizesFit codeAt constantsAt relocationAt versionsAt sourcesAt recordLength codeOf recordNumber readingOf sourceOffsets sourceSound issueAt versionSound instructionAt decodeIn decodeAt lengthIn lengthAt extended exitDistance elseDistance branchDistance rangeDistance rangeHolds searchDistance rowOf modZ signedValue unsignedValue negatedValue invertedValue setWord operationValue signedWord unsignedWord loadEffect loadAddressEffect storeEffect allocEffect freeEffect live protects jumpEffect jumpCEffect jumpTFEffect iterEffect nextSum nextEffect switchEffect callEffect enterEffect rtnEffect execute sizesTaken headerKept registersFit fits constantWords initialData loadedMemory startOf loadNumber loadOf runNumber runOf apply perform stepOf recordFor played table shapeOf cutOf switchTargets strays misplaced uncallable anywhere codeNumber ways waysAt visited walkOf resultsSound listNumber verdictOf checkOf checked
 stands = (refl, refl)

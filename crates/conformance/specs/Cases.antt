@@ -6,6 +6,7 @@ use Prim.Native.Nat.{ℕ, _+_, _*_, _/_, _%_}
 use lib.ListN.{length, take, drop, replicate}
 use Rattle.verifier.specs.Check.{checkOf}
 use Rattle.registers.specs.Program.{globalsStart}
+use Rattle.registers.specs.State.{state}
 use Rattle.load.specs.declared.Loaded.{Loaded}
 use Rattle.load.specs.declared.Loaded.the-variants.{Refused, Ready}
 use Rattle.machine.specs.declared.run.Answer.{Answer}
@@ -45,8 +46,8 @@ shown c (Ended e) m s =
 abbrev pub outcomeOf : Case → Loaded → List ℕ → List ℕ → Outcome
 outcomeOf c (Refused n) m s = refused n
 outcomeOf c (Ready q) m s =
-    let a = runOf (recordFor c) 1000 q m s in
-    shown c (a .answer) (a .memory) (a .stack)
+    let a = runOf (recordFor c) 1000 (state q m s) in
+    shown c (a .answer) (a .state .memory) (a .state .stack)
 
 -- Loaded into 64 words of memory with a stack of 16, and run for at most 1,000 steps.
 unfoldable pub played : Case → Outcome

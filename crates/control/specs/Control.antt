@@ -12,6 +12,8 @@ use mir.Val.{toZ}
 use Rattle.entries.specs.Entries.{entryAt, noCallee}
 use Rattle.operand.specs.Distance.{placeAt}
 use Rattle.switch_table.specs.Switch.{exitLabel, elseDistance, branchDistance, searchDistance, orElse}
+use Rattle.shape.specs.declared.Table.{Table}
+use Rattle.shape.specs.declared.Table.the-variants.{Branches, Ranges}
 use Rattle.opcode.specs.declared.instruction.Mode.the-variants.{Normal}
 use Rattle.opcode.specs.declared.instruction.Arithmetic.the-variants.{Add}
 use Rattle.operate.specs.Arithmetic.{signedValue}
@@ -19,7 +21,7 @@ use Rattle.operate.specs.declared.Value.{Value}
 use Rattle.operate.specs.declared.Value.the-variants.{Word, Trap}
 use Rattle.registers.specs.declared.Registers.{Registers}
 use Rattle.effect.specs.declared.effect.Push.the-variants.{NoPush, PushOne}
-use Rattle.effect.specs.declared.effect.Write.the-variants.{NoWrite, WriteOne, WriteTwo, WriteGone}
+use Rattle.effect.specs.declared.effect.Write.the-variants.{NoWrite, WriteOne, WriteTwo, WritePopped}
 use Rattle.effect.specs.declared.effect.Effect.{Effect}
 use Rattle.effect.specs.declared.effect.Effect.the-variants.{Trap as trap, Finish, Go}
 use Rattle.registers.specs.declared.Areas.{Areas}
@@ -28,16 +30,16 @@ use Rattle.registers.specs.Changes.{moved, sized, called, returned}
 use Rattle.effect.specs.Data.{boolean, storable}
 
 -- JUMP.
-unfoldable pub jumps : Registers → ℕ → Effect
-jumps q d = Go 0 NoPush NoWrite (moved q (placeAt (q .pc) d))
+unfoldable pub jumpEffect : (q : Registers) (distance : ℕ) → Effect
+jumpEffect q d = Go 0 NoPush NoWrite (moved q (placeAt (q .pc) d))
 
 -- JUMP_C: POP (B); if not B then PC := PC + dist.
-unfoldable pub jumpsIfFalse : Registers → ℕ → ℕ → ℕ → Effect
-jumpsIfFalse q next d b = boolean b (Go 1 NoPush NoWrite (moved q (cond (eqb b 0) (placeAt (q .pc) d) next)))
+unfoldable pub jumpCEffect : (q : Registers) (next distance word : ℕ) → Effect
+jumpCEffect q next d b = boolean b (Go 1 NoPush NoWrite (moved q (cond (eqb b 0) (placeAt (q .pc) d) next)))
 
 -- JUMP_T (truth is 1) and JUMP_F (truth is 0): POP (B); if B is `truth` then PUSH (B); PC := PC + dist.
-unfoldable pub jumpsKeeping : (q : Registers) (next truth distance word : ℕ) → Effect
-jumpsKeeping q next truth d b =
+unfoldable pub jumpTFEffect : (q : Registers) (next truth distance word : ℕ) → Effect
+jumpTFEffect q next truth d b =
     boolean b (cond (eqb b truth) (Go 0 NoPush NoWrite (moved q (placeAt (q .pc) d))) (Go 1 NoPush NoWrite (moved q next)))
 
 -- (S > 0 and X > L) or (S < 0 and X < L).
@@ -45,8 +47,8 @@ abbrev pub beyond : ℤ → ℤ → ℤ → Bool
 beyond s x l = (ltZ (pos 0) s && ltZ l x) || (ltZ s (pos 0) && ltZ x l)
 
 -- ITER [ adr, first, last, step ]: past the loop, or MEMORY(A) := F and the label is pushed.
-unfoldable pub iterates : (A : Areas) (q : Registers) (m : List ℕ) (next distance address first last step : ℕ) → Effect
-iterates A q m next d a f l s =
+unfoldable pub iterEffect : (A : Areas) (q : Registers) (m : List ℕ) (next distance address first last step : ℕ) → Effect
+iterEffect A q m next d a f l s =
     cond (beyond (toZ w32 s) (toZ w32 f) (toZ w32 l)) (Go 4 NoPush NoWrite (moved q (placeAt (q .pc) d)))
     (storable A q m a Normal (Go 0 (PushOne next) (WriteOne a f) (moved q next)))
 
@@ -55,43 +57,42 @@ unfoldable pub nextSum : List ℕ → ℕ → ℕ → Value
 nextSum m a s = signedValue Add (read m a) s
 
 -- The sum x is stored; then the loop is left, or goes round to the label.
-abbrev pub wentRound : (q : Registers) (next address last step label sum : ℕ) → Effect
-wentRound q next a l s label x =
+abbrev pub roundEffect : (q : Registers) (next address last step label sum : ℕ) → Effect
+roundEffect q next a l s label x =
     cond (beyond (toZ w32 s) (toZ w32 x) (toZ w32 l)) (Go 5 NoPush (WriteOne a x) (moved q next))
     (Go 0 NoPush (WriteOne a x) (moved q label))
 
-abbrev pub summed : Areas → Registers → List ℕ → ℕ → ℕ → ℕ → ℕ → ℕ → Value → Effect
-summed A q m next a l s label (Word x) = cond (protects A q m a) (trap 33) (wentRound q next a l s label x)
-summed A q m next a l s label (Trap n) = trap n
+abbrev pub sumEffect : (A : Areas) (q : Registers) (m : List ℕ) (next address last step label : ℕ) → Value → Effect
+sumEffect A q m next a l s label (Word x) = cond (protects A q m a) (trap 33) (roundEffect q next a l s label x)
+sumEffect A q m next a l s label (Trap n) = trap n
 
 -- NEXT [ adr, first, last, step, label ]. 01: "NEXT tests live, then the sum, then protected."
-unfoldable pub repeats : (A : Areas) (q : Registers) (m : List ℕ) (next address last step label : ℕ) → Effect
-repeats A q m next a l s label = cond (live q a 1) (summed A q m next a l s label (nextSum m a s)) (trap 32)
+unfoldable pub nextEffect : (A : Areas) (q : Registers) (m : List ℕ) (next address last step label : ℕ) → Effect
+nextEffect A q m next a l s label = cond (live q a 1) (sumEffect A q m next a l s label (nextSum m a s)) (trap 32)
 
--- The exit label is pushed, and the place is PC + distance.
-abbrev pub branched : List ℕ → Registers → ℕ → Effect
-branched code q d = Go 1 (PushOne (exitLabel code (q .pc))) NoWrite (moved q (q .pc + d))
+-- SWITCH: if X < 0 or X > n then PC := PC + E. As a word, a negative X is above every n. SWITCH_X: the range that holds X, or E.
+abbrev pub switchDistance : (code : List ℕ) (at : ℕ) → Table → (n x : ℕ) → ℕ
+switchDistance code at Branches n x = cond (leb x n) (branchDistance code at x) (elseDistance code at)
+switchDistance code at Ranges n x = orElse (searchDistance code at n x) (elseDistance code at)
 
--- SWITCH: if X < 0 or X > n then PC := PC + E. As a word, a negative X is above every n.
-unfoldable pub switches : List ℕ → Registers → ℕ → ℕ → Effect
-switches code q n x = branched code q (cond (leb x n) (branchDistance code (q .pc) x) (elseDistance code (q .pc)))
-
--- SWITCH_X.
-unfoldable pub searches : List ℕ → Registers → ℕ → ℕ → Effect
-searches code q n x = branched code q (orElse (searchDistance code (q .pc) n x) (elseDistance code (q .pc)))
+-- SWITCH and SWITCH_X: POP (X); the exit label is pushed, and the place is at the distance.
+unfoldable pub switchEffect : (code : List ℕ) (q : Registers) → Table → (n x : ℕ) → Effect
+switchEffect code q t n x =
+    let at = q .pc in
+    Go 1 (PushOne (exitLabel code at)) NoWrite (moved q (placeAt at (switchDistance code at t n x)))
 
 -- 01: "CALL tests callee, depth, memory": 23, 37, 35. "At most 64 calls are active".
-unfoldable pub calls : (code : List ℕ) (q : Registers) (m : List ℕ) (next callee : ℕ) → Effect
-calls code q m next p =
+unfoldable pub callEffect : (code : List ℕ) (q : Registers) (m : List ℕ) (next callee : ℕ) → Effect
+callEffect code q m next p =
     cond (noCallee code p) (trap 23)
     (cond (leb 64 (q .calls)) (trap 37)
     (cond (leb (q .mp + 2) (length m)) (Go 0 NoPush (WriteTwo (q .mp) (q .fp) next) (called q (entryAt code p))) (trap 35)))
 
 -- ENTER: MEMORY(MP..MP+par-1) := the top par words; MP := MP + par + dat.
-unfoldable pub enters : (q : Registers) (m : List ℕ) (next parameters words : ℕ) → Effect
-enters q m next par dat =
-    cond (leb (q .mp + par + dat) (length m)) (Go par NoPush (WriteGone (q .mp)) (sized q next (q .mp + par + dat))) (trap 35)
+unfoldable pub enterEffect : (q : Registers) (m : List ℕ) (next parameters words : ℕ) → Effect
+enterEffect q m next par dat =
+    cond (leb (q .mp + par + dat) (length m)) (Go par NoPush (WritePopped (q .mp)) (sized q next (q .mp + par + dat))) (trap 35)
 
 -- 01: "RTN with no active call finishes and changes nothing."
-unfoldable pub returns : Registers → List ℕ → Effect
-returns q m = cond (eqb (q .calls) 0) Finish (Go 0 NoPush NoWrite (returned q m))
+unfoldable pub rtnEffect : Registers → List ℕ → Effect
+rtnEffect q m = cond (eqb (q .calls) 0) Finish (Go 0 NoPush NoWrite (returned q m))

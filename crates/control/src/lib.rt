@@ -1,11 +1,12 @@
 // Jumps, loops, switches and calls, as effects.
 ghost use mathlib.Core.Path.{_≡_};
 ghost use mathlib.Core.Bool.{true};
-ghost use Prim.Native.Nat.{_≤_, _<_, _+_};
+ghost use Prim.Native.Nat.{_≤_};
 ghost use lib.ListN.{length};
 ghost use mir.Syntax.{w32};
 ghost use mir.Val.{toZ};
-ghost use Rattle.control.specs.Control.{jumps, jumpsIfFalse, jumpsKeeping, beyond, iterates, wentRound, nextSum, repeats, branched, switches, searches, calls, enters, returns};
+ghost use Rattle.control.specs.Control.{jumpEffect, jumpCEffect, jumpTFEffect, beyond, iterEffect, roundEffect, nextSum};
+ghost use Rattle.control.specs.Control.{nextEffect, switchDistance, switchEffect, callEffect, enterEffect, rtnEffect};
 ghost use Rattle.registers.specs.Memory.{chained};
 ghost use Rattle.registers.specs.Program.{framesStart};
 ghost use Rattle.registers.specs.Changes.{moved};
@@ -17,23 +18,24 @@ use operate::Value;
 use registers::Areas;
 use registers::Registers;
 use registers::access;
+use shape::Table;
 
 // So many words go, and the place is another.
-pub fn jump_to(q: Registers, gone: u32, place: u32) -> Effect
-    ensures { λ e. ⌜ e ≡ Effect.Go gone Push.NoPush Write.NoWrite (moved q place) ⌝ }
+pub fn jump_to(q: Registers, pops: u32, place: u32) -> Effect
+    ensures { λ e. ⌜ e ≡ Effect.Go pops Push.NoPush Write.NoWrite (moved q place) ⌝ }
 {
-    Effect::Go(gone, Push::NoPush, Write::NoWrite, q.moved(place))
+    Effect::Go(pops, Push::NoPush, Write::NoWrite, q.moved(place))
 }
 
-pub fn jumps(q: Registers, distance: u32) -> Effect
-    ensures { λ e. ⌜ e ≡ jumps q distance ⌝ }
+pub fn jump_effect(q: Registers, distance: u32) -> Effect
+    ensures { λ e. ⌜ e ≡ jumpEffect q distance ⌝ }
 {
     jump_to(q, 0, operand::place_at(q.pc, distance))
 }
 
 // JUMP_C.
-pub fn jumps_if_false(q: Registers, next: u32, distance: u32, b: u32) -> Effect
-    ensures { λ e. ⌜ e ≡ jumpsIfFalse q next distance b ⌝ }
+pub fn jump_c_effect(q: Registers, next: u32, distance: u32, b: u32) -> Effect
+    ensures { λ e. ⌜ e ≡ jumpCEffect q next distance b ⌝ }
 {
     if 1 < b {
         return Effect::Trap(34);
@@ -45,8 +47,8 @@ pub fn jumps_if_false(q: Registers, next: u32, distance: u32, b: u32) -> Effect
 }
 
 // JUMP_T and JUMP_F: the boolean stays where it is `truth`.
-pub fn jumps_keeping(q: Registers, next: u32, truth: u32, distance: u32, b: u32) -> Effect
-    ensures { λ e. ⌜ e ≡ jumpsKeeping q next truth distance b ⌝ }
+pub fn jump_tf_effect(q: Registers, next: u32, truth: u32, distance: u32, b: u32) -> Effect
+    ensures { λ e. ⌜ e ≡ jumpTFEffect q next truth distance b ⌝ }
 {
     if 1 < b {
         return Effect::Trap(34);
@@ -71,7 +73,7 @@ fn is_beyond(step: u32, x: u32, last: u32) -> bool
 }
 
 // ITER.
-pub fn iterates(
+pub fn iter_effect(
     areas: Areas,
     q: Registers,
     m: &[u32],
@@ -83,7 +85,7 @@ pub fn iterates(
     step: u32,
 ) -> Effect
     requires { ⌜ chained (now m) (framesStart areas) (q .fp) (q .calls) ≡ true ⌝ }
-    ensures { λ e. ⌜ e ≡ iterates areas q (now (m .entry)) next distance a first last step ⌝ }
+    ensures { λ e. ⌜ e ≡ iterEffect areas q (now (m .entry)) next distance a first last step ⌝ }
 {
     if is_beyond(step, first, last) {
         return jump_to(q, 4, operand::place_at(q.pc, distance));
@@ -103,8 +105,8 @@ pub fn iterates(
 }
 
 // NEXT, with the sum.
-fn went_round(q: Registers, next: u32, a: u32, last: u32, step: u32, label: u32, x: u32) -> Effect
-    ensures { λ e. ⌜ e ≡ wentRound q next a last step label x ⌝ }
+fn round_effect(q: Registers, next: u32, a: u32, last: u32, step: u32, label: u32, x: u32) -> Effect
+    ensures { λ e. ⌜ e ≡ roundEffect q next a last step label x ⌝ }
 {
     if is_beyond(step, x, last) {
         return Effect::Go(5, Push::NoPush, Write::WriteOne(a, x), q.moved(next));
@@ -113,7 +115,7 @@ fn went_round(q: Registers, next: u32, a: u32, last: u32, step: u32, label: u32,
 }
 
 // NEXT.
-pub fn repeats(
+pub fn next_effect(
     areas: Areas,
     q: Registers,
     m: &[u32],
@@ -124,7 +126,7 @@ pub fn repeats(
     label: u32,
 ) -> Effect
     requires { ⌜ chained (now m) (framesStart areas) (q .fp) (q .calls) ≡ true ⌝ }
-    ensures { λ e. ⌜ e ≡ repeats areas q (now (m .entry)) next a last step label ⌝ }
+    ensures { λ e. ⌜ e ≡ nextEffect areas q (now (m .entry)) next a last step label ⌝ }
 {
     if !access::is_live(q, a as usize, 1) {
         return Effect::Trap(32);
@@ -135,7 +137,7 @@ pub fn repeats(
             if access::is_protected(areas, q, m, a as usize) {
                 return Effect::Trap(33);
             }
-            went_round(q, next, a, last, step, label, x)
+            round_effect(q, next, a, last, step, label, x)
         }
         Value::Trap(n) => Effect::Trap(n),
     }
@@ -148,51 +150,44 @@ fn next_sum(m: &[u32], a: u32, step: u32) -> Value
     operate::arithmetic::signed_value(Arithmetic::Add, access::word_at(m, a as usize), step)
 }
 
-// The exit label is pushed for the selector, and the place is at a distance.
-fn branched(code: &[u8], q: Registers, distance: u16) -> Effect
-    requires { ⌜ q .pc < 4096 ⌝ }
-    ensures { λ e. ⌜ e ≡ branched (now (code .entry)) q distance ⌝ }
+// The distance that a selector takes in a switch's table, or that of the ELSE part.
+fn switch_distance(code: &[u8], at: usize, table: Table, n: u32, x: u32) -> u16
+    ensures { λ d. ⌜ d ≡ switchDistance (now (code .entry)) at table n x ⌝ }
 {
-    let exit = switch_table::exit_distance(code, q.pc as usize) as u32;
+    match table {
+        Table::Branches => {
+            if x <= n {
+                return switch_table::branch_distance(code, at, x);
+            }
+            switch_table::else_distance(code, at)
+        }
+        Table::Ranges => {
+            let distance = switch_table::search_distance(code, at, n, x);
+            if distance == 0 {
+                return switch_table::else_distance(code, at);
+            }
+            distance
+        }
+    }
+}
+
+// SWITCH and SWITCH_X.
+pub fn switch_effect(code: &[u8], q: Registers, table: Table, n: u32, x: u32) -> Effect
+    ensures { λ e. ⌜ e ≡ switchEffect (now (code .entry)) q table n x ⌝ }
+{
+    let distance = switch_distance(code, q.pc as usize, table, n, x) as u32;
     Effect::Go(
         1,
-        Push::PushOne(q.pc + exit),
+        Push::PushOne(switch_table::exit_label(code, q.pc)),
         Write::NoWrite,
-        q.moved(q.pc + (distance as u32)),
+        q.moved(operand::place_at(q.pc, distance)),
     )
 }
 
-// SWITCH.
-pub fn switches(code: &[u8], q: Registers, n: u32, x: u32) -> Effect
-    requires { ⌜ q .pc < 4096 ⌝ }
-    ensures { λ e. ⌜ e ≡ switches (now (code .entry)) q n x ⌝ }
-{
-    if x <= n {
-        return branched(
-            code,
-            q,
-            switch_table::branch_distance(code, q.pc as usize, x),
-        );
-    }
-    branched(code, q, switch_table::else_distance(code, q.pc as usize))
-}
-
-// SWITCH_X.
-pub fn searches(code: &[u8], q: Registers, n: u32, x: u32) -> Effect
-    requires { ⌜ q .pc < 4096 ⌝ }
-    ensures { λ e. ⌜ e ≡ searches (now (code .entry)) q n x ⌝ }
-{
-    let distance = switch_table::search_distance(code, q.pc as usize, n, x);
-    if distance == 0 {
-        return branched(code, q, switch_table::else_distance(code, q.pc as usize));
-    }
-    branched(code, q, distance)
-}
-
 // CALL.
-pub fn calls(code: &[u8], q: Registers, m: &[u32], next: u32, p: u32) -> Effect
+pub fn call_effect(code: &[u8], q: Registers, m: &[u32], next: u32, p: u32) -> Effect
     requires { ⌜ length (now m) ≤ 16384 ⌝ }
-    ensures { λ e. ⌜ e ≡ calls (now (code .entry)) q (now (m .entry)) next p ⌝ }
+    ensures { λ e. ⌜ e ≡ callEffect (now (code .entry)) q (now (m .entry)) next p ⌝ }
 {
     if entries::is_no_callee(code, p) {
         return Effect::Trap(23);
@@ -213,9 +208,9 @@ pub fn calls(code: &[u8], q: Registers, m: &[u32], next: u32, p: u32) -> Effect
 }
 
 // ENTER.
-pub fn enters(q: Registers, m: &[u32], next: u32, parameters: u32, locals: u32) -> Effect
+pub fn enter_effect(q: Registers, m: &[u32], next: u32, parameters: u32, locals: u32) -> Effect
     requires { ⌜ length (now m) ≤ 16384 ⌝ }
-    ensures { λ e. ⌜ e ≡ enters q (now (m .entry)) next parameters locals ⌝ }
+    ensures { λ e. ⌜ e ≡ enterEffect q (now (m .entry)) next parameters locals ⌝ }
 {
     let mp = (q.mp as usize) + (parameters as usize) + (locals as usize);
     if m.len() < mp {
@@ -224,15 +219,15 @@ pub fn enters(q: Registers, m: &[u32], next: u32, parameters: u32, locals: u32) 
     Effect::Go(
         parameters,
         Push::NoPush,
-        Write::WriteGone(q.mp),
+        Write::WritePopped(q.mp),
         q.sized(next, mp as u32),
     )
 }
 
 // RTN.
-pub fn returns(areas: Areas, q: Registers, m: &[u32]) -> Effect
+pub fn rtn_effect(areas: Areas, q: Registers, m: &[u32]) -> Effect
     requires { ⌜ chained (now m) (framesStart areas) (q .fp) (q .calls) ≡ true ⌝ }
-    ensures { λ e. ⌜ e ≡ returns q (now (m .entry)) ⌝ }
+    ensures { λ e. ⌜ e ≡ rtnEffect q (now (m .entry)) ⌝ }
 {
     if q.calls == 0 {
         return Effect::Finish;

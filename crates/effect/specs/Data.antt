@@ -1,5 +1,5 @@
--- Loads, load addresses, stores, a value pushed, ALLOC and FREE (5.2.4.1 to 5.2.4.4, 5.2.4.7 to 5.2.4.10): q are the registers,
--- m is the memory, and `next` is the place after the instruction.
+-- Loads, load addresses, stores, operations, ALLOC and FREE (5.2.4.1 to 5.2.4.4, 5.2.4.7 to 5.2.4.10): q are the registers, m is the
+-- memory, and `next` is the place after the instruction.
 use mathlib.Core.Bool.{Bool, cond, _||_}
 use mathlib.Core.List.{List}
 use Prim.Native.Nat.{ℕ, _+_, _-_}
@@ -9,10 +9,12 @@ use Rattle.opcode.specs.declared.instruction.Mode.{Mode}
 use Rattle.opcode.specs.declared.instruction.Mode.the-variants.{Normal, Double}
 use Rattle.opcode.specs.declared.instruction.Base.{Base}
 use Rattle.opcode.specs.declared.instruction.Base.the-variants.{Local, Global, Constant, Popped}
+use Rattle.opcode.specs.declared.instruction.Operation.{Operation}
 use Rattle.operate.specs.declared.Value.{Value}
 use Rattle.operate.specs.declared.Value.the-variants.{Word, Trap}
 use Rattle.operate.specs.Value.{isBoolean}
-use Rattle.shape.specs.Counts.{wordsIn}
+use Rattle.operate.specs.Operation.{operationValue}
+use Rattle.shape.specs.Counts.{popped, wordsIn, operands}
 use Rattle.registers.specs.declared.Registers.{Registers}
 use Rattle.effect.specs.declared.effect.Push.{Push}
 use Rattle.effect.specs.declared.effect.Push.the-variants.{NoPush, PushOne, PushTwo}
@@ -41,14 +43,18 @@ abbrev pub loaded : List ℕ → ℕ → Mode → Push
 loaded m a Normal = PushOne (read m a)
 loaded m a Double = PushTwo (read m a) (read m (a + 1))
 
--- LOAD_L, _G, _T, _F at the address a.
-unfoldable pub loadFrom : (q : Registers) (m : List ℕ) (next gone : ℕ) (mode : Mode) (a : ℕ) → Effect
-loadFrom q m next gone mode a = cond (live q a (wordsIn mode)) (Go gone (loaded m a mode) NoWrite (moved q next)) (trap 32)
+-- LOAD_L, _G, _T, _F: the offset is n, and a is the address word of LOAD_F.
+unfoldable pub loadEffect : (q : Registers) (m : List ℕ) (next : ℕ) (base : Base) (mode : Mode) (n a : ℕ) → Effect
+loadEffect q m next base mode n a =
+    let at = baseOf q m a base + n in
+    cond (live q at (wordsIn mode)) (Go (popped base) (loaded m at mode) NoWrite (moved q next)) (trap 32)
 
 -- LOAD_A_L, _G, _T, _F. 01: "An address sum past 32 bits is not live; LOAD_A_F traps 31 for it." The others' sums
 -- stay within 32 bits in every state that fits.
-unfoldable pub addressOf : Registers → ℕ → ℕ → ℕ → Effect
-addressOf q next gone a = cond (ltb a 0x1_0000_0000) (Go gone (PushOne a) NoWrite (moved q next)) (trap 31)
+unfoldable pub loadAddressEffect : (q : Registers) (m : List ℕ) (next : ℕ) (base : Base) (n a : ℕ) → Effect
+loadAddressEffect q m next base n a =
+    let at = baseOf q m a base + n in
+    cond (ltb at 0x1_0000_0000) (Go (popped base) (PushOne at) NoWrite (moved q next)) (trap 31)
 
 abbrev pub stored : ℕ → Mode → ℕ → ℕ → Write
 stored a Normal x y = WriteOne a x
@@ -63,28 +69,34 @@ protectsAny A q m a Double = protects A q m a || protects A q m (a + 1)
 abbrev pub storable : (A : Areas) (q : Registers) (m : List ℕ) (a : ℕ) (mode : Mode) (e : Effect) → Effect
 storable A q m a mode e = cond (live q a (wordsIn mode)) (cond (protectsAny A q m a mode) (trap 33) e) (trap 32)
 
--- STOR_L, _G, _F at the address a: x, or x and y.
-unfoldable pub storeTo : (A : Areas) (q : Registers) (m : List ℕ) (next gone : ℕ) (mode : Mode) (a x y : ℕ) → Effect
-storeTo A q m next gone mode a x y = storable A q m a mode (Go gone NoPush (stored a mode x y) (moved q next))
+-- STOR_L, _G, _F of x, or of x and y: the offset is n, and a is the address word of STOR_F.
+unfoldable pub storeEffect : (A : Areas) (q : Registers) (m : List ℕ) (next : ℕ) (base : Base) (mode : Mode) (n a x y : ℕ) → Effect
+storeEffect A q m next base mode n a x y =
+    let at = baseOf q m a base + n in
+    storable A q m at mode (Go (popped base + wordsIn mode) NoPush (stored at mode x y) (moved q next))
 
--- One word is pushed over so many that go.
-abbrev pub gives : Registers → ℕ → ℕ → ℕ → Effect
-gives q next gone x = Go gone (PushOne x) NoWrite (moved q next)
+-- One word is pushed in the place of those that go.
+abbrev pub pushEffect : (q : Registers) (next pops x : ℕ) → Effect
+pushEffect q next pops x = Go pops (PushOne x) NoWrite (moved q next)
 
--- A word over so many that go; or the trap in its place.
-abbrev pub valued : Registers → ℕ → ℕ → Value → Effect
-valued q next gone (Word x) = gives q next gone x
-valued q next gone (Trap n) = trap n
+-- A word in the place of those that go; or the trap.
+abbrev pub valueEffect : (q : Registers) (next pops : ℕ) → Value → Effect
+valueEffect q next pops (Word x) = pushEffect q next pops x
+valueEffect q next pops (Trap n) = trap n
+
+-- The operations on words: POP (Y); POP (X); PUSH (their value), or POP (X) alone.
+abbrev pub operateEffect : (q : Registers) (next : ℕ) (op : Operation) (x y : ℕ) → Effect
+operateEffect q next op x y = valueEffect q next (operands op) (operationValue op x y)
 
 -- 34 is "not a boolean".
 abbrev pub boolean : ℕ → Effect → Effect
 boolean b e = cond (isBoolean b) e (trap 34)
 
 -- ALLOC: POP (L); PUSH (MP); MP := MP + L. 35 is "memory full".
-unfoldable pub allocated : Registers → List ℕ → ℕ → ℕ → Effect
-allocated q m next l =
+unfoldable pub allocEffect : (q : Registers) (m : List ℕ) (next size : ℕ) → Effect
+allocEffect q m next l =
     cond (leb (q .mp + l) (length m)) (Go 1 (PushOne (q .mp)) NoWrite (sized q next (q .mp + l))) (trap 35)
 
 -- FREE: POP (L); MP := MP - L. 38 is "FREE below FP".
-unfoldable pub freed : Registers → ℕ → ℕ → Effect
-freed q next l = cond (leb (q .fp + l) (q .mp)) (Go 1 NoPush NoWrite (sized q next (q .mp - l))) (trap 38)
+unfoldable pub freeEffect : (q : Registers) (next size : ℕ) → Effect
+freeEffect q next l = cond (leb (q .fp + l) (q .mp)) (Go 1 NoPush NoWrite (sized q next (q .mp - l))) (trap 38)

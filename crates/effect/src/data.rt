@@ -3,7 +3,8 @@ ghost use mathlib.Core.Path.{_≡_};
 ghost use mathlib.Core.Bool.{true};
 ghost use Prim.Native.Nat.{_≤_};
 ghost use lib.ListN.{length};
-ghost use Rattle.effect.specs.Data.{baseOf, loadFrom, addressOf, storeTo, gives, valued, allocated, freed};
+ghost use Rattle.effect.specs.Data.{baseOf, loadEffect, loadAddressEffect, storeEffect};
+ghost use Rattle.effect.specs.Data.{loaded, protectsAny, stored, pushEffect, operateEffect, allocEffect, freeEffect};
 ghost use Rattle.registers.specs.Memory.{chained};
 ghost use Rattle.registers.specs.Program.{framesStart};
 use crate::effect::Effect;
@@ -11,6 +12,7 @@ use crate::effect::Push;
 use crate::effect::Write;
 use opcode::instruction::Base;
 use opcode::instruction::Mode;
+use opcode::instruction::Operation;
 use operate::Value;
 use registers::Areas;
 use registers::Registers;
@@ -33,116 +35,141 @@ pub fn base_of(q: Registers, m: &[u32], popped: u32, base: Base) -> u32
     }
 }
 
-pub fn load_from(q: Registers, m: &[u32], next: u32, gone: u32, mode: Mode, a: usize) -> Effect
-    ensures { λ e. ⌜ e ≡ loadFrom q (now (m .entry)) next gone mode a ⌝ }
+// LOAD_L, _G, _T, _F; `popped` is LOAD_F's address word.
+pub fn load_effect(
+    q: Registers,
+    m: &[u32],
+    next: u32,
+    base: Base,
+    mode: Mode,
+    offset: u32,
+    popped: u32,
+) -> Effect
+    ensures { λ e. ⌜ e ≡ loadEffect q (now (m .entry)) next base mode offset popped ⌝ }
+{
+    let a = (base_of(q, m, popped, base) as usize) + (offset as usize);
+    if !access::is_live(q, a, shape::words_in(mode) as usize) {
+        return Effect::Trap(32);
+    }
+    Effect::Go(
+        shape::popped_words(base),
+        loaded(m, a, mode),
+        Write::NoWrite,
+        q.moved(next),
+    )
+}
+
+// One word of memory, or two.
+fn loaded(m: &[u32], a: usize, mode: Mode) -> Push
+    requires { ⌜ a ≤ 0xFFFF_FFFF ⌝ }
+    ensures { λ p. ⌜ p ≡ loaded (now (m .entry)) a mode ⌝ }
 {
     match mode {
-        Mode::Normal => {
-            if !access::is_live(q, a, 1) {
-                return Effect::Trap(32);
-            }
-            Effect::Go(
-                gone,
-                Push::PushOne(access::word_at(m, a)),
-                Write::NoWrite,
-                q.moved(next),
-            )
-        }
-        Mode::Double => {
-            if !access::is_live(q, a, 2) {
-                return Effect::Trap(32);
-            }
-            Effect::Go(
-                gone,
-                Push::PushTwo(access::word_at(m, a), access::word_at(m, a + 1)),
-                Write::NoWrite,
-                q.moved(next),
-            )
-        }
+        Mode::Normal => Push::PushOne(access::word_at(m, a)),
+        Mode::Double => Push::PushTwo(access::word_at(m, a), access::word_at(m, a + 1)),
     }
 }
 
-pub fn address_of(q: Registers, next: u32, gone: u32, a: usize) -> Effect
-    ensures { λ e. ⌜ e ≡ addressOf q next gone a ⌝ }
+// LOAD_A_L, _G, _T, _F; `popped` is LOAD_A_F's address word.
+pub fn load_address_effect(
+    q: Registers,
+    m: &[u32],
+    next: u32,
+    base: Base,
+    offset: u32,
+    popped: u32,
+) -> Effect
+    ensures { λ e. ⌜ e ≡ loadAddressEffect q (now (m .entry)) next base offset popped ⌝ }
 {
+    let a = (base_of(q, m, popped, base) as usize) + (offset as usize);
     if a < 0x1_0000_0000 {
-        return Effect::Go(gone, Push::PushOne(a as u32), Write::NoWrite, q.moved(next));
+        return push_effect(q, next, shape::popped_words(base), a as u32);
     }
     Effect::Trap(31)
 }
 
-// One word, or two.
-pub fn store_to(
+// STOR_L, _G, _F, of one word or two; `popped` is STOR_F's address word.
+pub fn store_effect(
     areas: Areas,
     q: Registers,
     m: &[u32],
     next: u32,
-    gone: u32,
+    base: Base,
     mode: Mode,
-    a: usize,
+    offset: u32,
+    popped: u32,
     x: u32,
     y: u32,
 ) -> Effect
     requires { ⌜ chained (now m) (framesStart areas) (q .fp) (q .calls) ≡ true ⌝ }
-    ensures { λ e. ⌜ e ≡ storeTo areas q (now (m .entry)) next gone mode a x y ⌝ }
+    ensures { λ e. ⌜ e ≡ storeEffect areas q (now (m .entry)) next base mode offset popped x y ⌝ }
+{
+    let a = (base_of(q, m, popped, base) as usize) + (offset as usize);
+    let pops = shape::popped_words(base) + shape::words_in(mode);
+    if !access::is_live(q, a, shape::words_in(mode) as usize) {
+        return Effect::Trap(32);
+    }
+    if is_any_protected(areas, q, m, a, mode) {
+        return Effect::Trap(33);
+    }
+    Effect::Go(
+        pops,
+        Push::NoPush,
+        stored(a as u32, mode, x, y),
+        q.moved(next),
+    )
+}
+
+// Whether a store of one word or two to `a` on is refused.
+fn is_any_protected(areas: Areas, q: Registers, m: &[u32], a: usize, mode: Mode) -> bool
+    requires { ⌜ chained (now m) (framesStart areas) (q .fp) (q .calls) ≡ true ⌝ }
+    requires { ⌜ a ≤ 0xFFFF_FFFF ⌝ }
+    ensures { λ b. ⌜ b ≡ protectsAny areas q (now (m .entry)) a mode ⌝ }
 {
     match mode {
-        Mode::Normal => {
-            if !access::is_live(q, a, 1) {
-                return Effect::Trap(32);
-            }
-            if access::is_protected(areas, q, m, a) {
-                return Effect::Trap(33);
-            }
-            Effect::Go(
-                gone,
-                Push::NoPush,
-                Write::WriteOne(a as u32, x),
-                q.moved(next),
-            )
-        }
+        Mode::Normal => access::is_protected(areas, q, m, a),
         Mode::Double => {
-            if !access::is_live(q, a, 2) {
-                return Effect::Trap(32);
-            }
             if access::is_protected(areas, q, m, a) {
-                return Effect::Trap(33);
+                return true;
             }
-            if access::is_protected(areas, q, m, a + 1) {
-                return Effect::Trap(33);
-            }
-            Effect::Go(
-                gone,
-                Push::NoPush,
-                Write::WriteTwo(a as u32, x, y),
-                q.moved(next),
-            )
+            access::is_protected(areas, q, m, a + 1)
         }
     }
 }
 
-// One word over so many that go.
-pub fn given(q: Registers, next: u32, gone: u32, x: u32) -> Effect
-    ensures { λ e. ⌜ e ≡ gives q next gone x ⌝ }
+fn stored(a: u32, mode: Mode, x: u32, y: u32) -> Write
+    ensures { λ w. ⌜ w ≡ stored a mode x y ⌝ }
 {
-    Effect::Go(gone, Push::PushOne(x), Write::NoWrite, q.moved(next))
+    match mode {
+        Mode::Normal => Write::WriteOne(a, x),
+        Mode::Double => Write::WriteTwo(a, x, y),
+    }
 }
 
-pub fn valued(q: Registers, next: u32, gone: u32, v: Value) -> Effect
-    ensures { λ e. ⌜ e ≡ valued q next gone v ⌝ }
+// One word in the place of those that go.
+pub fn push_effect(q: Registers, next: u32, pops: u32, x: u32) -> Effect
+    ensures { λ e. ⌜ e ≡ pushEffect q next pops x ⌝ }
 {
-    match v {
-        Value::Word(x) => given(q, next, gone, x),
+    Effect::Go(pops, Push::PushOne(x), Write::NoWrite, q.moved(next))
+}
+
+// An operation on words.
+pub fn operate_effect(q: Registers, next: u32, op: Operation, x: u32, y: u32) -> Effect
+    ensures { λ e. ⌜ e ≡ operateEffect q next op x y ⌝ }
+{
+    let value = operate::operation::operation_value(op, x, y);
+    match value {
+        Value::Word(x) => push_effect(q, next, shape::operand_words(op), x),
         Value::Trap(n) => Effect::Trap(n),
     }
 }
 
 // ALLOC.
-pub fn allocated(q: Registers, m: &[u32], next: u32, words: u32) -> Effect
+pub fn alloc_effect(q: Registers, m: &[u32], next: u32, size: u32) -> Effect
     requires { ⌜ length (now m) ≤ 16384 ⌝ }
-    ensures { λ e. ⌜ e ≡ allocated q (now (m .entry)) next words ⌝ }
+    ensures { λ e. ⌜ e ≡ allocEffect q (now (m .entry)) next size ⌝ }
 {
-    let mp = (q.mp as usize) + (words as usize);
+    let mp = (q.mp as usize) + (size as usize);
     if m.len() < mp {
         return Effect::Trap(35);
     }
@@ -155,11 +182,11 @@ pub fn allocated(q: Registers, m: &[u32], next: u32, words: u32) -> Effect
 }
 
 // FREE.
-pub fn freed(q: Registers, next: u32, words: u32) -> Effect
-    ensures { λ e. ⌜ e ≡ freed q next words ⌝ }
+pub fn free_effect(q: Registers, next: u32, size: u32) -> Effect
+    ensures { λ e. ⌜ e ≡ freeEffect q next size ⌝ }
 {
-    if (q.mp as usize) < (q.fp as usize) + (words as usize) {
+    if (q.mp as usize) < (q.fp as usize) + (size as usize) {
         return Effect::Trap(38);
     }
-    Effect::Go(1, Push::NoPush, Write::NoWrite, q.sized(next, q.mp - words))
+    Effect::Go(1, Push::NoPush, Write::NoWrite, q.sized(next, q.mp - size))
 }

@@ -9,12 +9,12 @@ pub enum Push {
     PushTwo(u32, u32),
 }
 
-// The words that it writes to memory, from an address on. WriteGone writes the stack words that go.
+// The words that it writes to memory, from an address on. WritePopped writes the stack words that go.
 pub enum Write {
     NoWrite,
     WriteOne(u32, u32),
     WriteTwo(u32, u32, u32),
-    WriteGone(u32),
+    WritePopped(u32),
 }
 
 // A trap; the finish; or: so many stack words go, these are pushed, these are written, and the registers are then so (but for the

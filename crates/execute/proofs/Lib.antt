@@ -1,3 +1,3 @@
--- Laws about the words at the top of the stack and about the groups of instructions.
+-- Laws about the words at the top of the stack, and what an instruction can do.
 pub mod Top
-pub mod Groups
+pub mod Acts

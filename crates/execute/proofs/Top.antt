@@ -16,12 +16,15 @@ use Rattle.opcode.specs.declared.instruction.Instruction.the-variants.{Store, I
 use Rattle.operate.specs.declared.Value.{Value}
 use Rattle.operate.specs.Operation.{operationValue}
 use Rattle.shape.specs.Counts.{popped, wordsIn, operands}
+use Rattle.shape.specs.Shape.{shapeOf}
 use Rattle.registers.specs.declared.Registers.{Registers}
 use Rattle.registers.specs.Program.{Program}
 use Rattle.registers.specs.Memory.{read}
-use Rattle.effect.specs.Data.{baseOf, storeTo}
-use Rattle.execute.specs.Depth.{topWords, storedEffect, iteratedEffect, repeatedEffect}
-use Rattle.execute.specs.Execute.{execute}
+use Rattle.effect.specs.Data.{baseOf, loadEffect, loadAddressEffect, storeEffect, operateEffect}
+use Rattle.control.specs.Control.{iterEffect, nextEffect}
+use Rattle.registers.specs.State.{state}
+use Rattle.effect.specs.declared.effect.Effect.{Effect}
+use Rattle.execute.specs.Execute.{topWords, executed, execute}
 
 -- Word j of the top n stands at depth n - j.
 pub found : (s : List ℕ) (h n j : ℕ) → n ≤ h → j < n → read (topWords n h s) j ≡ read s (h - (n - j))
@@ -40,7 +43,7 @@ two-found f s h l = rw (found s h 2 0 l (omega arith), found s h 2 1 l (omega ar
 one-found : (f : ℕ → Value) (s : List ℕ) (h : ℕ) → 1 ≤ h → f (read (topWords 1 h s) 0) ≡ f (read s (h - 1))
 one-found f s h l = ap f (top-found s h l)
 
-pub operation-found : (op : Operation) (s : List ℕ) (h : ℕ) → operands op ≤ h
+operation-found : (op : Operation) (s : List ℕ) (h : ℕ) → operands op ≤ h
     → let ws = topWords (operands op) h s in
     operationValue op (read ws 0) (read ws 1) ≡ operationValue op (read s (h - operands op)) (read s (h - 1))
 unfolding operationValue
@@ -54,18 +57,41 @@ operation-found (CompareUnsigned order) = two-found (operationValue (CompareUnsi
 operation-found (Set op) = two-found (operationValue (Set op))
 operation-found Not = one-found (λ x. operationValue Not x 0)
 
-pub base-found : (q : Registers) (m s : List ℕ) (base : Base) → popped base ≤ q .height
+base-found : (q : Registers) (m s : List ℕ) (base : Base) → popped base ≤ q .height
     → baseOf q m (read (topWords (popped base) (q .height) s) 0) base ≡ baseOf q m (read s (q .height - 1)) base
 base-found q m s Local l = refl
 base-found q m s Global l = refl
 base-found q m s Constant l = refl
 base-found q m s Popped l = found s (q .height) 1 0 l (omega arith)
 
+pub load-found : (q : Registers) (m s : List ℕ) (next : ℕ) (base : Base) (mode : Mode) (n : ℕ) → popped base ≤ q .height
+    → loadEffect q m next base mode n (read (topWords (popped base) (q .height) s) 0)
+    ≡ loadEffect q m next base mode n (read s (q .height - 1))
+unfolding loadEffect
+load-found q m s next base mode n l = rw (base-found q m s base l)
+
+pub load-address-found : (q : Registers) (m s : List ℕ) (next : ℕ) (base : Base) (n : ℕ) → popped base ≤ q .height
+    → loadAddressEffect q m next base n (read (topWords (popped base) (q .height) s) 0)
+    ≡ loadAddressEffect q m next base n (read s (q .height - 1))
+unfolding loadAddressEffect
+load-address-found q m s next base n l = rw (base-found q m s base l)
+
+pub operate-found : (op : Operation) (q : Registers) (s : List ℕ) (next : ℕ) → operands op ≤ q .height
+    → let ws = topWords (operands op) (q .height) s in
+    operateEffect q next op (read ws 0) (read ws 1)
+    ≡ operateEffect q next op (read s (q .height - operands op)) (read s (q .height - 1))
+operate-found op q s next l = rw (operation-found op s (q .height) l)
+
+-- The words of STOR, by their depth in the stack.
+abbrev pub storeAt : Program → Registers → List ℕ → List ℕ → ℕ → Base → Mode → ℕ → Effect
+storeAt P q m s next base mode n =
+    storeEffect (P .areas) q m next base mode n (read s (q .height - (popped base + wordsIn mode)))
+    (read s (q .height - wordsIn mode)) (read s (q .height - (wordsIn mode - 1)))
+
 pub store-found : (P : Program) (q : Registers) (m s : List ℕ) (next : ℕ) (base : Base) (mode : Mode) (n : ℕ)
     → popped base + wordsIn mode ≤ q .height
-    → execute P q m next (topWords (popped base + wordsIn mode) (q .height) s) (Store base mode n)
-    ≡ storedEffect (P .areas) q m s next base mode n
-unfolding execute storeTo
+    → executed P (state q m s) next (Store base mode n) ≡ storeAt P q m s next base mode n
+unfolding execute shapeOf storeEffect
 store-found P q m s next Local Normal n l = rw (found s (q .height) 1 0 l (omega arith))
 store-found P q m s next Global Normal n l = rw (found s (q .height) 1 0 l (omega arith))
 store-found P q m s next Constant Normal n l = rw (found s (q .height) 1 0 l (omega arith))
@@ -81,8 +107,9 @@ store-found P q m s next Popped Double n l =
     rw (found s (q .height) 3 0 l (omega arith), found s (q .height) 3 1 l (omega arith), found s (q .height) 3 2 l (omega arith))
 
 pub iter-found : (P : Program) (q : Registers) (m s : List ℕ) (next d : ℕ) → 4 ≤ q .height
-    → execute P q m next (topWords 4 (q .height) s) (Iter d) ≡ iteratedEffect (P .areas) q m s next d
-unfolding execute
+    → executed P (state q m s) next (Iter d)
+    ≡ iterEffect (P .areas) q m next d (read s (q .height - 4)) (read s (q .height - 3)) (read s (q .height - 2)) (read s (q .height - 1))
+unfolding execute shapeOf
 iter-found P q m s next d l =
     rw (
       found s (q .height) 4 0 l (omega arith),
@@ -92,8 +119,9 @@ iter-found P q m s next d l =
     )
 
 pub next-found : (P : Program) (q : Registers) (m s : List ℕ) (next : ℕ) → 5 ≤ q .height
-    → execute P q m next (topWords 5 (q .height) s) Next ≡ repeatedEffect (P .areas) q m s next
-unfolding execute
+    → executed P (state q m s) next Next
+    ≡ nextEffect (P .areas) q m next (read s (q .height - 5)) (read s (q .height - 3)) (read s (q .height - 2)) (read s (q .height - 1))
+unfolding execute shapeOf
 next-found P q m s next l =
     rw (
       found s (q .height) 5 0 l (omega arith),

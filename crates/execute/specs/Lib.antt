@@ -1,4 +1,2 @@
 -- What each instruction does.
-pub mod Depth
 pub mod Execute
-pub mod Group

@@ -6,6 +6,7 @@ use lib.Dec.{eqb}
 use lib.ListN.{length, getD}
 use Rattle.record.specs.Number.{recordNumber}
 use Rattle.registers.specs.declared.Registers.{Registers}
+use Rattle.registers.specs.State.{state}
 use Rattle.load.specs.declared.Loaded.{Loaded}
 use Rattle.load.specs.declared.Loaded.the-variants.{Refused, Ready}
 use Rattle.machine.specs.declared.run.Answer.{Answer}
@@ -62,7 +63,7 @@ runReply (Ended e) m s w o = ranAs 0 m s (stateWords (e .registers)) (outcomeWor
 -- Numbers 1 to 7; then 24, for a state or an outcome of another length too.
 unfoldable pub benchRun : List ℕ → ℕ → List ℕ → List ℕ → List ℕ → List ℕ → BenchRan
 benchRun r budget m s w o =
-    let a = runOf r budget (registersIn w) m s in
+    let a = runOf r budget (state (registersIn w) m s) in
     cond (eqb (recordNumber r) 0)
-    (cond (eqb (length w) 6 && eqb (length o) 3) (runReply (a .answer) (a .memory) (a .stack) w o) (ranAs 24 m s w o))
+    (cond (eqb (length w) 6 && eqb (length o) 3) (runReply (a .answer) (a .state .memory) (a .state .stack) w o) (ranAs 24 m s w o))
     (ranAs (recordNumber r) m s w o)

@@ -7,7 +7,6 @@ use lib.Dec.{eqb}
 use Rattle.words.specs.Refusal.{Test, _when_}
 use Rattle.record.specs.Number.{afterRecord}
 use Rattle.registers.specs.declared.Registers.{Registers}
-use Rattle.step.specs.declared.Machine.{Machine}
 use Rattle.step.specs.declared.Outcome.{Outcome}
 use Rattle.step.specs.declared.Outcome.the-variants.{Went, Finished, Trapped}
 use Rattle.machine.specs.declared.run.End.{End}
@@ -15,9 +14,9 @@ use Rattle.machine.specs.declared.run.End.the-variants.{Finished as fini
 use Rattle.machine.specs.declared.run.Ended.{Ended as Ending}
 use Rattle.machine.specs.declared.run.Answer.{Answer}
 use Rattle.machine.specs.declared.run.Answer.the-variants.{Refused, Ended}
-use Rattle.header.specs.Header.{codeOf}
-use Rattle.registers.specs.Program.{areasOf}
-use Rattle.step.specs.Step.{machine, stepOf}
+use Rattle.registers.specs.Program.{Program, programOf, areasOf}
+use Rattle.registers.specs.State.{State, state}
+use Rattle.step.specs.Step.{stepOf}
 use Rattle.state.specs.Fits.{fits}
 
 -- 01: "End is 0 finished, 1 spent, or the trap."
@@ -26,47 +25,48 @@ endNumber finish = 0
 endNumber Spent = 1
 endNumber (stop n) = n
 
--- What a run leaves: its answer with the registers, the memory, and the whole lent stack.
+-- What a run leaves: its answer, and the state. The registers of an end are the state's; a refused run leaves them as they were.
 pub record Result : Type 0 where
   pub answer : Answer
-  pub memory : List ℕ
-  pub stack : List ℕ
+  pub state : State
 
-abbrev pub ran : Answer → List ℕ → List ℕ → Result
-ran a m s = record { answer = a; memory = m; stack = s }
+abbrev pub registersAfter : Registers → Answer → Registers
+registersAfter q (Refused n) = q
+registersAfter q (Ended e) = e .registers
 
-abbrev pub ended : Ending → List ℕ → List ℕ → Result
-ended e m s = ran (Ended e) m s
+-- What the code hands back of a run from registers q, with the memory and the stack that it leaves.
+abbrev pub ran : Registers → Answer → List ℕ → List ℕ → Result
+ran q a m s = record { answer = a; state = state (registersAfter q a) m s }
 
 -- The place of an end is the PC of its registers: "At" is the offset of the finishing RTN, of the next instruction when spent, or
 -- of the trapped one.
-abbrev pub endedAt : End → ℕ → Machine → Ending
-endedAt ending steps M = record { ending = ending; steps = steps; registers = M .registers }
+abbrev pub endedAt : End → ℕ → Registers → Ending
+endedAt ending steps q = record { ending = ending; steps = steps; registers = q }
 
-abbrev pub result : (ending : End) (steps : ℕ) (M : Machine) (m s : List ℕ) → Result
-result ending steps M m s = ended (endedAt ending steps M) m s
+abbrev pub ended : (ending : End) (steps : ℕ) (S : State) → Result
+ended ending steps S = record { answer = Ended (endedAt ending steps (S .registers)); state = S }
 
 -- After a step: the run goes on, or ends there.
-abbrev pub proceed : (Machine → List ℕ → List ℕ → Result) → ℕ → Outcome → Machine → List ℕ → List ℕ → Result
-proceed go count Went M m s = go M m s
-proceed go count Finished M m s = result finish (count + 1) M m s
-proceed go count (Trapped n) M m s = result (stop n) count M m s
+abbrev pub proceed : (State → Result) → ℕ → Outcome → State → Result
+proceed go count Went S = go S
+proceed go count Finished S = ended finish (count + 1) S
+proceed go count (Trapped n) S = ended (stop n) count S
 
 -- At most so many more steps, after a count of completed ones.
-abbrev pub runFrom : List ℕ → ℕ → ℕ → Machine → List ℕ → List ℕ → Result
-runFrom code zero count M m s = result Spent count M m s
-runFrom code (suc left) count M m s =
-    let a = stepOf code M m s in
-    proceed (runFrom code left (count + 1)) count (a .stepped .outcome) (a .stepped .machine) (a .memory) (a .stack)
+abbrev pub runFrom : (P : Program) (left count : ℕ) → State → Result
+runFrom P zero count S = ended Spent count S
+runFrom P (suc left) count S =
+    let a = stepOf P S in
+    proceed (runFrom P left (count + 1)) count (a .outcome) (a .state)
 
 -- "run [makes tests] 1 to 7 and then 24": "a state that does not fit".
-abbrev pub runTests : List ℕ → Registers → List ℕ → List ℕ → List Test
-runTests r q m s = 24 when not (fits (areasOf r) q m s) ∷ []
+abbrev pub runTests : List ℕ → State → List Test
+runTests r S = 24 when not (fits (areasOf r) S) ∷ []
 
-unfoldable pub runNumber : List ℕ → Registers → List ℕ → List ℕ → ℕ
-runNumber r q m s = afterRecord r (runTests r q m s)
+unfoldable pub runNumber : List ℕ → State → ℕ
+runNumber r S = afterRecord r (runTests r S)
 
-unfoldable pub runOf : (r : List ℕ) (budget : ℕ) (q : Registers) (m s : List ℕ) → Result
-runOf r budget q m s =
-    cond (eqb (runNumber r q m s) 0) (runFrom (codeOf r) budget 0 (machine (areasOf r) q) m s)
-    (ran (Refused (runNumber r q m s)) m s)
+-- "Refused loads and runs change nothing."
+unfoldable pub runOf : (r : List ℕ) (budget : ℕ) → State → Result
+runOf r budget S =
+    cond (eqb (runNumber r S) 0) (runFrom (programOf r) budget 0 S) (record { answer = Refused (runNumber r S); state = S })

@@ -4,8 +4,11 @@ ghost use mathlib.Core.Bool.{true};
 ghost use Prim.Native.Nat.{_≤_};
 ghost use lib.ListN.{length};
 ghost use Rattle.state.specs.Fits.{fits};
-ghost use Rattle.machine.specs.Run.{ran, ended, endedAt, runFrom, runOf, endNumber};
+ghost use Rattle.registers.specs.Program.{program};
+ghost use Rattle.registers.specs.State.{state};
+ghost use Rattle.machine.specs.Run.{ran, endedAt, runFrom, runOf, endNumber};
 use record::Reading;
+use registers::Areas;
 use registers::Registers;
 use step::Machine;
 use step::Outcome;
@@ -41,7 +44,7 @@ pub fn end_number(e: End) -> u32
 }
 
 fn ended_at(machine: Machine, ending: End, steps: u32) -> Ended
-    ensures { λ e. ⌜ e ≡ endedAt ending steps machine ⌝ }
+    ensures { λ e. ⌜ e ≡ endedAt ending steps (machine .registers) ⌝ }
 {
     let registers = machine.registers;
     Ended {
@@ -53,19 +56,20 @@ fn ended_at(machine: Machine, ending: End, steps: u32) -> Ended
 
 fn run_steps(
     code: &[u8],
+    areas: Areas,
     budget: u32,
     start: Machine,
     memory: &mut [u32],
     stack: &mut [u32],
 ) -> Ended
     requires { ⌜ length (now code) ≤ 4096 ⌝ }
-    requires { ⌜ fits (start .areas) (start .registers) (now memory) (now stack) ≡ true ⌝ }
-    ensures { λ e. ⌜ ended e (now (memory .exit)) (now (stack .exit)) ≡ runFrom (now (code .entry)) budget 0 start (now (memory .entry)) (now (stack .entry)) ⌝ }
+    requires { ⌜ fits areas (state (start .registers) (now memory) (now stack)) ≡ true ⌝ }
+    ensures { λ e. ⌜ ran (start .registers) (Answer.Ended e) (now (memory .exit)) (now (stack .exit)) ≡ runFrom (program (now (code .entry)) areas) budget 0 (state (start .registers) (now (memory .entry)) (now (stack .entry))) ⌝ }
 {
     let mut machine = start;
     let mut steps = 0;
     while steps < budget {
-        let stepped = machine.step(code, memory, stack);
+        let stepped = machine.step(code, areas, memory, stack);
         let after = stepped.machine;
         let outcome = stepped.outcome;
         machine = after;
@@ -86,7 +90,7 @@ fn run_steps(
 
 // Numbers 1 to 7 and 24, or the run from a state; refused, it changes nothing.
 pub fn run(r: &[u8], budget: u32, q: Registers, memory: &mut [u32], stack: &mut [u32]) -> Answer
-    ensures { λ a. ⌜ ran a (now (memory .exit)) (now (stack .exit)) ≡ runOf (now (r .entry)) budget q (now (memory .entry)) (now (stack .entry)) ⌝ }
+    ensures { λ a. ⌜ ran q a (now (memory .exit)) (now (stack .exit)) ≡ runOf (now (r .entry)) budget (state q (now (memory .entry)) (now (stack .entry))) ⌝ }
 {
     let reading = record::read(r);
     match reading {
@@ -96,11 +100,8 @@ pub fn run(r: &[u8], budget: u32, q: Registers, memory: &mut [u32], stack: &mut 
             if !state::state_fits(areas, q, memory, stack) {
                 return Answer::Refused(24);
             }
-            let start = Machine {
-                areas,
-                registers: q,
-            };
-            Answer::Ended(run_steps(header::code_of(r), budget, start, memory, stack))
+            let start = Machine { registers: q };
+            Answer::Ended(run_steps(header::code_of(r), areas, budget, start, memory, stack))
         }
     }
 }

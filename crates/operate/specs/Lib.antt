@@ -4,3 +4,4 @@ pub mod Arithmetic
 pub mod Compare
 pub mod Sets
 pub mod Operation
+pub mod Traps

@@ -5,6 +5,7 @@ use Rattle.header.specs.Header.{headerOf, codeOf}
 use Rattle.header.specs.declared.Header.{Header}
 use Rattle.registers.specs.declared.Areas.{Areas}
 
+-- What runs: the code, and the sizes of the data areas.
 pub record Program : Type 0 where
   pub code : List ℕ
   pub areas : Areas

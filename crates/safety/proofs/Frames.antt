@@ -14,55 +14,58 @@ use Rattle.shape.specs.Linkage.{Linkage, inside, calling, entering, returning, 
 use Rattle.effect.specs.declared.effect.Effect.the-variants.{Go}
 use Rattle.effect.specs.declared.effect.Push.{Push}
 use Rattle.effect.specs.declared.effect.Write.{Write}
+use Rattle.registers.specs.declared.Areas.{Areas}
 use Rattle.registers.specs.declared.Registers.{Registers}
 use Rattle.registers.specs.Memory.{read, savedFp, isLink}
-use Rattle.registers.specs.Program.{program, framesStart}
+use Rattle.registers.specs.Program.{Program, framesStart}
+use Rattle.registers.specs.State.{State}
 use Rattle.registers.proofs.Links.{link-near}
-use Rattle.execute.specs.Depth.{topWords}
+use Rattle.execute.specs.Execute.{topWords, finding}
+use Rattle.execute.proofs.Acts.{acts}
 use Rattle.stackmap.specs.Ways.{Subject}
-use Rattle.step.specs.declared.Machine.{Machine}
 use Rattle.step.specs.declared.Outcome.the-variants.{Went}
-use Rattle.step.specs.Step.{After, written, stepOf}
-use Rattle.step.proofs.Leaving.{carriedOut, performed-leaves}
-use Rattle.machine.proofs.Stored.{two-stored}
-use Rattle.safety.specs.Active.{Call, Configuration, begun, callers, callsBy, stepOn}
-use Rattle.safety.proofs.AsLoaded.{links-kept}
-use Rattle.safety.proofs.Effects.{Does, goes, Stays, Links, Unlinks, Framing, execute-does}
-use Rattle.safety.proofs.Parts.{Framed, no-frame, a-frame, registersOf, Doing, FramesKept}
+use Rattle.step.specs.Step.{After, after, written, applied, stepOf}
+use Rattle.step.proofs.Outcomes.{perform-leaves}
+use Rattle.step.proofs.Intact.{two-stored}
+use Rattle.safety.specs.Active.{Call, Configuration, begun, callers, callsBy}
+use Rattle.safety.proofs.ProtectedWords.{links-kept}
+use Rattle.safety.proofs.Framing.{Does, does-go, Stays, Links, Unlinks, Framing, acts-do}
+use Rattle.safety.proofs.Invariant.{Framed, no-frame, a-frame, registersOf, programIn, stepIn, Doing, FramesKept}
 
--- What a completed step did: a write and registers of which P holds.
-pub record Did (P : Write → Registers → Type 0) (m : List ℕ) (a : After) : Type 0 where
+-- What a completed step did: a write and registers of which F holds.
+pub record Did (F : Write → Registers → Type 0) (m : List ℕ) (a : After) : Type 0 where
   pub write : Write
   pub registers : Registers
-  pub gone : List ℕ
-  pub done : P write registers
-  pub memory : a .memory ≡ written m gone write
-  pub fp : a .stepped .machine .registers .fp ≡ registers .fp
-  pub calls : a .stepped .machine .registers .calls ≡ registers .calls
+  pub popped : List ℕ
+  pub done : F write registers
+  pub memory : a .state .memory ≡ written m popped write
+  pub fp : a .state .registers .fp ≡ registers .fp
+  pub calls : a .state .registers .calls ≡ registers .calls
 
-did-go : (M : Machine) (m s : List ℕ) (k : ℕ) (P : Write → Registers → Type 0) (gone : ℕ) (push : Push) (write : Write) (next : Registers)
-    → Does k P (Go gone push write next) → Did P m (carriedOut M m s gone push write next)
-did-go M m s k P gone push write next (goes l p) =
+did-go : (S : State) (k : ℕ) (F : Write → Registers → Type 0) (pops : ℕ) (push : Push) (write : Write) (q : Registers)
+    → Does k F (Go pops push write q) → Did F (S .memory) (after Went (applied S pops push write q))
+did-go S k F pops push write q (does-go l p) =
     record {
       write = write;
-      registers = next;
-      gone = topWords gone (M .registers .height) s;
+      registers = q;
+      popped = topWords pops (S .registers .height) (S .stack);
       done = p;
       memory = refl;
       fp = refl;
       calls = refl;
     }
 
-pub step-did : (U : Subject) (c : Configuration) (i : Instruction) (next : ℕ) → Doing U c i next
-    → stepOn U c .stepped .outcome ≡ Went
-    → Did (Framing (registersOf c) (c .memory) next (linkageOf (shapeOf i))) (c .memory) (stepOn U c)
+pub step-did : (U : Subject) (A : Areas) (c : Configuration) (i : Instruction) (next : ℕ) → Doing U c i next
+    → stepIn U A c .outcome ≡ Went
+    → Did (Framing (registersOf c) (c .state .memory) next (linkageOf (shapeOf i))) (c .state .memory) (stepIn U A c)
 unfolding stepOf
-step-did U c i next D =
-    let P : Write → Registers → Type 0 = Framing (registersOf c) (c .memory) next (linkageOf (shapeOf i)) in
-    rw (D .decoded) (performed-leaves (c .machine) (c .memory) (c .stack)
-    (λ a. a .stepped .outcome ≡ Went → Did P (c .memory) a) (Does (needed i) P) (λ o n w. absurd (n w))
-    (λ gone push write q h room w. did-go (c .machine) (c .memory) (c .stack) (needed i) P gone push write q h) (U .code) i next
-    (execute-does (registersOf c) (c .memory) next (program (U .code) (c .machine .areas)) _ i))
+step-did U A c i next D =
+    let P : Program = programIn U A in
+    let F : Write → Registers → Type 0 = Framing (registersOf c) (c .state .memory) next (linkageOf (shapeOf i)) in
+    rw (D .decoded)
+    (perform-leaves P (c .state) (λ a. a .outcome ≡ Went → Did F (c .state .memory) a) (Does (needed i) F) (λ o n w. absurd (n w))
+    (λ pops push write q h room w. did-go (c .state) (needed i) F pops push write q h) i next
+    (acts-do P (finding (needed i) (c .state)) next (acts P (finding (needed i) (c .state)) next i)))
 
 saved-fp : (m : List ℕ) (fp link saved : ℕ) → fp ≡ link + 2 → read m link ≡ saved → savedFp m fp ≡ saved
 saved-fp m fp link saved e r =
@@ -89,7 +92,7 @@ frame-below m start fp n (c ∷ calls) (a-frame e r t rest) h count =
 abbrev InStep : List ℕ → ℕ → Registers → List Call → Type 0
 InStep m start q calls = Framed m start (q .fp) calls × (length calls ≡ q .calls)
 
-module _ (U : Subject) (start next : ℕ) (m n gone : List ℕ) (q : Registers) (calls : List Call) (F : Framed m start (q .fp) calls)
+module _ (U : Subject) (start next : ℕ) (m n popped : List ℕ) (q : Registers) (calls : List Call) (F : Framed m start (q .fp) calls)
     (count : length calls ≡ q .calls) (kept : (b : ℕ) → isLink m (q .fp) (q .calls) b ≡ true → read n b ≡ read m b) where
   same-frames : Framed n start (q .fp) calls
   same-frames = framed-kept m n start (q .fp) calls F (λ b h. kept b (rw (← count) h))
@@ -97,7 +100,7 @@ module _ (U : Subject) (start next : ℕ) (m n gone : List ℕ) (q : Registers) 
   stays-framed : (q' : Registers) → Stays q q' → InStep n start q' calls
   stays-framed q' y = (rw (y .fp) same-frames, count ∙ sym (y .calls))
 
-  links-framed : (p : ℕ) (write : Write) (q' : Registers) → Links q m next write q' → n ≡ written m gone write
+  links-framed : (p : ℕ) (write : Write) (q' : Registers) → Links q m next write q' → n ≡ written m popped write
       → InStep n start q' (begun U q p next calls)
   links-framed p write q' y e =
       let made : n ≡ sets m (q .mp) (q .fp ∷ next ∷ []) = e ∙ rw (y .wrote) in
@@ -106,7 +109,7 @@ module _ (U : Subject) (start next : ℕ) (m n gone : List ℕ) (q : Registers) 
       let back : read n (q .mp + 1) ≡ next = rw made (two .1) in
       (a-frame (y .fp) first back same-frames, omega (arith, count, y .calls))
 
-  unlinks-framed : (write : Write) (q' : Registers) → Unlinks q m write q' → n ≡ written m gone write
+  unlinks-framed : (write : Write) (q' : Registers) → Unlinks q m write q' → n ≡ written m popped write
       → InStep n start q' (callers calls)
   unlinks-framed write q' y e =
       let made : n ≡ m = e ∙ rw (y .wrote) in
@@ -114,7 +117,7 @@ module _ (U : Subject) (start next : ℕ) (m n gone : List ℕ) (q : Registers) 
       (rw (y .fp, made) (f .0), f .1 ∙ sym (y .calls))
 
   -- By what the instruction does with procedures, as the active calls are.
-  framed-after : (k : Linkage) (write : Write) (q' : Registers) → Framing q m next k write q' → n ≡ written m gone write
+  framed-after : (k : Linkage) (write : Write) (q' : Registers) → Framing q m next k write q' → n ≡ written m popped write
       → InStep n start q' (callsBy U q next k calls)
   framed-after inside write q' y e = stays-framed q' y
   framed-after (calling p) write q' y e = links-framed p write q' y e
@@ -122,9 +125,9 @@ module _ (U : Subject) (start next : ℕ) (m n gone : List ℕ) (q : Registers) 
   framed-after returning write q' y e = unlinks-framed write q' y e
 
 pub frames-kept : FramesKept
-frames-kept U A c i next D e f F count w =
-    let did = step-did U c i next D w in
+frames-kept U A c i next D f F count w =
+    let did = step-did U A c i next D w in
     let t =
-    framed-after U (framesStart A) next (c .memory) (stepOn U c .memory) (did .gone) (registersOf c) (c .calls) F count
-    (links-kept U A c e f) (linkageOf (shapeOf i)) (did .write) (did .registers) (did .done) (did .memory) in
+    framed-after U (framesStart A) next (c .state .memory) (stepIn U A c .state .memory) (did .popped) (registersOf c) (c .calls) F count
+    (links-kept U A c f) (linkageOf (shapeOf i)) (did .write) (did .registers) (did .done) (did .memory) in
     rw (D .decoded, did .fp, did .calls) t

@@ -31,8 +31,8 @@ use Rattle.words.specs.Bytes.{Bytes}
 use Rattle.verifier.specs.Exact.{Ruled, subject}
 use Rattle.record.proofs.Sound.{numberless}
 use Rattle.verifier.proofs.Exactly.{accepts-only}
-use Rattle.machine.proofs.Stored.{apart}
-use Rattle.safety.proofs.Parts.{InCode, Callable}
+use Rattle.step.proofs.Intact.{apart}
+use Rattle.safety.proofs.Invariant.{InCode, Callable}
 
 -- A module that the check accepts.
 pub record Checked (U : Subject) : Type 0 where

@@ -1,5 +1,4 @@
 -- Where a switch goes: to the ELSE part or to a branch of its table, all of which are among its targets.
-use mathlib.Core.Bool.{cond}
 use mathlib.Core.List.{List, _∷_}
 use mathlib.Core.Path.{_≡_}
 use Prim.Native.Nat.{ℕ, zero, suc, _+_, _<_}
@@ -7,10 +6,12 @@ use native.Mathlib.Omega.{arith}
 use lib.Dec.{leb}
 use borrow.Author.Tests.{leb-true}
 use Rattle.words.proofs.Tests.{either, by-test}
-use Rattle.switch_table.specs.Switch.{elseDistance, branchDistance, rangeHolds, searchFrom, searchDistance, orElse}
+use Rattle.operand.specs.Distance.{placeAt}
+use Rattle.switch_table.specs.Switch.{elseDistance, rangeHolds, searchFrom, searchDistance, orElse}
+use Rattle.control.specs.Control.{switchDistance}
 use Rattle.shape.specs.declared.Table.{Table}
 use Rattle.shape.specs.declared.Table.the-variants.{Branches, Ranges}
-use Rattle.successors.specs.Successors.{tableTarget, tableFrom, switchTargets}
+use Rattle.successors.specs.Successors.{tableTarget, tableFrom, elseTarget, switchTargets}
 use Rattle.stackmap.specs.Slots.{Slot}
 use Rattle.stackmap.specs.Ways.{toAll}
 use Rattle.stackmap.specs.StackMap.{Among, here, there}
@@ -30,28 +31,23 @@ module _ (code : List ℕ) (at : ℕ) where
   in-table t k (suc n) zero h = let e : k + 0 ≡ k = omega arith in rw e in-first
   in-table t k (suc n) (suc x) h = let e : k + suc x ≡ k + 1 + x = omega arith in rw e (in-later (in-table t (k + 1) n x (omega arith)))
 
-  -- SWITCH.
-  pub in-branches : (n x : ℕ)
-      → In (at + cond (leb x n) (branchDistance code at x) (elseDistance code at)) (switchTargets code at Branches n)
-  unfolding switchTargets
-  in-branches n x =
-      let z : 0 + x ≡ x = omega arith in
-      by-test (λ (d : ℕ). In (at + d) (switchTargets code at Branches n)) (leb x n) _ _
-      (λ e. in-later (rw z at (in-table Branches 0 (n + 1) x (omega (arith, leb-true x n e)))))
-      (λ e. in-first)
-
   -- SWITCH_X: the first range that holds the selector, or ELSE.
   in-found : (x k n : ℕ)
-      → In (at + orElse (searchFrom code at x k n) (elseDistance code at)) ((at + elseDistance code at) ∷ tableFrom code at Ranges k n)
+      → In (placeAt at (orElse (searchFrom code at x k n) (elseDistance code at))) (elseTarget code at ∷ tableFrom code at Ranges k n)
   in-found x k zero = in-first
   in-found x k (suc n) =
-      either (λ (d : ℕ). In (at + orElse d (elseDistance code at)) ((at + elseDistance code at) ∷ tableFrom code at Ranges k (suc n))) (rangeHolds code at k x) _ _ (in-later in-first) (skip (in-found x (k + 1) n))
+      either (λ (d : ℕ). In (placeAt at (orElse d (elseDistance code at))) (elseTarget code at ∷ tableFrom code at Ranges k (suc n)))
+      (rangeHolds code at k x) _ _ (in-later in-first) (skip (in-found x (k + 1) n))
     where
       skip : {t u v : ℕ} {ts : List ℕ} → In t (u ∷ ts) → In t (u ∷ v ∷ ts)
       skip in-first = in-first
       skip (in-later h) = in-later (in-later h)
 
-  pub in-ranges : (n x : ℕ)
-      → In (at + orElse (searchDistance code at n x) (elseDistance code at)) (switchTargets code at Ranges n)
+  pub in-targets : (t : Table) (n x : ℕ) → In (placeAt at (switchDistance code at t n x)) (switchTargets code at t n)
   unfolding switchTargets searchDistance
-  in-ranges n x = in-found x 0 n
+  in-targets Branches n x =
+      let z : 0 + x ≡ x = omega arith in
+      by-test (λ (d : ℕ). In (placeAt at d) (switchTargets code at Branches n)) (leb x n) _ _
+      (λ e. in-later (rw z at (in-table Branches 0 (n + 1) x (omega (arith, leb-true x n e)))))
+      (λ e. in-first)
+  in-targets Ranges n x = in-found x 0 n

@@ -11,8 +11,9 @@ use Rattle.shape.specs.Shape.{shapeOf}
 use Rattle.shape.specs.declared.Shape.{Shape}
 use Rattle.shape.specs.Linkage.{Linkage, inside, calling, entering, returning, linkageOf}
 use Rattle.registers.specs.declared.Registers.{Registers}
+use Rattle.registers.specs.Program.{Program}
+use Rattle.registers.specs.State.{State}
 use Rattle.stackmap.specs.Ways.{Subject, parametersIn}
-use Rattle.step.specs.declared.Machine.{Machine}
 use Rattle.step.specs.declared.Outcome.the-variants.{Went}
 use Rattle.step.specs.Step.{After, stepOf}
 
@@ -34,11 +35,9 @@ abbrev pub shareOf : List Call → ℕ
 shareOf [] = 0
 shareOf (c ∷ calls) = c .share
 
--- The machine with its memory and stack, and the active calls, the last one first.
+-- The state, and the active calls, the last one first.
 pub record Configuration : Type 0 where
-  pub machine : Machine
-  pub memory : List ℕ
-  pub stack : List ℕ
+  pub state : State
   pub calls : List Call
 
 abbrev pub begun : (U : Subject) (q : Registers) (p next : ℕ) (calls : List Call) → List Call
@@ -71,21 +70,19 @@ callsDecoded U q calls Unserved = calls
 callsDecoded U q calls Past = calls
 callsDecoded U q calls (At i next) = callsAfter U q next (shapeOf i) calls
 
-abbrev pub stepOn : Subject → Configuration → After
-stepOn U c = stepOf (U .code) (c .machine) (c .memory) (c .stack)
+abbrev pub stepOn : Program → Configuration → After
+stepOn P c = stepOf P (c .state)
 
-abbrev pub advance : Subject → Configuration → Configuration
-advance U c =
-    let q = c .machine .registers in
+abbrev pub advance : Program → Subject → Configuration → Configuration
+advance P U c =
+    let q = c .state .registers in
     record {
-      machine = stepOn U c .stepped .machine;
-      memory = stepOn U c .memory;
-      stack = stepOn U c .stack;
-      calls = callsDecoded U q (c .calls) (decodeAt (U .code) (length (U .code)) (q .pc));
+      state = stepOn P c .state;
+      calls = callsDecoded U q (c .calls) (decodeAt (P .code) (length (P .code)) (q .pc));
     }
 
--- The configurations of a run: the first, and each after one more completed step that does not finish.
-pub data Visits (U : Subject) (first : Configuration) : ℕ → Configuration → Type 0 where
-  at-first : Visits U first 0 first
-  one-more : {n : ℕ} {c : Configuration} → Visits U first n c → stepOn U c .stepped .outcome ≡ Went
-      → Visits U first (suc n) (advance U c)
+-- The configurations of a run of P: the first, and each after one more completed step that does not finish. U is P's code under check,
+-- by which a callee's parameter words are known.
+pub data Visits (P : Program) (U : Subject) (first : Configuration) : ℕ → Configuration → Type 0 where
+  at-first : Visits P U first 0 first
+  one-more : {n : ℕ} {c : Configuration} → Visits P U first n c → stepOn P c .outcome ≡ Went → Visits P U first (suc n) (advance P U c)

@@ -4,10 +4,11 @@ use mathlib.Core.List.{List, [], _∷_}
 use mathlib.Core.Path.{_≡_}
 use Prim.Native.Nat.{ℕ, _≤_, _<_, _+_}
 use lib.ListN.{length, getD}
-use Rattle.step.specs.Step.{machine}
 use Rattle.entries.specs.Entries.{entryCount}
 use Rattle.registers.specs.Memory.{read}
-use Rattle.registers.specs.Program.{areasOf, globalsStart, constantsStart, framesStart}
+use Rattle.registers.specs.Program.{Program, programOf, globalsStart, constantsStart, framesStart}
+use Rattle.registers.specs.State.{State, state}
+use Rattle.operate.specs.Traps.{DataTrap}
 use Rattle.registers.specs.declared.Registers.{Registers}
 use Rattle.stackmap.specs.Slots.{Slot, word, label}
 use Rattle.stackmap.specs.Ways.{Subject, labelWord}
@@ -19,14 +20,14 @@ use Rattle.load.specs.declared.Loaded.the-variants.{Ready}
 use Rattle.machine.specs.declared.run.End.{End}
 use Rattle.machine.specs.declared.run.End.the-variants.{Finished, Spent, Trapped}
 use Rattle.load.specs.Load.{loadOf}
-use Rattle.machine.specs.Run.{Result, result, runOf}
+use Rattle.machine.specs.Run.{Result, ended, runOf}
 use Rattle.safety.specs.Active.{Call, running, shareOf, Configuration, stepOn, Visits}
 
 -- "the run finishes, spends its budget, or ends in one of the nine data traps, never in one of the four code traps".
 pub data Proper : End → Type 0 where
   finished : Proper Finished
   spent : Proper Spent
-  data-trap : {n : ℕ} → 30 ≤ n → n ≤ 38 → Proper (Trapped n)
+  data-trap : {n : ℕ} → DataTrap n → Proper (Trapped n)
 
 -- The words of a share, the top first, are as the slots say: "A label slot holds the word that its maker pushes."
 pub data Holds (code : List ℕ) (s : List ℕ) : ℕ → List Slot → Type 0 where
@@ -47,40 +48,42 @@ pub record SameFrom (share : ℕ) (s s' : List ℕ) : Type 0 where
 -- "a state that differs from the run's only in stack words below the share takes the same step or trap, with the same outcome but for
 -- those words, which each state keeps".
 abbrev pub other : Configuration → List ℕ → Configuration
-other c s' = record { machine = c .machine; memory = c .memory; stack = s'; calls = c .calls }
+other c s' = record { state = state (c .state .registers) (c .state .memory) s'; calls = c .calls }
 
-pub record Unread (U : Subject) (c : Configuration) (s' : List ℕ) : Type 0 where
-  pub same-step : stepOn U (other c s') .stepped ≡ stepOn U c .stepped
-  pub same-memory : stepOn U (other c s') .memory ≡ stepOn U c .memory
-  pub same-share : SameFrom (shareOf (c .calls)) (stepOn U c .stack) (stepOn U (other c s') .stack)
-  pub keeps-own : (i : ℕ) → i < shareOf (c .calls) → getD (stepOn U (other c s') .stack) i 0 ≡ getD s' i 0
+pub record Unread (P : Program) (c : Configuration) (s' : List ℕ) : Type 0 where
+  pub same-outcome : stepOn P (other c s') .outcome ≡ stepOn P c .outcome
+  pub same-registers : stepOn P (other c s') .state .registers ≡ stepOn P c .state .registers
+  pub same-memory : stepOn P (other c s') .state .memory ≡ stepOn P c .state .memory
+  pub same-share : SameFrom (shareOf (c .calls)) (stepOn P c .state .stack) (stepOn P (other c s') .state .stack)
+  pub keeps-own : (i : ℕ) → i < shareOf (c .calls) → getD (stepOn P (other c s') .state .stack) i 0 ≡ getD s' i 0
 
 -- What holds of each configuration: w is the workspace as the check left it, m0 the memory as loaded.
-pub record Safe (r : List ℕ) (U : Subject) (w m0 : List ℕ) (c : Configuration) : Type 0 where
+pub record Safe (P : Program) (U : Subject) (w m0 : List ℕ) (c : Configuration) : Type 0 where
   -- 01: "The last active call's procedure is the running one; with none, procedure 0." It is one of the record's, and the active calls
   -- are as many as the machine counts.
   pub procedure : running (c .calls) < entryCount (U .code)
-  pub active : length (c .calls) ≡ c .machine .registers .calls
+  pub active : length (c .calls) ≡ c .state .registers .calls
   -- "the place is one that the running procedure's stack picture has": what is reached has one list there (stackmap/specs/Theorems,
   -- `HasReached`).
   pub slots : List Slot
-  pub placed : Reached U (running (c .calls)) (c .machine .registers .pc) slots
+  pub placed : Reached U (running (c .calls)) (c .state .registers .pc) slots
   -- "That procedure's share of the stack has exactly the height and labels of the picture there"
-  pub height : c .machine .registers .height ≡ shareOf (c .calls) + length slots
-  pub labels : Holds (U .code) (c .stack) (shareOf (c .calls)) slots
+  pub height : c .state .registers .height ≡ shareOf (c .calls) + length slots
+  pub labels : Holds (U .code) (c .state .stack) (shareOf (c .calls)) slots
   -- "the check's workspace, as the check left it, shows that height and the topmost label"
-  pub shown : Shows w (c .machine .registers .pc) slots
+  pub shown : Shows w (c .state .registers .pc) slots
   -- "Header words and constants are as loaded"
-  pub header : (a : ℕ) → a < globalsStart → read (c .memory) a ≡ read m0 a
-  pub constants : (a : ℕ) → constantsStart (areasOf r) ≤ a → a < framesStart (areasOf r) → read (c .memory) a ≡ read m0 a
+  pub header : (a : ℕ) → a < globalsStart → read (c .state .memory) a ≡ read m0 a
+  pub constants : (a : ℕ) → constantsStart (P .areas) ≤ a → a < framesStart (P .areas) → read (c .state .memory) a ≡ read m0 a
   -- "each active call's link words are as that call wrote them"
-  pub links : Linked (c .memory) (c .calls)
+  pub links : Linked (c .state .memory) (c .calls)
   -- "No step, a trapped one included, reads or changes a stack word below the share that it starts with": with the run's own stack for
   -- s', `keeps-own` says that it changes none.
-  pub unread : (s' : List ℕ) → SameFrom (shareOf (c .calls)) (c .stack) s' → Unread U c s'
+  pub unread : (s' : List ℕ) → SameFrom (shareOf (c .calls)) (c .state .stack) s' → Unread P c s'
 
-abbrev pub loadedConfiguration : List ℕ → Registers → List ℕ → List ℕ → Configuration
-loadedConfiguration r q m s = record { machine = machine (areasOf r) q; memory = m; stack = s; calls = [] }
+-- A state that is loaded: no call is active.
+abbrev pub loadedConfiguration : State → Configuration
+loadedConfiguration S = record { state = S; calls = [] }
 
 -- How a run of so many steps at most ends: in a configuration that it visits, properly, with "demand 2's steps and step count". The
 -- finishing RTN counts, and leaves the state that it found.
@@ -90,12 +93,12 @@ counted Spent n = n
 counted (Trapped k) n = n
 
 abbrev pub endedIn : End → ℕ → Configuration → Result
-endedIn ending n c = result ending (counted ending n) (c .machine) (c .memory) (c .stack)
+endedIn ending n c = ended ending (counted ending n) (c .state)
 
-pub record Ends (U : Subject) (first : Configuration) (run : Result) : Type 0 where
+pub record Ends (P : Program) (U : Subject) (first : Configuration) (run : Result) : Type 0 where
   pub steps : ℕ
   pub last : Configuration
-  pub visited : Visits U first steps last
+  pub visited : Visits P U first steps last
   pub ending : End
   pub proper : Proper ending
   pub ends : run ≡ endedIn ending steps last
@@ -104,12 +107,13 @@ pub record Ends (U : Subject) (first : Configuration) (run : Result) : Type 0 wh
 -- The letter: "Take any record that the check accepts and load it fresh, with any parameters, memory and stack that the loader takes;
 -- run it from there, with demand 2's steps and step count and any step budget. .. After every number of its steps, from none to the
 -- last, .."
-pub record Demand3 (r w m0 s : List ℕ) (q : Registers) (U : Subject) : Type 0 where
-  pub runs : (budget : ℕ) → Ends U (loadedConfiguration r q m0 s) (runOf r budget q m0 s)
-  pub safe : (n : ℕ) (c : Configuration) → Visits U (loadedConfiguration r q m0 s) n c → Safe r U w m0 c
+pub record Demand3 (r w : List ℕ) (S : State) (U : Subject) : Type 0 where
+  pub runs : (budget : ℕ) → Ends (programOf r) U (loadedConfiguration S) (runOf r budget S)
+  pub safe : (n : ℕ) (c : Configuration) → Visits (programOf r) U (loadedConfiguration S) n c → Safe (programOf r) U w (S .memory) c
 
 abbrev pub Claim : Type 0
 Claim =
     (r results w parameters m s : List ℕ) (q : Registers) → Bytes r → checkOf r results w .number ≡ 0
     → loadOf r parameters m s .answer ≡ Ready q
-    → (R : Ruled r results) × Demand3 r (checkOf r results w .workspace) (loadOf r parameters m s .memory) s q (subject r results R)
+    → (R : Ruled r results)
+    × Demand3 r (checkOf r results w .workspace) (state q (loadOf r parameters m s .memory) s) (subject r results R)

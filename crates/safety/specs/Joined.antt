@@ -11,6 +11,7 @@ use Rattle.load.specs.declared.Loaded.the-variants.{Refused as NotLoaded, Ready
 use Rattle.machine.specs.declared.run.Answer.{Answer}
 use Rattle.machine.specs.declared.run.Answer.the-variants.{Refused, Ended}
 use Rattle.machine.specs.declared.run.Ended.{Ended as Ending}
+use Rattle.registers.specs.State.{state}
 use Rattle.load.specs.Load.{loadOf}
 use Rattle.machine.specs.Run.{Result, runOf}
 use Rattle.safety.specs.Demand3.{Proper}
@@ -25,11 +26,11 @@ abbrev pub joined : Answer → List ℕ → List ℕ → List ℕ → Joined
 joined a w m s = record { answer = a; workspace = w; memory = m; stack = s }
 
 abbrev pub thenRun : List ℕ → Result → Joined
-thenRun w a = joined (a .answer) w (a .memory) (a .stack)
+thenRun w a = joined (a .answer) w (a .state .memory) (a .state .stack)
 
 abbrev pub thenLoad : List ℕ → ℕ → List ℕ → List ℕ → Loaded → List ℕ → Joined
 thenLoad r budget w s (NotLoaded n) m = joined (Refused n) w m s
-thenLoad r budget w s (Ready q) m = thenRun w (runOf r budget q m s)
+thenLoad r budget w s (Ready q) m = thenRun w (runOf r budget (state q m s))
 
 unfoldable pub joinedOf : (r results w parameters : List ℕ) (budget : ℕ) (m s : List ℕ) → Joined
 joinedOf r results w parameters budget m s =

@@ -9,22 +9,23 @@ use borrow.Author.Tests.{eqb-true, leb-true, eq-eqb, le-leb}
 use Rattle.registers.specs.declared.Areas.{Areas}
 use Rattle.registers.specs.declared.Registers.{Registers}
 use Rattle.registers.specs.Program.{constantsStart, framesStart}
+use Rattle.registers.specs.State.{State}
 use Rattle.registers.specs.Memory.{read, chained}
 use Rattle.state.specs.Fits.{sizesTaken, headerKept, registersFit, fits}
 
-pub record Fitting (A : Areas) (q : Registers) (m s : List ℕ) : Type 0 where
-  pub areas : framesStart A ≤ length m
-  pub room : length m ≤ 16384
-  pub deep : length s ≤ 1024
-  pub word0 : read m 0 ≡ 0
-  pub word1 : read m 1 ≡ 0
-  pub word2 : read m 2 ≡ constantsStart A
-  pub global : q .gp ≡ 3
-  pub frame : q .fp ≤ q .mp
-  pub within : q .mp ≤ length m
-  pub height : q .height ≤ length s
-  pub depth : q .calls ≤ 64
-  pub links : chained m (framesStart A) (q .fp) (q .calls) ≡ true
+pub record Fitting (A : Areas) (S : State) : Type 0 where
+  pub areas : framesStart A ≤ length (S .memory)
+  pub room : length (S .memory) ≤ 16384
+  pub deep : length (S .stack) ≤ 1024
+  pub word0 : read (S .memory) 0 ≡ 0
+  pub word1 : read (S .memory) 1 ≡ 0
+  pub word2 : read (S .memory) 2 ≡ constantsStart A
+  pub global : S .registers .gp ≡ 3
+  pub frame : S .registers .fp ≤ S .registers .mp
+  pub within : S .registers .mp ≤ length (S .memory)
+  pub height : S .registers .height ≤ length (S .stack)
+  pub depth : S .registers .calls ≤ 64
+  pub links : chained (S .memory) (framesStart A) (S .registers .fp) (S .registers .calls) ≡ true
 
 three : (a b c : Bool) → (a && (b && c)) ≡ true → (a ≡ true) × (b ≡ true) × (c ≡ true)
 three a b c e =
@@ -45,8 +46,17 @@ sizes-taken A m s h =
     let z = three (leb (framesStart A) (length m)) (leb (length m) 16384) (leb (length s) 1024) h in
     (leb-true (framesStart A) (length m) (z .0), leb-true (length m) 16384 (z .1), leb-true (length s) 1024 (z .2))
 
-module _ (A : Areas) (q : Registers) (m s : List ℕ) where
-  pub fitting : fits A q m s ≡ true → Fitting A q m s
+module _ (A : Areas) (S : State) where
+  abbrev q : Registers
+  q = S .registers
+
+  abbrev m : List ℕ
+  m = S .memory
+
+  abbrev s : List ℕ
+  s = S .stack
+
+  pub fitting : fits A S ≡ true → Fitting A S
   unfolding fits headerKept registersFit
   fitting h =
       let w = three (sizesTaken A m s) (headerKept A m) (registersFit q m s && chained m (framesStart A) (q .fp) (q .calls)) h in
@@ -70,7 +80,7 @@ module _ (A : Areas) (q : Registers) (m s : List ℕ) where
         links = l .1;
       }
 
-  pub fitted : Fitting A q m s → fits A q m s ≡ true
+  pub fitted : Fitting A S → fits A S ≡ true
   unfolding fits sizesTaken headerKept registersFit
   fitted f =
       rw (

@@ -7,6 +7,7 @@ use lib.ListN.{length}
 use Rattle.registers.specs.declared.Registers.{Registers}
 use Rattle.registers.specs.declared.Areas.{Areas}
 use Rattle.registers.specs.Program.{globalsStart, constantsStart, framesStart}
+use Rattle.registers.specs.State.{State}
 use Rattle.registers.specs.Memory.{read, chained}
 
 -- 01, number 8: "memory under 3+g+c or over 16,384, stack over 1,024".
@@ -24,6 +25,9 @@ registersFit q m s =
 
 -- "A state fits when the lent sizes are ones load takes, words 0 to 2 are as loaded, .., and following the saved FP that many
 -- times, each at least 2 lower, ends at 3+g+c."
-unfoldable pub fits : Areas → Registers → List ℕ → List ℕ → Bool
-fits A q m s =
-    sizesTaken A m s && (headerKept A m && (registersFit q m s && chained m (framesStart A) (q .fp) (q .calls)))
+unfoldable pub fits : Areas → State → Bool
+fits A S =
+    sizesTaken A (S .memory) (S .stack)
+    && (headerKept A (S .memory)
+    && (registersFit (S .registers) (S .memory) (S .stack)
+    && chained (S .memory) (framesStart A) (S .registers .fp) (S .registers .calls)))

@@ -1,6 +1,7 @@
 // Which states a run takes.
 ghost use mathlib.Core.Path.{_≡_};
 ghost use Rattle.state.specs.Fits.{sizesTaken, headerKept, registersFit, fits};
+ghost use Rattle.registers.specs.State.{state};
 ghost use Rattle.registers.specs.Memory.{chained};
 use registers::Areas;
 use registers::Registers;
@@ -70,7 +71,7 @@ fn registers_fit(q: Registers, memory: &[u32], stack: &[u32]) -> bool
 }
 
 pub fn state_fits(areas: Areas, q: Registers, memory: &[u32], stack: &[u32]) -> bool
-    ensures { λ b. ⌜ b ≡ fits areas q (now (memory .entry)) (now (stack .entry)) ⌝ }
+    ensures { λ b. ⌜ b ≡ fits areas (state q (now (memory .entry)) (now (stack .entry))) ⌝ }
 {
     if !sizes_taken(areas, memory, stack) {
         return false;

@@ -1,4 +1,6 @@
--- How many words are pushed, the effects of each group, and what a step leaves.
+-- How many words are pushed, what a step leaves, and that it leaves a state that fits.
 pub mod Pushing
-pub mod Carrying
-pub mod Leaving
+pub mod Outcomes
+pub mod Intact
+pub mod Steady
+pub mod Preservation

@@ -1,3 +1,2 @@
--- A step, and the effects that a part of it carries out.
+-- A step.
 pub mod Step
-pub mod Carry

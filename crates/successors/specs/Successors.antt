@@ -17,16 +17,19 @@ tableSize Ranges n = n
 
 -- Where branch k goes; for SWITCH_X "distance 0 means ELSE".
 abbrev pub tableTarget : List ℕ → ℕ → Table → ℕ → ℕ
-tableTarget code at Branches k = at + branchDistance code at k
-tableTarget code at Ranges k = at + orElse (rangeDistance code at k) (elseDistance code at)
+tableTarget code at Branches k = placeAt at (branchDistance code at k)
+tableTarget code at Ranges k = placeAt at (orElse (rangeDistance code at k) (elseDistance code at))
 
 -- Where n branches from k on go.
 abbrev pub tableFrom : List ℕ → ℕ → Table → ℕ → ℕ → List ℕ
 tableFrom code at t k n = series (tableTarget code at t) 1 k n
 
+abbrev pub elseTarget : List ℕ → ℕ → ℕ
+elseTarget code at = placeAt at (elseDistance code at)
+
 -- The ELSE part, then every branch of the table.
 unfoldable pub switchTargets : List ℕ → ℕ → Table → ℕ → List ℕ
-switchTargets code at t n = (at + elseDistance code at) ∷ tableFrom code at t 0 (tableSize t n)
+switchTargets code at t n = elseTarget code at ∷ tableFrom code at t 0 (tableSize t n)
 
 -- The successors of the instruction at an offset, of a shape, before `next`; and the label of a switch.
 abbrev pub targets : List ℕ → ℕ → ℕ → Shape → List ℕ

@@ -1,9 +1,9 @@
 // Where control may go.
 ghost use mathlib.Core.Path.{_≡_};
-ghost use Prim.Native.Nat.{_<_, _+_};
+ghost use Prim.Native.Nat.{_<_};
 ghost use Rattle.operand.specs.Distance.{placeAt};
-ghost use Rattle.switch_table.specs.Switch.{elseDistance, exitLabel};
-ghost use Rattle.successors.specs.Successors.{tableSize, tableTarget};
+ghost use Rattle.switch_table.specs.Switch.{exitLabel};
+ghost use Rattle.successors.specs.Successors.{tableSize, tableTarget, elseTarget};
 use shape::Table;
 
 // The place at a distance from an offset of the code.
@@ -18,14 +18,14 @@ pub fn exit_label(code: &[u8], at: usize) -> usize
     requires { ⌜ at < 65536 ⌝ }
     ensures { λ r. ⌜ r ≡ exitLabel (now (code .entry)) at ⌝ }
 {
-    at + (switch_table::exit_distance(code, at) as usize)
+    switch_table::exit_label(code, at as u32) as usize
 }
 
 pub fn else_target(code: &[u8], at: usize) -> usize
     requires { ⌜ at < 65536 ⌝ }
-    ensures { λ r. ⌜ r ≡ at + elseDistance (now (code .entry)) at ⌝ }
+    ensures { λ r. ⌜ r ≡ elseTarget (now (code .entry)) at ⌝ }
 {
-    at + (switch_table::else_distance(code, at) as usize)
+    place_at(at, switch_table::else_distance(code, at) as u32)
 }
 
 // How many branches a switch's table has.
@@ -44,13 +44,13 @@ pub fn table_target(code: &[u8], at: usize, table: Table, k: u32) -> usize
     ensures { λ r. ⌜ r ≡ tableTarget (now (code .entry)) at table k ⌝ }
 {
     match table {
-        Table::Branches => at + (switch_table::branch_distance(code, at, k) as usize),
+        Table::Branches => place_at(at, switch_table::branch_distance(code, at, k) as u32),
         Table::Ranges => {
             let distance = switch_table::range_distance(code, at, k);
             if distance == 0 {
                 return else_target(code, at);
             }
-            at + (distance as usize)
+            place_at(at, distance as u32)
         }
     }
 }

@@ -8,6 +8,7 @@ use lib.Signed.{leZ}
 use mir.Syntax.{w32}
 use mir.Val.{toZ}
 use Rattle.words.specs.Bytes.{halfwordAt, wordAt}
+use Rattle.operand.specs.Distance.{placeAt}
 
 -- Z, the distance to the end of the case statement, and E, the distance to the ELSE part.
 unfoldable pub exitDistance : List ℕ → ℕ → ℕ
@@ -18,7 +19,7 @@ elseDistance code at = halfwordAt code (at + 5)
 
 -- The exit label of a switch, which it pushes and where its LEAVE goes.
 abbrev pub exitLabel : List ℕ → ℕ → ℕ
-exitLabel code at = at + exitDistance code at
+exitLabel code at = placeAt at (exitDistance code at)
 
 -- SWITCH: the distance to branch k of 0 .. n.
 unfoldable pub branchDistance : List ℕ → ℕ → ℕ → ℕ

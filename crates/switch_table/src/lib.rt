@@ -1,11 +1,18 @@
 // The tables behind SWITCH and SWITCH_X, whose code byte stands at `at`.
 ghost use mathlib.Core.Path.{_≡_};
-ghost use Rattle.switch_table.specs.Switch.{exitDistance, elseDistance, branchDistance, rangeDistance, rangeHolds, searchDistance};
+ghost use Rattle.switch_table.specs.Switch.{exitDistance, exitLabel, elseDistance, branchDistance, rangeDistance, rangeHolds, searchDistance};
 
 pub fn exit_distance(code: &[u8], at: usize) -> u16
     ensures { λ n. ⌜ n ≡ exitDistance (now (code .entry)) at ⌝ }
 {
     words::halfword_behind(code, at, 3)
+}
+
+// The exit label of a switch.
+pub fn exit_label(code: &[u8], at: u32) -> u32
+    ensures { λ r. ⌜ r ≡ exitLabel (now (code .entry)) at ⌝ }
+{
+    operand::place_at(at, exit_distance(code, at as usize) as u32)
 }
 
 pub fn else_distance(code: &[u8], at: usize) -> u16

@@ -8,16 +8,15 @@ returns : tie.Need-returns
 returns c = rw (eq-eqb (c .before .before .args .p) 0 (c .if1 .taken))
 
 returns-2 : tie.Need-returns-2
-returns-2 c = rw (ne-eqb (c .before .before .before .before .args .p) 0 (c .before .before .if1 .left), c .byte-at .ensures, c .before .entry-at .ensures)
+returns-2 c =
+    let byte-at = c .byte-at in
+    let entry-at = c .before .entry-at in
+    let if1 = c .before .before .if1 in
+    let a = c .before .before .before .before .args in
+    rw (ne-eqb (a .p) 0 (if1 .left), byte-at .ensures, entry-at .ensures)
 
 pub callee-parameters-spec : {M : Type 1} → statement M
 callee-parameters-spec =
     tie.close
-    (tie.spec
-    returns
-    (λ c κs. search needs)
-    (λ c. search needs)
-    (λ c. search needs)
-    (λ c κs. search needs)
-    (λ c. search needs)
-    returns-2)
+    (tie.spec returns (λ c κs. search needs) (λ c. search needs) (λ c. search needs) (λ c κs. search needs)
+    (λ c. search needs) returns-2)

@@ -27,15 +27,5 @@ returns-2 c =
 pub iter-ways-spec : {M : Type 1} → statement M
 iter-ways-spec =
     tie.close
-    (tie.spec
-    (λ c κs. search needs)
-    returns
-    (λ c. search needs)
-    (λ c. search needs)
-    (λ c. search needs)
-    (λ c. search needs)
-    sub-height
-    (λ c. search needs)
-    (λ c κs. search needs)
-    (λ c κs. search needs)
-    returns-2)
+    (tie.spec (λ c κs. search needs) returns (λ c. search needs) (λ c. search needs) (λ c. search needs) (λ c. search needs)
+    sub-height (λ c. search needs) (λ c κs. search needs) (λ c κs. search needs) returns-2)

@@ -27,11 +27,5 @@ returns-2 c =
 pub jump-c-ways-spec : {M : Type 1} → statement M
 jump-c-ways-spec =
     tie.close
-    (tie.spec
-    (λ c κs. search needs)
-    returns
-    sub-rest
-    (λ c. search needs)
-    (λ c κs. search needs)
-    (λ c κs. search needs)
+    (tie.spec (λ c κs. search needs) returns sub-rest (λ c. search needs) (λ c κs. search needs) (λ c κs. search needs)
     returns-2)

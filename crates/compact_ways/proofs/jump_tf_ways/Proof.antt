@@ -33,12 +33,5 @@ returns-2 c =
 pub jump-tf-ways-spec : {M : Type 1} → statement M
 jump-tf-ways-spec =
     tie.close
-    (tie.spec
-    (λ c κs. search needs)
-    returns
-    sub-way-toward
-    (λ c. search needs)
-    (λ c κs. search needs)
-    (λ c κs. search needs)
-    (λ c κs. search needs)
-    returns-2)
+    (tie.spec (λ c κs. search needs) returns sub-way-toward (λ c. search needs) (λ c κs. search needs) (λ c κs. search needs)
+    (λ c κs. search needs) returns-2)

@@ -75,15 +75,5 @@ returns-4 c =
 pub leave-ways-spec : {M : Type 1} → statement M
 leave-ways-spec =
     tie.close
-    (tie.spec
-    returns
-    (λ c. search needs)
-    (λ c. search needs)
-    (λ c κs. search needs)
-    returns-2
-    (λ c κs. search needs)
-    returns-3
-    (λ c. search needs)
-    (λ c κs. search needs)
-    (λ c κs. search needs)
-    returns-4)
+    (tie.spec returns (λ c. search needs) (λ c. search needs) (λ c κs. search needs) returns-2 (λ c κs. search needs)
+    returns-3 (λ c. search needs) (λ c κs. search needs) (λ c κs. search needs) returns-4)

@@ -31,6 +31,4 @@ returns-4 : tie.Need-returns-4
 returns-4 c = rw (several (c .before .before), eq-eqb _ 0 (c .before .if2 .left), le-leb 4 _ (c .if3 .left))
 
 pub count-sound-spec : {M : Type 1} → statement M
-count-sound-spec =
-    tie.close
-    (tie.spec (λ c κs. search needs) returns (λ c κs. search needs) returns-2 returns-3 returns-4)
+count-sound-spec = tie.close (tie.spec (λ c κs. search needs) returns (λ c κs. search needs) returns-2 returns-3 returns-4)

@@ -14,5 +14,4 @@ unfolding entryCount
 returns-2 c = rw (← c .before .before .entry-at .ensures, ne-eqb _ 2 (c .before .if1 .left), c .entry-at2 .ensures)
 
 pub entry-count-spec : {M : Type 1} → statement M
-entry-count-spec =
-    tie.close (tie.spec (λ c κs. search needs) returns (λ c κs. search needs) (λ c. search needs) returns-2)
+entry-count-spec = tie.close (tie.spec (λ c κs. search needs) returns (λ c κs. search needs) (λ c. search needs) returns-2)

@@ -10,7 +10,11 @@ returns c = rw (← c .before .before .before .region-end .ensures, ← c .befor
 
 returns-2 : tie.Need-returns-2
 unfolding faultAt
-returns-2 c = rw (← c .before .before .before .region-end .ensures, ← c .before .before .decode .ensures, c .enum-told2 .given .1)
+returns-2 c =
+    let enum-told2 = c .enum-told2 in
+    let decode = c .before .before .decode in
+    let region-end = c .before .before .before .region-end in
+    rw (← region-end .ensures, ← decode .ensures, enum-told2 .given .1)
 
 returns-3 : tie.Need-returns-3
 unfolding faultAt
@@ -26,14 +30,5 @@ returns-3 c =
 pub fault-at-spec : {M : Type 1} → statement M
 fault-at-spec =
     tie.close
-    (tie.spec
-    (λ c κs. search needs)
-    (λ c κs. search needs)
-    (λ c. search needs)
-    (λ c. search needs)
-    (λ c. search needs)
-    (λ c κs. search needs)
-    (λ c κs. search needs)
-    returns
-    returns-2
-    returns-3)
+    (tie.spec (λ c κs. search needs) (λ c κs. search needs) (λ c. search needs) (λ c. search needs) (λ c. search needs)
+    (λ c κs. search needs) (λ c κs. search needs) returns returns-2 returns-3)

@@ -50,14 +50,15 @@ returns c =
 
 loop-again : tie.Need-loop-again Inv-loop μ-loop
 loop-again c =
-    let starts = c .before .starts-in in
-    c .before .before .before .before .loop .inv
-    ∙ rw (
-      one-left (c .before .before .before .before .loop .k) (c .before .before .before .before .before .table-size .result) (c .before .before .before .loop-test .taken),
-      ← c .before .before .table-target .ensures,
-      ← starts .ensures,
-      not-false (starts .result) (c .if1 .left),
-    )
+    let if1 = c .if1 in
+    let starts-in = c .before .starts-in in
+    let table-target = c .before .before .table-target in
+    let loop-test = c .before .before .before .loop-test in
+    let loop = c .before .before .before .before .loop in
+    let table-size = c .before .before .before .before .before .table-size in
+    let starts = starts-in in
+    loop .inv ∙ rw
+    (one-left (loop .k) (table-size .result) (loop-test .taken), ← table-target .ensures, ← starts .ensures, not-false (starts .result) (if1 .left))
 
 returns-2 : tie.Need-returns-2 Inv-loop μ-loop
 returns-2 c = rw (← c .before .before .table-size .ensures, c .before .loop .inv, sub-eq-zero-of-le (c .loop-test .left))
@@ -65,16 +66,5 @@ returns-2 c = rw (← c .before .before .table-size .ensures, c .before .loop .i
 pub table-starts-spec : {M : Type 1} → statement M
 table-starts-spec =
     tie.close
-    (tie.spec
-    Inv-loop
-    μ-loop
-    (λ c κs. search needs)
-    loop-holds
-    cast-table-target
-    (λ c κs. search needs)
-    (λ c κs. search needs)
-    returns
-    (λ c. search needs)
-    (λ c. search needs)
-    loop-again
-    returns-2)
+    (tie.spec Inv-loop μ-loop (λ c κs. search needs) loop-holds cast-table-target (λ c κs. search needs)
+    (λ c κs. search needs) returns (λ c. search needs) (λ c. search needs) loop-again returns-2)

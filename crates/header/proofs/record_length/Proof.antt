@@ -14,5 +14,4 @@ unfolding recordLength
 returns c = omega arith
 
 pub record-length-spec : {M : Type 1} → statement M
-record-length-spec =
-    tie.close (tie.spec (λ c κs. search needs) (λ c. search needs) (λ c. search needs) add-result returns)
+record-length-spec = tie.close (tie.spec (λ c κs. search needs) (λ c. search needs) (λ c. search needs) add-result returns)

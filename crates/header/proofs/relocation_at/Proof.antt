@@ -14,5 +14,4 @@ unfolding relocationAt
 returns c = omega arith
 
 pub relocation-at-spec : {M : Type 1} → statement M
-relocation-at-spec =
-    tie.close (tie.spec (λ c κs. search needs) (λ c. search needs) (λ c. search needs) add-result returns)
+relocation-at-spec = tie.close (tie.spec (λ c κs. search needs) (λ c. search needs) (λ c. search needs) add-result returns)

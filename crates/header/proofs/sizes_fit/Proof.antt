@@ -63,5 +63,4 @@ returns-7 c = rw (
 )
 
 pub sizes-fit-spec : {M : Type 1} → statement M
-sizes-fit-spec =
-    tie.close (tie.spec returns returns-2 returns-3 returns-4 returns-5 returns-6 returns-7)
+sizes-fit-spec = tie.close (tie.spec returns returns-2 returns-3 returns-4 returns-5 returns-6 returns-7)

@@ -14,5 +14,4 @@ unfolding sourcesAt
 returns c = omega arith
 
 pub sources-at-spec : {M : Type 1} → statement M
-sources-at-spec =
-    tie.close (tie.spec (λ c κs. search needs) (λ c. search needs) (λ c. search needs) add-result returns)
+sources-at-spec = tie.close (tie.spec (λ c κs. search needs) (λ c. search needs) (λ c. search needs) add-result returns)

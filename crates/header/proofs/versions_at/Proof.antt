@@ -14,5 +14,4 @@ unfolding versionsAt
 returns c = omega arith
 
 pub versions-at-spec : {M : Type 1} → statement M
-versions-at-spec =
-    tie.close (tie.spec (λ c κs. search needs) (λ c. search needs) (λ c. search needs) add-result returns)
+versions-at-spec = tie.close (tie.spec (λ c κs. search needs) (λ c. search needs) (λ c. search needs) add-result returns)

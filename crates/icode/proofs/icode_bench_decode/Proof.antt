@@ -81,21 +81,6 @@ returns-4 c =
 pub icode-bench-decode-spec : {M : Type 1} → statement M
 icode-bench-decode-spec =
     tie.close
-    (tie.spec
-    returns
-    (λ c κs. search needs)
-    (λ c. search needs)
-    (λ c. search needs)
-    (λ c. search needs)
-    (λ c κs. search needs)
-    (λ c. search needs)
-    (λ c. search needs)
-    slice-write-out-3
-    slice-write-out-4
-    sub-out
-    cast-out
-    slice-write-out-5
-    returns-2
-    returns-3
-    (λ c. search needs)
-    returns-4)
+    (tie.spec returns (λ c κs. search needs) (λ c. search needs) (λ c. search needs) (λ c. search needs)
+    (λ c κs. search needs) (λ c. search needs) (λ c. search needs) slice-write-out-3 slice-write-out-4 sub-out cast-out
+    slice-write-out-5 returns-2 returns-3 (λ c. search needs) returns-4)

@@ -5,15 +5,12 @@ use Rattle.icode.proofs.icode_report.Statement.{statement}
 use Rattle.icode.proofs.icode_report.Tie as tie
 
 returns : tie.Need-returns
-returns c = report-prints (c .before .before .before .before .before .before .before .before .before .before .before .before .args .file .now) (c .before .before .before .before .before .before .before .before .before .before .before .before .args .out .now) (c .before .before .before .before .before .report .ensures)
+returns c =
+    let report = c .before .before .before .before .before .report in
+    let a = c .before .before .before .before .before .before .before .before .before .before .before .before .args in
+    report-prints (a .file .now) (a .out .now) (report .ensures)
 
 pub icode-report-spec : {M : Type 1} → statement M
 icode-report-spec =
     tie.close
-    (tie.spec
-    (λ c. search needs)
-    (λ c. search needs)
-    (λ c. search needs)
-    (λ c κs. search needs)
-    (λ c. search needs)
-    returns)
+    (tie.spec (λ c. search needs) (λ c. search needs) (λ c. search needs) (λ c κs. search needs) (λ c. search needs) returns)

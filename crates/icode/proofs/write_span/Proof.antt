@@ -21,10 +21,4 @@ returns c =
 pub write-span-spec : {M : Type 1} → statement M
 write-span-spec =
     tie.close
-    (tie.spec
-    (λ c. search needs)
-    slice-write-out-2
-    slice-write-out-3
-    (λ c. search needs)
-    (λ c. search needs)
-    returns)
+    (tie.spec (λ c. search needs) slice-write-out-2 slice-write-out-3 (λ c. search needs) (λ c. search needs) returns)

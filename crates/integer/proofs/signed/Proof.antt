@@ -14,7 +14,11 @@ sub-result : tie.Need-sub-result
 sub-result c = high-fits (c .before .args .word) (omega arith) (omega (arith, c .before .fits .word))
 
 returns-2 : tie.Need-returns-2
-returns-2 c = toZ-ofZ (high-fits (c .before .args .word) (omega arith) (omega (arith, c .before .fits .word))) ∙ high (c .before .args .word) (omega arith) (omega (arith, c .before .fits .word))
+returns-2 c =
+    let a = c .before .args in
+    let fits = c .before .fits in
+    toZ-ofZ (high-fits (a .word) (omega arith) (omega (arith, fits .word))) ∙ high (a .word) (omega arith)
+    (omega (arith, fits .word))
 
 pub signed-spec : {M : Type 1} → statement M
 signed-spec = tie.close (tie.spec (λ c. search needs) returns (λ c. search needs) sub-result returns-2)

@@ -14,20 +14,28 @@ returns c =
 
 returns-2 : tie.Need-returns-2
 returns-2 c =
-    let a = c .before .before .before .before .before .args in
-    sym (word-third (a .r .now) (a .parameters .now) (a .h) (c .before .before .before .before .before .pre .0) (a .i) (c .before .if2 .taken))
+    let if2 = c .before .if2 in
+    let args = c .before .before .before .before .before .args in
+    let pre = c .before .before .before .before .before .pre in
+    let a = args in
+    sym (word-third (a .r .now) (a .parameters .now) (a .h) (pre .0) (a .i) (if2 .taken))
 
 returns-3 : tie.Need-returns-3
 returns-3 c =
-    let a = c .before .before .before .before .before .before .args in
-    sym (word-parameter (a .r .now) (a .parameters .now) (a .h) (c .before .before .before .before .before .before .pre .0) (a .i) (omega arith)
-    (c .before .if3 .taken))
+    let if3 = c .before .if3 in
+    let args = c .before .before .before .before .before .before .args in
+    let pre = c .before .before .before .before .before .before .pre in
+    let a = args in
+    sym (word-parameter (a .r .now) (a .parameters .now) (a .h) (pre .0) (a .i) (omega arith) (if3 .taken))
 
 returns-4 : tie.Need-returns-4
 returns-4 c =
-    let a = c .before .before .before .before .before .before .before .args in
-    sym (word-global (a .r .now) (a .parameters .now) (a .h) (c .before .before .before .before .before .before .before .pre .0) (a .i) (omega arith)
-    (c .before .before .if3 .left) (c .if4 .taken))
+    let if4 = c .if4 in
+    let if3 = c .before .before .if3 in
+    let args = c .before .before .before .before .before .before .before .args in
+    let pre = c .before .before .before .before .before .before .before .pre in
+    let a = args in
+    sym (word-global (a .r .now) (a .parameters .now) (a .h) (pre .0) (a .i) (omega arith) (if3 .left) (if4 .taken))
 
 add-word-at : tie.Need-add-word-at
 unfolding codeAt constantsAt
@@ -51,20 +59,6 @@ returns-6 c =
 pub initial-word-spec : {M : Type 1} → statement M
 initial-word-spec =
     tie.close
-    (tie.spec
-    returns
-    (λ c. search needs)
-    returns-2
-    (λ c. search needs)
-    (λ c. search needs)
-    (λ c. search needs)
-    returns-3
-    (λ c. search needs)
-    returns-4
-    (λ c. search needs)
-    (λ c κs. search needs)
-    (λ c. search needs)
-    add-word-at
-    (λ c κs. search needs)
-    returns-5
-    returns-6)
+    (tie.spec returns (λ c. search needs) returns-2 (λ c. search needs) (λ c. search needs) (λ c. search needs) returns-3
+    (λ c. search needs) returns-4 (λ c. search needs) (λ c κs. search needs) (λ c. search needs) add-word-at
+    (λ c κs. search needs) returns-5 returns-6)

@@ -15,44 +15,56 @@ returns c =
 
 returns-2 : tie.Need-returns-2
 returns-2 c =
-    let a = c .before .before .before .before .before .before .before .before .before .before .before .before .before .before .args in
-    let k = c .before .before .before .before .before .before .before .reading2 .given in
-    let s = sym (c .before .before .before .before .before .before .before .before .before .read .ensures) ∙ k .1 in
-    let t = c .before .sizes-taken in
-    let b = c .before .before .before .before .before .areas-in in
-    load-sizes (a .r .now) (a .parameters .now) (a .memory .now) (a .stack .now) (k .0 .0) s
-    (b .result) (t .result) (b .ensures) (t .ensures)
-    (c .before .before .before .if1 .left) (not-true (t .result) (c .if2 .taken))
+    let if2 = c .if2 in
+    let sizes-taken = c .before .sizes-taken in
+    let if1 = c .before .before .before .if1 in
+    let areas-in = c .before .before .before .before .before .areas-in in
+    let reading2 = c .before .before .before .before .before .before .before .reading2 in
+    let earlier = c .before .before .before .before .before .before .before .before .before in
+    let read = earlier .read in
+    let args = earlier .before .before .before .before .before .args in
+    let a = args in
+    let k = reading2 .given in
+    let s = sym (read .ensures) ∙ k .1 in
+    let t = sizes-taken in
+    let b = areas-in in
+    load-sizes (a .r .now) (a .parameters .now) (a .memory .now) (a .stack .now) (k .0 .0) s (b .result) (t .result)
+    (b .ensures) (t .ensures) (if1 .left) (not-true (t .result) (if2 .taken))
 
 fill-requires : tie.Need-fill-requires
 fill-requires c κs =
-    let a = c .before .before .before .before .before .before .before .before .before .before .before .before .before .before .before .args in
-    let k = c .before .before .before .before .before .before .before .before .reading2 .given in
-    let s = sym (c .before .before .before .before .before .before .before .before .before .before .read .ensures) ∙ k .1 in
-    let t = c .before .before .sizes-taken in
-    let b = c .before .before .before .before .before .before .areas-in in (
-      sound-header (a .r .now) (k .0 .0) s .1,
-      (
-        load-globals (a .r .now) (a .parameters .now) (a .memory .now) (a .stack .now) (k .0 .0) s,
-        (
-          c .before .before .before .before .if1 .left,
-          load-frames (a .r .now) (a .parameters .now) (a .memory .now) (a .stack .now) (k .0 .0) s
-              (b .result) (t .result) (b .ensures) (t .ensures)
-              (c .before .before .before .before .if1 .left) (not-false (t .result) (c .before .if2 .left)) .0,
-        ),
-      ),
-    )
+    let if2 = c .before .if2 in
+    let sizes-taken = c .before .before .sizes-taken in
+    let if1 = c .before .before .before .before .if1 in
+    let areas-in = c .before .before .before .before .before .before .areas-in in
+    let earlier = c .before .before .before .before .before .before .before .before in
+    let reading2 = earlier .reading2 in
+    let read = earlier .before .before .read in
+    let args = earlier .before .before .before .before .before .before .before .args in
+    let a = args in
+    let k = reading2 .given in
+    let s = sym (read .ensures) ∙ k .1 in
+    let t = sizes-taken in
+    let b = areas-in in
+    (sound-header (a .r .now) (k .0 .0) s .1, (load-globals (a .r .now) (a .parameters .now) (a .memory .now) (a .stack .now) (k .0 .0) s, (if1 .left, load-frames (a .r .now) (a .parameters .now) (a .memory .now) (a .stack .now) (k .0 .0) s (b .result) (t .result) (b .ensures) (t .ensures) (if1 .left) (not-false (t .result) (if2 .left)) .0)))
 
 start-of-requires : tie.Need-start-of-requires
 start-of-requires c κs =
-    let a = c .before .before .before .before .before .before .before .before .before .before .before .before .before .before .before .before .before .before .before .args in
-    let k = c .before .before .before .before .before .before .before .before .before .before .before .before .reading2 .given in
-    let s = sym (c .before .before .before .before .before .before .before .before .before .before .before .before .before .before .read .ensures) ∙ k .1 in
-    let t = c .before .before .before .before .before .before .sizes-taken in
-    let b = c .before .before .before .before .before .before .before .before .before .before .areas-in in
-    load-frames (a .r .now) (a .parameters .now) (a .memory .now) (a .stack .now) (k .0 .0) s
-    (b .result) (t .result) (b .ensures) (t .ensures)
-    (c .before .before .before .before .before .before .before .before .if1 .left) (not-false (t .result) (c .before .before .before .before .before .if2 .left)) .1
+    let if2 = c .before .before .before .before .before .if2 in
+    let sizes-taken = c .before .before .before .before .before .before .sizes-taken in
+    let earlier = c .before .before .before .before .before .before .before .before in
+    let if1 = earlier .if1 in
+    let areas-in = earlier .before .before .areas-in in
+    let reading2 = earlier .before .before .before .before .reading2 in
+    let read = earlier .before .before .before .before .before .before .read in
+    let args = earlier .before .before .before .before .before .before .before .before .before .before .before .args in
+    let a = args in
+    let k = reading2 .given in
+    let s = sym (read .ensures) ∙ k .1 in
+    let t = sizes-taken in
+    let b = areas-in in
+    load-frames (a .r .now) (a .parameters .now) (a .memory .now) (a .stack .now) (k .0 .0) s (b .result) (t .result)
+    (b .ensures) (t .ensures) (if1 .left) (not-false (t .result) (if2 .left)) .1
 
 returns-3 : tie.Need-returns-3
 returns-3 c =
@@ -63,38 +75,28 @@ returns-3 c =
 
 returns-4 : tie.Need-returns-4
 returns-4 c =
-    let a = c .before .before .before .before .before .before .before .before .before .before .before .before .before .before .before .before .before .before .before .before .args in
-    let k = c .before .before .before .before .before .before .before .before .before .before .before .before .before .reading2 .given in
-    let s = sym (c .before .before .before .before .before .before .before .before .before .before .before .before .before .before .before .read .ensures) ∙ k .1 in
-    let t = c .before .before .before .before .before .before .before .sizes-taken in
-    let b = c .before .before .before .before .before .before .before .before .before .before .before .areas-in in
-    rw (
-      c .start-of .ensures,
-      c .before .code-of .ensures,
-      b .ensures,
-      sound-header (a .r .now) (k .0 .0) s .1,
-      c .before .before .before .before .fill .ensures,
-    )
-    (load-ready (a .r .now) (a .parameters .now) (a .memory .now) (a .stack .now) (k .0 .0) s
-    (b .result) (t .result) (b .ensures) (t .ensures)
-    (c .before .before .before .before .before .before .before .before .before .if1 .left) (not-false (t .result) (c .before .before .before .before .before .before .if2 .left)))
+    let start-of = c .start-of in
+    let code-of = c .before .code-of in
+    let fill = c .before .before .before .before .fill in
+    let if2 = c .before .before .before .before .before .before .if2 in
+    let sizes-taken = c .before .before .before .before .before .before .before .sizes-taken in
+    let earlier = c .before .before .before .before .before .before .before .before .before in
+    let if1 = earlier .if1 in
+    let areas-in = earlier .before .before .areas-in in
+    let reading2 = earlier .before .before .before .before .reading2 in
+    let read = earlier .before .before .before .before .before .before .read in
+    let args = earlier .before .before .before .before .before .before .before .before .before .before .before .args in
+    let a = args in
+    let k = reading2 .given in
+    let s = sym (read .ensures) ∙ k .1 in
+    let t = sizes-taken in
+    let b = areas-in in
+    rw (start-of .ensures, code-of .ensures, b .ensures, sound-header (a .r .now) (k .0 .0) s .1, fill .ensures)
+    (load-ready (a .r .now) (a .parameters .now) (a .memory .now) (a .stack .now) (k .0 .0) s (b .result) (t .result) (b .ensures) (t .ensures) (if1 .left) (not-false (t .result) (if2 .left)))
 
 pub load-spec : {M : Type 1} → statement M
 load-spec =
     tie.close
-    (tie.spec
-    (λ c κs. search needs)
-    (λ c. search needs)
-    (λ c. search needs)
-    (λ c κs. search needs)
-    (λ c. search needs)
-    returns
-    (λ c κs. search needs)
-    (λ c. search needs)
-    returns-2
-    fill-requires
-    (λ c κs. search needs)
-    start-of-requires
-    returns-3
-    (λ c. search needs)
-    returns-4)
+    (tie.spec (λ c κs. search needs) (λ c. search needs) (λ c. search needs) (λ c κs. search needs) (λ c. search needs)
+    returns (λ c κs. search needs) (λ c. search needs) returns-2 fill-requires (λ c κs. search needs) start-of-requires
+    returns-3 (λ c. search needs) returns-4)

@@ -44,11 +44,5 @@ returns-3 c =
 pub decode-in-spec : {M : Type 1} → statement M
 decode-in-spec =
     tie.close
-    (tie.spec
-    (λ c κs. search needs)
-    returns
-    (λ c. search needs)
-    returns-2
-    instruction-at-requires
-    (λ c. search needs)
+    (tie.spec (λ c κs. search needs) returns (λ c. search needs) returns-2 instruction-at-requires (λ c. search needs)
     returns-3)

@@ -7,5 +7,4 @@ returns : tie.Need-returns
 returns c = rw (c .extend-halfword .ensures, c .before .halfword-behind .ensures)
 
 pub signed-halfword-spec : {M : Type 1} → statement M
-signed-halfword-spec =
-    tie.close (tie.spec (λ c κs. search needs) (λ c κs. search needs) returns)
+signed-halfword-spec = tie.close (tie.spec (λ c κs. search needs) (λ c κs. search needs) returns)

@@ -47,5 +47,4 @@ returns-4 : tie.Need-returns-4
 returns-4 c = word-is _ (fitted (c .before)) _ (level c)
 
 pub signed-word-spec : {M : Type 1} → statement M
-signed-word-spec =
-    tie.close (tie.spec returns returns-2 add-t3 cast-t4 returns-3 cast-t5 returns-4)
+signed-word-spec = tie.close (tie.spec returns returns-2 add-t3 cast-t4 returns-3 cast-t5 returns-4)

@@ -19,6 +19,4 @@ unfolding lineSpan
 returns-2 c = rw (← c .before .record-number .ensures, ne-eqb _ 0 (c .if1 .left))
 
 pub line-span-spec : {M : Type 1} → statement M
-line-span-spec =
-    tie.close
-    (tie.spec (λ c κs. search needs) (λ c κs. search needs) (λ c κs. search needs) returns returns-2)
+line-span-spec = tie.close (tie.spec (λ c κs. search needs) (λ c κs. search needs) (λ c κs. search needs) returns returns-2)

@@ -18,6 +18,4 @@ returns-2 c =
     rw (← line-agrees (a .r .now) (a .h) (a .offset), ← looked .lookup-at .ensures, told .lookup .given .1)
 
 pub line-at-spec : {M : Type 1} → statement M
-line-at-spec =
-    tie.close
-    (tie.spec (λ c κs. search needs) (λ c. search needs) (λ c. search needs) returns returns-2)
+line-at-spec = tie.close (tie.spec (λ c κs. search needs) (λ c. search needs) (λ c. search needs) returns returns-2)

@@ -6,20 +6,24 @@ use Rattle.report.proofs.Printing.{print-short, print-whole}
 use Rattle.report.proofs.print_ended.Tie as tie
 
 returns : tie.Need-returns
-returns c = print-short (endedText (c .before .before .before .before .before .before .before .before .before .args .r .now) (c .before .before .before .before .before .before .before .before .before .args .e) (c .before .before .before .before .before .before .before .before .before .args .memory .now) (c .before .before .before .before .before .before .before .before .before .args .stack .now)) (c .before .before .before .before .before .before .before .before .before .args .out .now) (c .before .before .before .put-ended .ensures) (c .if1 .taken)
+returns c =
+    let if1 = c .if1 in
+    let put-ended = c .before .before .before .put-ended in
+    let a = c .before .before .before .before .before .before .before .before .before .args in
+    print-short (endedText (a .r .now) (a .e) (a .memory .now) (a .stack .now)) (a .out .now) (put-ended .ensures)
+    (if1 .taken)
 
 returns-2 : tie.Need-returns-2
-returns-2 c = print-whole (endedText (c .before .before .before .before .before .before .before .before .before .before .before .before .before .args .r .now) (c .before .before .before .before .before .before .before .before .before .before .before .before .before .args .e) (c .before .before .before .before .before .before .before .before .before .before .before .before .before .args .memory .now) (c .before .before .before .before .before .before .before .before .before .before .before .before .before .args .stack .now)) (c .before .before .before .before .before .before .before .before .before .before .before .before .before .args .out .now) (c .before .before .before .before .before .before .before .put-ended .ensures) (c .before .before .before .before .if1 .left) (c .before .before .put-ended2 .ensures)
+returns-2 c =
+    let put-ended2 = c .before .before .put-ended2 in
+    let if1 = c .before .before .before .before .if1 in
+    let put-ended = c .before .before .before .before .before .before .before .put-ended in
+    let a = c .before .before .before .before .before .before .before .before .before .before .before .before .before .args in
+    print-whole (endedText (a .r .now) (a .e) (a .memory .now) (a .stack .now)) (a .out .now) (put-ended .ensures)
+    (if1 .left) (put-ended2 .ensures)
 
 pub print-ended-spec : {M : Type 1} → statement M
 print-ended-spec =
     tie.close
-    (tie.spec
-    (λ c. search needs)
-    (λ c. search needs)
-    (λ c κs. search needs)
-    (λ c. search needs)
-    returns
-    (λ c κs. search needs)
-    (λ c. search needs)
-    returns-2)
+    (tie.spec (λ c. search needs) (λ c. search needs) (λ c κs. search needs) (λ c. search needs) returns
+    (λ c κs. search needs) (λ c. search needs) returns-2)

@@ -5,19 +5,19 @@ use Rattle.report.proofs.run_and_print.Statement.{statement}
 use Rattle.report.proofs.run_and_print.Tie as tie
 
 returns : tie.Need-returns
-returns c = ran (c .before .before .before .before .before .before .before .before .before .before .before .before .before .before .before .before .before .before .before .before .before .before .before .before .before .args .f .now) (c .before .before .before .before .before .before .before .before .before .before .before .before .before .before .before .before .before .before .before .before .before .before .before .before .before .args .workspace .now) (c .before .before .before .before .before .before .before .before .before .before .before .before .before .before .before .before .before .before .before .before .before .before .before .before .before .args .parameters .now) (c .before .before .before .before .before .before .before .before .before .before .before .before .before .before .before .before .before .before .before .before .before .before .before .before .before .args .memory .now) (c .before .before .before .before .before .before .before .before .before .before .before .before .before .before .before .before .before .before .before .before .before .before .before .before .before .args .stack .now) (c .before .before .before .before .before .before .before .before .before .before .before .before .before .before .before .before .before .before .before .before .before .before .before .before .before .args .out .now) (c .before .before .before .before .before .before .before .before .before .before .before .before .before .before .before .before .before .before .record-of .ensures) (c .before .before .before .before .before .before .before .before .before .before .before .before .before .before .before .before .before .results-of .ensures) (c .before .before .before .before .before .before .before .before .before .before .before .before .before .before .before .before .budget-of .ensures) (c .before .before .before .before .before .before .before .before .before .before .before .before .check-load-run .ensures .0) (c .before .before .print-answer .ensures)
+returns c =
+    let print-answer = c .before .before .print-answer in
+    let earlier = c .before .before .before .before .before .before .before .before .before .before .before .before in
+    let check-load-run = earlier .check-load-run in
+    let budget-of = earlier .before .before .before .before .budget-of in
+    let results-of = earlier .before .before .before .before .before .results-of in
+    let record-of = earlier .before .before .before .before .before .before .record-of in
+    let a = earlier .before .before .before .before .before .before .before .before .before .before .before .before .before .args in
+    ran (a .f .now) (a .workspace .now) (a .parameters .now) (a .memory .now) (a .stack .now) (a .out .now)
+    (record-of .ensures) (results-of .ensures) (budget-of .ensures) (check-load-run .ensures .0) (print-answer .ensures)
 
 pub run-and-print-spec : {M : Type 1} → statement M
 run-and-print-spec =
     tie.close
-    (tie.spec
-    (λ c κs. search needs)
-    (λ c κs. search needs)
-    (λ c κs. search needs)
-    (λ c κs. search needs)
-    (λ c κs. search needs)
-    (λ c. search needs)
-    (λ c. search needs)
-    (λ c. search needs)
-    (λ c. search needs)
-    returns)
+    (tie.spec (λ c κs. search needs) (λ c κs. search needs) (λ c κs. search needs) (λ c κs. search needs)
+    (λ c κs. search needs) (λ c. search needs) (λ c. search needs) (λ c. search needs) (λ c. search needs) returns)

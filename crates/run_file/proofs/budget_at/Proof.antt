@@ -10,7 +10,10 @@ add-result : tie.Need-add-result
 add-result c = omega (arith, c .before .shared-slice-known .given 5)
 
 mul-result : tie.Need-mul-result
-mul-result c = omega (arith, c .before .before .shared-slice-known .given (6 + resultsCount (c .before .before .before .args .f .now)))
+mul-result c =
+    let shared-slice-known = c .before .before .shared-slice-known in
+    let a = c .before .before .before .args in
+    omega (arith, shared-slice-known .given (6 + resultsCount (a .f .now)))
 
 add-result-2 : tie.Need-add-result-2
 add-result-2 c =
@@ -20,10 +23,4 @@ add-result-2 c =
 pub budget-at-spec : {M : Type 1} → statement M
 budget-at-spec =
     tie.close
-    (tie.spec
-    (λ c κs. search needs)
-    add-result
-    (λ c κs. search needs)
-    mul-result
-    add-result-2
-    (λ c. search needs))
+    (tie.spec (λ c κs. search needs) add-result (λ c κs. search needs) mul-result add-result-2 (λ c. search needs))

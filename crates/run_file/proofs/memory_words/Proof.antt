@@ -16,5 +16,4 @@ unfolding memoryWords
 returns c = rw (c .halfword-at .ensures, c .before .budget-at .ensures)
 
 pub memory-words-spec : {M : Type 1} → statement M
-memory-words-spec =
-    tie.close (tie.spec (λ c κs. search needs) add-halfword-at (λ c κs. search needs) returns)
+memory-words-spec = tie.close (tie.spec (λ c κs. search needs) add-halfword-at (λ c κs. search needs) returns)

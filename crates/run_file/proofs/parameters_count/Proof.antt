@@ -12,4 +12,5 @@ returns c = rw (c .byte-at .ensures, c .before .results-count .ensures)
 
 pub parameters-count-spec : {M : Type 1} → statement M
 parameters-count-spec =
-    tie.close (tie.spec (λ c κs. search needs) add-byte-at (λ c κs. search needs) (λ c. search needs) returns)
+    tie.close
+    (tie.spec (λ c κs. search needs) add-byte-at (λ c κs. search needs) (λ c. search needs) returns)

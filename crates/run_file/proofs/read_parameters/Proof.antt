@@ -51,19 +51,6 @@ returns c =
 pub read-parameters-spec : {M : Type 1} → statement M
 read-parameters-spec =
     tie.close
-    (tie.spec
-    Inv-loop
-    μ-loop
-    (λ c κs. search needs)
-    add-from
-    (λ c. search needs)
-    (λ c. search needs)
-    add-word-at
-    (λ c κs. search needs)
-    (λ c. search needs)
-    (λ c. search needs)
-    (λ c. search needs)
-    (λ c. search needs)
-    loop-again
-    (λ c. search needs)
-    returns)
+    (tie.spec Inv-loop μ-loop (λ c κs. search needs) add-from (λ c. search needs) (λ c. search needs) add-word-at
+    (λ c κs. search needs) (λ c. search needs) (λ c. search needs) (λ c. search needs) (λ c. search needs) loop-again
+    (λ c. search needs) returns)

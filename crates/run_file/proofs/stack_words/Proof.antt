@@ -16,5 +16,4 @@ unfolding stackWords
 returns c = rw (c .halfword-at .ensures, c .before .budget-at .ensures)
 
 pub stack-words-spec : {M : Type 1} → statement M
-stack-words-spec =
-    tie.close (tie.spec (λ c κs. search needs) add-halfword-at (λ c κs. search needs) returns)
+stack-words-spec = tie.close (tie.spec (λ c κs. search needs) add-halfword-at (λ c κs. search needs) returns)

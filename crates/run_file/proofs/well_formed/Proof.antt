@@ -66,14 +66,5 @@ returns-5 c = rw (
 pub well-formed-spec : {M : Type 1} → statement M
 well-formed-spec =
     tie.close
-    (tie.spec
-    returns
-    (λ c κs. search needs)
-    returns-2
-    (λ c κs. search needs)
-    returns-3
-    (λ c κs. search needs)
-    add-if4
-    returns-4
-    (λ c κs. search needs)
-    returns-5)
+    (tie.spec returns (λ c κs. search needs) returns-2 (λ c κs. search needs) returns-3 (λ c κs. search needs) add-if4
+    returns-4 (λ c κs. search needs) returns-5)

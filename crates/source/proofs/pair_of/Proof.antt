@@ -23,12 +23,5 @@ returns-2 c =
 pub pair-of-spec : {M : Type 1} → statement M
 pair-of-spec =
     tie.close
-    (tie.spec
-    returns
-    (λ c κs. search needs)
-    (λ c. search needs)
-    (λ c. search needs)
-    (λ c. search needs)
-    add-pair-at
-    (λ c κs. search needs)
-    returns-2)
+    (tie.spec returns (λ c κs. search needs) (λ c. search needs) (λ c. search needs) (λ c. search needs) add-pair-at
+    (λ c κs. search needs) returns-2)

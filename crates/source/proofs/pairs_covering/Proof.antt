@@ -38,29 +38,26 @@ unfolding codeAt constantsAt relocationAt versionsAt sourcesAt
 add-at c = omega arith
 
 loop-again : tie.Need-loop-again Inv-loop μ-loop
-loop-again c = (
-  omega arith,
-  omega arith,
-  c .before .before .before .before .loop .inv .2
-      ∙ rw (one-left _ _ (c .before .before .before .loop-test .taken), ← first-of _ _ (c .before .before .pair-at .ensures), le-leb _ _ (c .if1 .left)) (omega arith),
-)
+loop-again c =
+    let if1 = c .if1 in
+    let pair-at = c .before .before .pair-at in
+    let loop-test = c .before .before .before .loop-test in
+    let loop = c .before .before .before .before .loop in (
+      omega arith,
+      omega arith,
+      loop .inv .2 ∙ rw (one-left _ _ (loop-test .taken), ← first-of _ _ (pair-at .ensures), le-leb _ _ (if1 .left)) (omega arith),
+    )
 
 returns-2 : tie.Need-returns-2 Inv-loop μ-loop
 unfolding sourceOffsets
-returns-2 c = rw (← c .before .before .sources-at .ensures, c .before .loop .inv .2, sub-eq-zero-of-le (c .loop-test .left)) (omega arith)
+returns-2 c =
+    let loop-test = c .loop-test in
+    let loop = c .before .loop in
+    let sources-at = c .before .before .sources-at in
+    rw (← sources-at .ensures, loop .inv .2, sub-eq-zero-of-le (loop-test .left)) (omega arith)
 
 pub pairs-covering-spec : {M : Type 1} → statement M
 pairs-covering-spec =
     tie.close
-    (tie.spec
-    Inv-loop
-    μ-loop
-    (λ c κs. search needs)
-    loop-holds
-    (λ c κs. search needs)
-    returns
-    add-at
-    (λ c. search needs)
-    (λ c. search needs)
-    loop-again
-    returns-2)
+    (tie.spec Inv-loop μ-loop (λ c κs. search needs) loop-holds (λ c κs. search needs) returns add-at (λ c. search needs)
+    (λ c. search needs) loop-again returns-2)

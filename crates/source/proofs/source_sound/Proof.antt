@@ -75,20 +75,5 @@ returns-4 c = rw (left-decides (c .before), sub-eq-zero-of-le (c .loop-test .lef
 pub source-sound-spec : {M : Type 1} → statement M
 source-sound-spec =
     tie.close
-    (tie.spec
-    Inv-loop
-    μ-loop
-    returns
-    (λ c κs. search needs)
-    loop-holds
-    (λ c κs. search needs)
-    (λ c. search needs)
-    returns-2
-    returns-3
-    (λ c. search needs)
-    (λ c. search needs)
-    add-at
-    (λ c. search needs)
-    (λ c. search needs)
-    loop-again
-    returns-4)
+    (tie.spec Inv-loop μ-loop returns (λ c κs. search needs) loop-holds (λ c κs. search needs) (λ c. search needs) returns-2
+    returns-3 (λ c. search needs) (λ c. search needs) add-at (λ c. search needs) (λ c. search needs) loop-again returns-4)

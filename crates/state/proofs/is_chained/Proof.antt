@@ -15,7 +15,9 @@ abbrev μ-loop : tie.MeasureT-loop
 μ-loop memory start fp calls frame₀ counter₀ frame counter = calls - counter
 
 loop-holds : tie.Need-loop-holds Inv-loop μ-loop
-loop-holds c = followed-start (c .before .args .memory .now) (c .before .args .start) (c .before .args .fp) (c .before .args .calls)
+loop-holds c =
+    let a = c .before .args in
+    followed-start (a .memory .now) (a .start) (a .fp) (a .calls)
 
 returns : tie.Need-returns Inv-loop μ-loop
 returns c =
@@ -33,10 +35,16 @@ returns-2 c =
 
 loop-again : tie.Need-loop-again Inv-loop μ-loop
 loop-again c =
-    let a = c .before .before .before .before .before .before .args in
-    let l = c .before .before .before .before .loop in
-    rw (c .before .word-at .ensures) (followed-next (a .memory .now) (a .start) (a .fp) (a .calls) (l .frame) (l .counter) (l .inv)
-    (c .before .before .before .loop-test .taken) (omega (arith, c .before .word-at .ensures, c .before .before .if1 .left, c .if2 .left)))
+    let if2 = c .if2 in
+    let word-at = c .before .word-at in
+    let if1 = c .before .before .if1 in
+    let loop-test = c .before .before .before .loop-test in
+    let loop = c .before .before .before .before .loop in
+    let args = c .before .before .before .before .before .before .args in
+    let a = args in
+    let l = loop in
+    rw (word-at .ensures)
+    (followed-next (a .memory .now) (a .start) (a .fp) (a .calls) (l .frame) (l .counter) (l .inv) (loop-test .taken) (omega (arith, word-at .ensures, if1 .left, if2 .left)))
 
 returns-3 : tie.Need-returns-3 Inv-loop μ-loop
 returns-3 c =
@@ -47,15 +55,5 @@ returns-3 c =
 pub is-chained-spec : {M : Type 1} → statement M
 is-chained-spec =
     tie.close
-    (tie.spec
-    Inv-loop
-    μ-loop
-    loop-holds
-    returns
-    (λ c κs. search needs)
-    (λ c. search needs)
-    returns-2
-    (λ c. search needs)
-    (λ c. search needs)
-    loop-again
-    returns-3)
+    (tie.spec Inv-loop μ-loop loop-holds returns (λ c κs. search needs) (λ c. search needs) returns-2 (λ c. search needs)
+    (λ c. search needs) loop-again returns-3)

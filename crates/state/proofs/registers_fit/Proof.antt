@@ -53,4 +53,5 @@ returns-5 c =
 
 pub registers-fit-spec : {M : Type 1} → statement M
 registers-fit-spec =
-    tie.close (tie.spec returns returns-2 (λ c. search needs) returns-3 (λ c. search needs) returns-4 returns-5)
+    tie.close
+    (tie.spec returns returns-2 (λ c. search needs) returns-3 (λ c. search needs) returns-4 returns-5)

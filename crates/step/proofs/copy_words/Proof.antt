@@ -19,26 +19,23 @@ loop-holds : tie.Need-loop-holds Inv-loop μ-loop
 loop-holds c = (refl, omega arith, refl)
 
 loop-again : tie.Need-loop-again Inv-loop μ-loop
-loop-again c = (c .before .before .before .before .before .before .loop .inv .0, omega (arith, c .before .before .before .before .before .before .loop .inv .0), c .before .before .set-word .ensures ∙ (rw (c .before .before .before .before .before .before .loop .inv .2) (sets-one-more (c .before .before .before .before .before .before .before .before .before .args .dst .now) (c .before .before .before .before .before .before .before .before .before .args .src .now) (c .before .before .before .before .before .before .loop .i) (omega (arith, c .before .before .before .before .before .before .loop .inv .0)))))
+loop-again c =
+    let set-word = c .before .before .set-word in
+    let loop = c .before .before .before .before .before .before .loop in
+    let a = c .before .before .before .before .before .before .before .before .before .args in
+    (loop .inv .0, omega (arith, loop .inv .0), set-word .ensures ∙ (rw (loop .inv .2) (sets-one-more (a .dst .now) (a .src .now) (loop .i) (omega (arith, loop .inv .0)))))
 
 same-length : tie.Need-same-length Inv-loop μ-loop
 same-length c = rw (c .before .loop .inv .2, length-sets)
 
 returns : tie.Need-returns Inv-loop μ-loop
-returns c = c .before .loop .inv .2 ∙ rw (take-all (c .before .loop .i) (c .before .before .before .before .args .src .now) (omega (arith, c .before .loop .inv .0)))
+returns c =
+    let loop = c .before .loop in
+    let a = c .before .before .before .before .args in
+    loop .inv .2 ∙ rw (take-all (loop .i) (a .src .now) (omega (arith, loop .inv .0)))
 
 pub copy-words-spec : {M : Type 1} → statement M
 copy-words-spec =
     tie.close
-    (tie.spec
-    Inv-loop
-    μ-loop
-    loop-holds
-    (λ c. search needs)
-    (λ c. search needs)
-    (λ c κs. search needs)
-    (λ c. search needs)
-    (λ c. search needs)
-    loop-again
-    same-length
-    returns)
+    (tie.spec Inv-loop μ-loop loop-holds (λ c. search needs) (λ c. search needs) (λ c κs. search needs) (λ c. search needs)
+    (λ c. search needs) loop-again same-length returns)

@@ -12,44 +12,36 @@ use Rattle.words.proofs.Sets.{sets-out, sets-within}
 use Rattle.step.proofs.move_words.Tie as tie
 
 returns : tie.Need-returns
-returns c = sym (sets-out (c .before .before .before .args .memory .now) (c .before .before .before .args .a) (take (c .before .before .before .args .n) (drop (c .before .before .before .args .low) (c .before .before .before .args .stack .now))) (omega arith))
+returns c =
+    let a = c .before .before .before .args in
+    sym (sets-out (a .memory .now) (a .a) (take (a .n) (drop (a .low) (a .stack .now))) (omega arith))
 
 returns-2 : tie.Need-returns-2
-returns-2 c = rw (drop-of-length-le (c .before .before .before .before .args .stack .now) (c .if2 .taken), take-nil {A = ℕ} (c .before .before .before .before .args .n))
+returns-2 c =
+    let if2 = c .if2 in
+    let a = c .before .before .before .before .args in
+    rw (drop-of-length-le (a .stack .now) (if2 .taken), take-nil {A = ℕ} (a .n))
 
 returns-3 : tie.Need-returns-3
-returns-3 c = rw (← part-rest (c .before .before .before .before .before .before .before .before .before .before .args .stack .now) (c .before .before .before .before .before .before .before .before .before .before .args .low) (c .before .before .before .before .before .before .before .before .before .before .args .n) (omega arith)) (sets-within (c .before .before .before .before .before .before .before .before .before .before .args .memory .now) (c .before .before .before .before .before .before .before .before .before .before .args .a) (take (length (c .before .before .before .before .before .before .before .before .before .before .args .stack .now) - c .before .before .before .before .before .before .before .before .before .before .args .low) (drop (c .before .before .before .before .before .before .before .before .before .before .args .low) (c .before .before .before .before .before .before .before .before .before .before .args .stack .now))) (c .before .before .copy-words .last .0) (omega arith) (c .before .before .copy-words .ensures))
+returns-3 c =
+    let copy-words = c .before .before .copy-words in
+    let a = c .before .before .before .before .before .before .before .before .before .before .args in
+    rw (← part-rest (a .stack .now) (a .low) (a .n) (omega arith))
+    (sets-within (a .memory .now) (a .a) (take (length (a .stack .now) - a .low) (drop (a .low) (a .stack .now))) (copy-words .last .0) (omega arith) (copy-words .ensures))
 
 returns-4 : tie.Need-returns-4
-returns-4 c = let e : c .before .before .before .before .before .before .before .before .before .before .args .low + c .before .before .before .before .before .before .before .before .before .before .args .n - c .before .before .before .before .before .before .before .before .before .before .args .low ≡ c .before .before .before .before .before .before .before .before .before .before .args .n = omega arith in
-    rw (← e) (sets-within (c .before .before .before .before .before .before .before .before .before .before .args .memory .now) (c .before .before .before .before .before .before .before .before .before .before .args .a) (take (c .before .before .before .before .before .before .before .before .before .before .args .low + c .before .before .before .before .before .before .before .before .before .before .args .n - c .before .before .before .before .before .before .before .before .before .before .args .low) (drop (c .before .before .before .before .before .before .before .before .before .before .args .low) (c .before .before .before .before .before .before .before .before .before .before .args .stack .now))) (c .before .before .copy-words2 .last .0) (omega arith) (c .before .before .copy-words2 .ensures))
+returns-4 c =
+    let copy-words2 = c .before .before .copy-words2 in
+    let a = c .before .before .before .before .before .before .before .before .before .before .args in
+    let e : a .low + a .n - a .low ≡ a .n = omega arith in
+    rw (← e)
+    (sets-within (a .memory .now) (a .a) (take (a .low + a .n - a .low) (drop (a .low) (a .stack .now))) (copy-words2 .last .0) (omega arith) (copy-words2 .ensures))
 
 pub move-words-spec : {M : Type 1} → statement M
 move-words-spec =
     tie.close
-    (tie.spec
-    returns
-    returns-2
-    (λ c. search needs)
-    (λ c. search needs)
-    (λ c. search needs)
-    (λ c. search needs)
-    (λ c. search needs)
-    (λ c. search needs)
-    (λ c. search needs)
-    (λ c. search needs)
-    (λ c. search needs)
-    (λ c κs. search needs)
-    (λ c. search needs)
-    returns-3
-    (λ c. search needs)
-    (λ c. search needs)
-    (λ c. search needs)
-    (λ c. search needs)
-    (λ c. search needs)
-    (λ c. search needs)
-    (λ c. search needs)
-    (λ c. search needs)
-    (λ c κs. search needs)
-    (λ c. search needs)
-    returns-4)
+    (tie.spec returns returns-2 (λ c. search needs) (λ c. search needs) (λ c. search needs) (λ c. search needs)
+    (λ c. search needs) (λ c. search needs) (λ c. search needs) (λ c. search needs) (λ c. search needs)
+    (λ c κs. search needs) (λ c. search needs) returns-3 (λ c. search needs) (λ c. search needs) (λ c. search needs)
+    (λ c. search needs) (λ c. search needs) (λ c. search needs) (λ c. search needs) (λ c. search needs)
+    (λ c κs. search needs) (λ c. search needs) returns-4)

@@ -8,7 +8,11 @@ returns-2 : tie.Need-returns-2
 returns-2 c = rw (c .before .before .before .before .before .write .given .1, c .before .before .set-word .ensures)
 
 returns-3 : tie.Need-returns-3
-returns-3 c = rw (c .before .before .before .before .before .before .before .before .before .write2 .given .1, c .before .before .set-word3 .ensures, c .before .before .before .before .before .before .set-word2 .ensures, add-one)
+returns-3 c =
+    let set-word3 = c .before .before .set-word3 in
+    let set-word2 = c .before .before .before .before .before .before .set-word2 in
+    let write2 = c .before .before .before .before .before .before .before .before .before .write2 in
+    rw (write2 .given .1, set-word3 .ensures, set-word2 .ensures, add-one)
 
 returns-4 : tie.Need-returns-4
 returns-4 c = rw (c .before .before .before .before .before .write3 .given .1, c .before .before .move-words .ensures)
@@ -16,23 +20,7 @@ returns-4 c = rw (c .before .before .before .before .before .write3 .given .1, c
 pub write-words-spec : {M : Type 1} → statement M
 write-words-spec =
     tie.close
-    (tie.spec
-    (λ c. search needs)
-    (λ c. search needs)
-    (λ c. search needs)
-    (λ c κs. search needs)
-    (λ c. search needs)
-    (λ c. search needs)
-    (λ c κs. search needs)
-    (λ c. search needs)
-    (λ c. search needs)
-    (λ c κs. search needs)
-    (λ c. search needs)
-    (λ c κs. search needs)
-    (λ c. search needs)
-    (λ c. search needs)
-    returns-2
-    (λ c. search needs)
-    returns-3
-    (λ c. search needs)
-    returns-4)
+    (tie.spec (λ c. search needs) (λ c. search needs) (λ c. search needs) (λ c κs. search needs) (λ c. search needs)
+    (λ c. search needs) (λ c κs. search needs) (λ c. search needs) (λ c. search needs) (λ c κs. search needs)
+    (λ c. search needs) (λ c κs. search needs) (λ c. search needs) (λ c. search needs) returns-2 (λ c. search needs)
+    returns-3 (λ c. search needs) returns-4)

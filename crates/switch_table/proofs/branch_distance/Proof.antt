@@ -11,5 +11,4 @@ unfolding branchDistance
 returns c = rw (add-assoc (c .before .before .args .at) 7 (2 * c .before .before .args .k)) (c .halfword-behind .ensures)
 
 pub branch-distance-spec : {M : Type 1} → statement M
-branch-distance-spec =
-    tie.close (tie.spec (λ c. search needs) (λ c. search needs) (λ c κs. search needs) returns)
+branch-distance-spec = tie.close (tie.spec (λ c. search needs) (λ c. search needs) (λ c κs. search needs) returns)

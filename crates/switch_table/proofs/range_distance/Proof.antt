@@ -9,8 +9,11 @@ use Rattle.switch_table.proofs.range_distance.Tie as tie
 
 returns : tie.Need-returns
 unfolding rangeDistance
-returns c = let e : c .before .before .args .at + 7 + 10 * c .before .before .args .k + 8 ≡ c .before .before .args .at + (15 + 10 * c .before .before .args .k) = omega arith in rw e (c .halfword-behind .ensures)
+returns c =
+    let halfword-behind = c .halfword-behind in
+    let a = c .before .before .args in
+    let e : a .at + 7 + 10 * a .k + 8 ≡ a .at + (15 + 10 * a .k) = omega arith in
+    rw e (halfword-behind .ensures)
 
 pub range-distance-spec : {M : Type 1} → statement M
-range-distance-spec =
-    tie.close (tie.spec (λ c. search needs) (λ c. search needs) (λ c κs. search needs) returns)
+range-distance-spec = tie.close (tie.spec (λ c. search needs) (λ c. search needs) (λ c κs. search needs) returns)

@@ -55,14 +55,5 @@ returns-2 c =
 pub search-distance-spec : {M : Type 1} → statement M
 search-distance-spec =
     tie.close
-    (tie.spec
-    Inv-loop
-    μ-loop
-    loop-holds
-    (λ c κs. search needs)
-    (λ c κs. search needs)
-    add-k
-    loop-less
-    loop-again
-    returns
+    (tie.spec Inv-loop μ-loop loop-holds (λ c κs. search needs) (λ c κs. search needs) add-k loop-less loop-again returns
     returns-2)

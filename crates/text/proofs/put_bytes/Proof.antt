@@ -19,27 +19,27 @@ loop-holds : tie.Need-loop-holds Inv-loop μ-loop
 loop-holds c = (refl, omega arith, left-start refl (omega arith))
 
 loop-again : tie.Need-loop-again Inv-loop μ-loop
-loop-again c = (refl, omega (arith, c .before .before .before .before .before .before .loop .inv .0), left-next (c .before .before .before .before .before .before .loop .inv .2) (drop-one (c .before .before .before .before .before .before .before .before .before .args .s .now) (c .before .before .before .before .before .before .loop .i) (omega (arith, c .before .before .before .before .before .before .loop .inv .0))) (wrote-one (c .before .before .set-byte .ensures) (omega arith)))
+loop-again c =
+    let the-set-byte = c .before .before .set-byte in
+    let the-loop = c .before .before .before .before .before .before .loop in
+    let args = c .before .before .before .before .before .before .before .before .before .args in
+    let set-byte = the-set-byte in
+    let loop = the-loop in
+    let a = args in
+    (refl, omega (arith, loop .inv .0), left-next (loop .inv .2) (drop-one (a .s .now) (loop .i) (omega (arith, loop .inv .0))) (wrote-one (set-byte .ensures) (omega arith)))
 
 same-length : tie.Need-same-length Inv-loop μ-loop
 same-length c = left-length (c .before .loop .inv .2)
 
 returns : tie.Need-returns Inv-loop μ-loop
-returns c = left-over (c .before .loop .inv .2) (drop-of-length-le (c .before .before .before .before .args .s .now) {i = c .before .loop .i} (omega (arith, c .before .loop .inv .0))) (omega (arith, c .before .loop .inv .0))
+returns c =
+    let loop = c .before .loop in
+    let a = c .before .before .before .before .args in
+    left-over (loop .inv .2) (drop-of-length-le (a .s .now) {i = loop .i} (omega (arith, loop .inv .0)))
+    (omega (arith, loop .inv .0))
 
 pub put-bytes-spec : {M : Type 1} → statement M
 put-bytes-spec =
     tie.close
-    (tie.spec
-    Inv-loop
-    μ-loop
-    loop-holds
-    (λ c. search needs)
-    (λ c. search needs)
-    (λ c κs. search needs)
-    (λ c. search needs)
-    (λ c. search needs)
-    loop-again
-    (λ c. search needs)
-    same-length
-    returns)
+    (tie.spec Inv-loop μ-loop loop-holds (λ c. search needs) (λ c. search needs) (λ c κs. search needs) (λ c. search needs)
+    (λ c. search needs) loop-again (λ c. search needs) same-length returns)

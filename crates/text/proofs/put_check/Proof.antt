@@ -11,15 +11,12 @@ put-bytes-requires c κs = omega (arith, number-ends _ _ (c .before .before .bef
 
 returns : tie.Need-returns
 unfolding checkLine
-returns c = wrote-then (c .before .before .before .before .before .before .before .put-numbered .ensures) (c .before .before .put-bytes .ensures)
+returns c =
+    let put-bytes = c .before .before .put-bytes in
+    let put-numbered = c .before .before .before .before .before .before .before .put-numbered in
+    wrote-then (put-numbered .ensures) (put-bytes .ensures)
 
 pub put-check-spec : {M : Type 1} → statement M
 put-check-spec =
     tie.close
-    (tie.spec
-    (λ c. search needs)
-    (λ c κs. search needs)
-    (λ c. search needs)
-    put-bytes-requires
-    (λ c. search needs)
-    returns)
+    (tie.spec (λ c. search needs) (λ c κs. search needs) (λ c. search needs) put-bytes-requires (λ c. search needs) returns)

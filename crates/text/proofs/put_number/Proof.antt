@@ -15,45 +15,53 @@ abbrev μ-loop : tie.MeasureT-loop
 μ-loop out₀ at n digits i₀ out i = digits - i
 
 loop-holds : tie.Need-loop-holds Inv-loop μ-loop
-loop-holds c = (omega arith, left-start (let all : c .width-of .result - 0 ≡ c .width-of .result = omega arith in rw all) (omega arith))
+loop-holds c =
+    let width-of = c .width-of in
+    (omega arith, left-start (let all : width-of .result - 0 ≡ width-of .result = omega arith in rw all) (omega arith))
 
 power-of-ten-requires : tie.Need-power-of-ten-requires Inv-loop μ-loop
-power-of-ten-requires c κs = omega (arith, c .before .before .width-of .ensures, width-bounds (c .before .before .before .before .args .n) .1)
+power-of-ten-requires c κs =
+    let width-of = c .before .before .width-of in
+    let a = c .before .before .before .before .args in
+    omega (arith, width-of .ensures, width-bounds (a .n) .1)
 
 div-digit : tie.Need-div-digit Inv-loop μ-loop
-div-digit c = rw (c .power-of-ten .ensures) (power-positive (c .before .before .before .width-of .result - 1 - c .before .before .loop .i))
+div-digit c =
+    let power-of-ten = c .power-of-ten in
+    let loop = c .before .before .loop in
+    let width-of = c .before .before .before .width-of in
+    rw (power-of-ten .ensures) (power-positive (width-of .result - 1 - loop .i))
 
 loop-again : tie.Need-loop-again Inv-loop μ-loop
-loop-again c = (omega arith, left-next (c .before .before .before .before .before .before .loop .inv .1) (digits-one (c .before .before .before .before .before .before .before .width-of .result) (c .before .before .before .before .before .before .loop .i) (c .before .before .before .before .before .before .before .before .before .args .n) (c .before .before .before .before .before .loop-test .taken)) (wrote-one (rw (← c .before .before .before .before .power-of-ten .ensures) (c .before .before .set-byte .ensures)) (omega arith)))
+loop-again c =
+    let the-set-byte = c .before .before .set-byte in
+    let the-power-of-ten = c .before .before .before .before .power-of-ten in
+    let the-loop-test = c .before .before .before .before .before .loop-test in
+    let the-loop = c .before .before .before .before .before .before .loop in
+    let the-width-of = c .before .before .before .before .before .before .before .width-of in
+    let args = c .before .before .before .before .before .before .before .before .before .args in
+    let set-byte = the-set-byte in
+    let power-of-ten = the-power-of-ten in
+    let loop-test = the-loop-test in
+    let loop = the-loop in
+    let width-of = the-width-of in
+    let a = args in
+    (omega arith, left-next (loop .inv .1) (digits-one (width-of .result) (loop .i) (a .n) (loop-test .taken)) (wrote-one (rw (← power-of-ten .ensures) (set-byte .ensures)) (omega arith)))
 
 same-length : tie.Need-same-length Inv-loop μ-loop
 same-length c = left-length (c .before .loop .inv .1)
 
 returns : tie.Need-returns Inv-loop μ-loop
 unfolding decimal
-returns c = rw (← c .before .before .width-of .ensures) (left-over (c .before .loop .inv .1) (let none : c .before .before .width-of .result - c .before .loop .i ≡ 0 = omega arith in rw none) (omega arith))
+returns c =
+    let loop = c .before .loop in
+    let width-of = c .before .before .width-of in
+    rw (← width-of .ensures)
+    (left-over (loop .inv .1) (let none : width-of .result - loop .i ≡ 0 = omega arith in rw none) (omega arith))
 
 pub put-number-spec : {M : Type 1} → statement M
 put-number-spec =
     tie.close
-    (tie.spec
-    Inv-loop
-    μ-loop
-    (λ c κs. search needs)
-    loop-holds
-    (λ c. search needs)
-    (λ c. search needs)
-    power-of-ten-requires
-    div-digit
-    (λ c. search needs)
-    (λ c. search needs)
-    (λ c. search needs)
-    (λ c. search needs)
-    (λ c κs. search needs)
-    (λ c. search needs)
-    (λ c. search needs)
-    loop-again
-    (λ c. search needs)
-    (λ c. search needs)
-    same-length
-    returns)
+    (tie.spec Inv-loop μ-loop (λ c κs. search needs) loop-holds (λ c. search needs) (λ c. search needs) power-of-ten-requires
+    div-digit (λ c. search needs) (λ c. search needs) (λ c. search needs) (λ c. search needs) (λ c κs. search needs)
+    (λ c. search needs) (λ c. search needs) loop-again (λ c. search needs) (λ c. search needs) same-length returns)

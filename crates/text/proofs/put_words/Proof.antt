@@ -19,34 +19,38 @@ loop-holds : tie.Need-loop-holds Inv-loop μ-loop
 loop-holds c = (refl, omega arith, omega arith, left-start refl refl)
 
 put-bytes-requires : tie.Need-put-bytes-requires Inv-loop μ-loop
-put-bytes-requires c κs = omega (arith, c .before .before .before .loop .inv .0, c .before .before .before .loop .inv .1, c .before .before .before .loop .inv .2)
+put-bytes-requires c κs =
+    let loop = c .before .before .before .loop in
+    omega (arith, loop .inv .0, loop .inv .1, loop .inv .2)
 
 put-number-requires : tie.Need-put-number-requires Inv-loop μ-loop
-put-number-requires c κs = omega (arith, c .before .before .before .before .before .before .before .before .loop .inv .0, c .before .before .before .before .before .before .before .before .loop .inv .1, c .before .before .before .before .before .before .before .before .loop .inv .2, c .before .before .before .before .put-bytes .ensures .ends)
+put-number-requires c κs =
+    let put-bytes = c .before .before .before .before .put-bytes in
+    let loop = c .before .before .before .before .before .before .before .before .loop in
+    omega (arith, loop .inv .0, loop .inv .1, loop .inv .2, put-bytes .ensures .ends)
 
 loop-again : tie.Need-loop-again Inv-loop μ-loop
-loop-again c = (refl, omega (arith, c .before .before .before .before .before .before .before .before .before .before .before .loop .inv .0), omega (arith, c .before .before .before .before .before .before .before .before .before .before .before .loop .inv .2, c .before .before .before .before .before .before .before .put-bytes .ensures .ends, c .before .before .put-number .ensures .ends, decimal-short (getD (c .before .before .before .before .before .before .before .before .before .before .before .before .before .before .args .xs .now) (c .before .before .before .before .before .before .before .before .before .before .before .loop .i) 0)), left-next (left-next (c .before .before .before .before .before .before .before .before .before .before .before .loop .inv .3) (words-one (c .before .before .before .before .before .before .before .before .before .before .before .before .before .before .args .xs .now) (c .before .before .before .before .before .before .before .before .before .before .before .loop .i) (omega (arith, c .before .before .before .before .before .before .before .before .before .before .before .loop .inv .0))) (c .before .before .before .before .before .before .before .put-bytes .ensures)) refl (c .before .before .put-number .ensures))
+loop-again c =
+    let the-put-number = c .before .before .put-number in
+    let the-put-bytes = c .before .before .before .before .before .before .before .put-bytes in
+    let put-number = the-put-number in
+    let put-bytes = the-put-bytes in
+    let earlier = c .before .before .before .before .before .before .before .before .before .before .before in
+    let loop = earlier .loop in
+    let a = earlier .before .before .before .args in
+    (refl, omega (arith, loop .inv .0), omega (arith, loop .inv .2, put-bytes .ensures .ends, put-number .ensures .ends, decimal-short (getD (a .xs .now) (loop .i) 0)), left-next (left-next (loop .inv .3) (words-one (a .xs .now) (loop .i) (omega (arith, loop .inv .0))) (put-bytes .ensures)) refl (put-number .ensures))
 
 same-length : tie.Need-same-length Inv-loop μ-loop
 same-length c = left-length (c .before .loop .inv .3)
 
 returns : tie.Need-returns Inv-loop μ-loop
-returns c = left-over (c .before .loop .inv .3) (rw (drop-of-length-le (c .before .before .before .before .args .xs .now) {i = c .before .loop .i} (omega (arith, c .before .loop .inv .0)))) refl
+returns c =
+    let loop = c .before .loop in
+    let a = c .before .before .before .before .args in
+    left-over (loop .inv .3) (rw (drop-of-length-le (a .xs .now) {i = loop .i} (omega (arith, loop .inv .0)))) refl
 
 pub put-words-spec : {M : Type 1} → statement M
 put-words-spec =
     tie.close
-    (tie.spec
-    Inv-loop
-    μ-loop
-    loop-holds
-    (λ c. search needs)
-    put-bytes-requires
-    (λ c. search needs)
-    (λ c. search needs)
-    put-number-requires
-    (λ c. search needs)
-    (λ c. search needs)
-    loop-again
-    same-length
-    returns)
+    (tie.spec Inv-loop μ-loop loop-holds (λ c. search needs) put-bytes-requires (λ c. search needs) (λ c. search needs)
+    put-number-requires (λ c. search needs) (λ c. search needs) loop-again same-length returns)

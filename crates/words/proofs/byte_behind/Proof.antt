@@ -11,8 +11,11 @@ returns : tie.Need-returns
 returns c = sym (byte-past (c .before .args .s .now) (c .before .args .at + c .before .args .k) (omega arith))
 
 returns-2 : tie.Need-returns-2
-returns-2 c = sym (byte-past (c .before .before .args .s .now) (c .before .before .args .at + c .before .before .args .k) (omega arith))
+returns-2 c =
+    let a = c .before .before .args in
+    sym (byte-past (a .s .now) (a .at + a .k) (omega arith))
 
 pub byte-behind-spec : {M : Type 1} → statement M
 byte-behind-spec =
-    tie.close (tie.spec returns (λ c. search needs) returns-2 (λ c. search needs) (λ c. search needs) (λ c. search needs))
+    tie.close
+    (tie.spec returns (λ c. search needs) returns-2 (λ c. search needs) (λ c. search needs) (λ c. search needs))

@@ -8,11 +8,16 @@ use Rattle.words.proofs.halfword_behind.Statement.{statement}
 use Rattle.words.proofs.halfword_behind.Tie as tie
 
 returns : tie.Need-returns
-returns c = sym (halfword-past (c .before .before .args .s .now) (c .before .before .args .at + c .before .before .args .k) (omega arith))
+returns c =
+    let a = c .before .before .args in
+    sym (halfword-past (a .s .now) (a .at + a .k) (omega arith))
 
 returns-2 : tie.Need-returns-2
-returns-2 c = sym (halfword-past (c .before .before .before .args .s .now) (c .before .before .before .args .at + c .before .before .before .args .k) (omega arith))
+returns-2 c =
+    let a = c .before .before .before .args in
+    sym (halfword-past (a .s .now) (a .at + a .k) (omega arith))
 
 pub halfword-behind-spec : {M : Type 1} → statement M
 halfword-behind-spec =
-    tie.close (tie.spec returns (λ c. search needs) returns-2 (λ c. search needs) (λ c κs. search needs) (λ c. search needs))
+    tie.close
+    (tie.spec returns (λ c. search needs) returns-2 (λ c. search needs) (λ c κs. search needs) (λ c. search needs))

@@ -6,16 +6,14 @@ use Rattle.compact.specs.Tops.{originUnder}
 use Rattle.compact.proofs.top.origin_under.Tie as tie
 
 returns-2 : tie.Need-returns-2
-returns-2 c = rw (at-origin (originUnder (c .before .before .before .args .w .now)) (c .before .before .before .args .origin) (c .before .if1 .left), c .half-at .ensures)
+returns-2 c =
+    let half-at = c .half-at in
+    let if1 = c .before .if1 in
+    let a = c .before .before .before .args in
+    rw (at-origin (originUnder (a .w .now)) (a .origin) (if1 .left), half-at .ensures)
 
 pub origin-under-spec : {M : Type 1} → statement M
 origin-under-spec =
     tie.close
-    (tie.spec
-    (λ c. search needs)
-    (λ c. search needs)
-    (λ c. search needs)
-    (λ c. search needs)
-    (λ c. search needs)
-    (λ c κs. search needs)
-    returns-2)
+    (tie.spec (λ c. search needs) (λ c. search needs) (λ c. search needs) (λ c. search needs) (λ c. search needs)
+    (λ c κs. search needs) returns-2)

@@ -6,15 +6,13 @@ use Rattle.icode.proofs.Written.{sets-all}
 use Rattle.icode.proofs.bench.write_outcome.Tie as tie
 
 returns : tie.Need-returns
-returns c = rw (c .end-number .ensures) (sets-all (c .before .before .before .args .outcome .now) (outcomeWords (c .before .before .before .args .e)) (c .before .before .before .pre))
+returns c =
+    let end-number = c .end-number in
+    let a = c .before .before .before .args in
+    let pre = c .before .before .before .pre in
+    rw (end-number .ensures) (sets-all (a .outcome .now) (outcomeWords (a .e)) (pre))
 
 pub write-outcome-spec : {M : Type 1} → statement M
 write-outcome-spec =
     tie.close
-    (tie.spec
-    (λ c κs. search needs)
-    (λ c. search needs)
-    (λ c. search needs)
-    (λ c. search needs)
-    (λ c. search needs)
-    returns)
+    (tie.spec (λ c κs. search needs) (λ c. search needs) (λ c. search needs) (λ c. search needs) (λ c. search needs) returns)

@@ -19,12 +19,5 @@ returns c = sets-all (c .args .state .now) (stateWords (c .args .q)) (c .pre)
 pub write-state-spec : {M : Type 1} → statement M
 write-state-spec =
     tie.close
-    (tie.spec
-    (λ c. search needs)
-    (λ c. search needs)
-    (λ c. search needs)
-    (λ c. search needs)
-    slice-write-state-5
-    slice-write-state-6
-    (λ c. search needs)
-    returns)
+    (tie.spec (λ c. search needs) (λ c. search needs) (λ c. search needs) (λ c. search needs) slice-write-state-5
+    slice-write-state-6 (λ c. search needs) returns)

@@ -19,50 +19,57 @@ loop-holds c = regions-start (c .before .before .before .args .code .now) (c .be
 
 cut-region-requires : tie.Need-cut-region-requires Inv-loop μ-loop
 cut-region-requires c κs =
-    let bytes = c .before .before .before .before .before .shared-slice-known in
-    let below = count-below (c .before .before .before .before .before .before .args .code .now) (λ k. omega (arith, bytes .given k)) in
-    (c .before .before .before .before .before .before .pre, omega (arith, c .before .before .before .entry-count .ensures, c .before .loop-test .taken))
+    let loop-test = c .before .loop-test in
+    let entry-count = c .before .before .before .entry-count in
+    let shared-slice-known = c .before .before .before .before .before .shared-slice-known in
+    let a = c .before .before .before .before .before .before .args in
+    let pre = c .before .before .before .before .before .before .pre in
+    let bytes = shared-slice-known in
+    let below = count-below (a .code .now) (λ k. omega (arith, bytes .given k)) in
+    (pre, omega (arith, entry-count .ensures, loop-test .taken))
 
 returns : tie.Need-returns Inv-loop μ-loop
 returns c =
-    let a = c .before .before .before .before .before .before .before .before .before .before .args in
-    let l = c .before .before .before .before .before .before .loop in
-    let r = c .before .before .before .cut-region in
-    regions-bad (a .code .now) (a .w .now) (l .w) (l .p) (l .inv)
-    (rw (c .before .before .before .before .before .before .before .entry-count .ensures) at (c .before .before .before .before .before .loop-test .taken))
-    (r .result) _ (r .ensures) (c .if1 .taken)
+    let if1 = c .if1 in
+    let cut-region = c .before .before .before .cut-region in
+    let loop-test = c .before .before .before .before .before .loop-test in
+    let loop = c .before .before .before .before .before .before .loop in
+    let entry-count = c .before .before .before .before .before .before .before .entry-count in
+    let args = c .before .before .before .before .before .before .before .before .before .before .args in
+    let a = args in
+    let l = loop in
+    let r = cut-region in
+    regions-bad (a .code .now) (a .w .now) (l .w) (l .p) (l .inv) (rw (entry-count .ensures) at (loop-test .taken))
+    (r .result) _ (r .ensures) (if1 .taken)
 
 loop-again : tie.Need-loop-again Inv-loop μ-loop
 loop-again c =
-    let a = c .before .before .before .before .before .before .before .before .before .before .args in
-    let l = c .before .before .before .before .before .before .loop in
-    let r = c .before .before .before .cut-region in
-    regions-next (a .code .now) (a .w .now) (l .w) (l .p) (l .inv)
-    (rw (c .before .before .before .before .before .before .before .entry-count .ensures) at (c .before .before .before .before .before .loop-test .taken))
-    (r .result) _ (r .ensures) (c .if1 .left) (r .kept .1 .1 .0)
+    let if1 = c .if1 in
+    let cut-region = c .before .before .before .cut-region in
+    let loop-test = c .before .before .before .before .before .loop-test in
+    let loop = c .before .before .before .before .before .before .loop in
+    let entry-count = c .before .before .before .before .before .before .before .entry-count in
+    let args = c .before .before .before .before .before .before .before .before .before .before .args in
+    let a = args in
+    let l = loop in
+    let r = cut-region in
+    regions-next (a .code .now) (a .w .now) (l .w) (l .p) (l .inv) (rw (entry-count .ensures) at (loop-test .taken))
+    (r .result) _ (r .ensures) (if1 .left) (r .kept .1 .1 .0)
 
 returns-2 : tie.Need-returns-2 Inv-loop μ-loop
 returns-2 c =
-    let a = c .before .before .before .before .before .before .before .before .before .args in
-    let l = c .before .before .before .before .before .loop in
-    c .before .before .cut-region2 .ensures
-    ∙ regions-last (a .code .now) (a .w .now) (l .w) (l .p) (l .inv)
-    (rw (c .before .before .before .before .before .before .entry-count .ensures) at (c .before .before .before .before .loop-test .left))
+    let cut-region2 = c .before .before .cut-region2 in
+    let loop-test = c .before .before .before .before .loop-test in
+    let loop = c .before .before .before .before .before .loop in
+    let entry-count = c .before .before .before .before .before .before .entry-count in
+    let args = c .before .before .before .before .before .before .before .before .before .args in
+    let a = args in
+    let l = loop in
+    cut-region2 .ensures ∙ regions-last (a .code .now) (a .w .now) (l .w) (l .p) (l .inv)
+    (rw (entry-count .ensures) at (loop-test .left))
 
 pub cut-all-spec : {M : Type 1} → statement M
 cut-all-spec =
     tie.close
-    (tie.spec
-    Inv-loop
-    μ-loop
-    (λ c κs. search needs)
-    loop-holds
-    cut-region-requires
-    (λ c. search needs)
-    returns
-    (λ c. search needs)
-    (λ c. search needs)
-    loop-again
-    (λ c κs. search needs)
-    (λ c. search needs)
-    returns-2)
+    (tie.spec Inv-loop μ-loop (λ c κs. search needs) loop-holds cut-region-requires (λ c. search needs) returns
+    (λ c. search needs) (λ c. search needs) loop-again (λ c κs. search needs) (λ c. search needs) returns-2)

@@ -57,17 +57,24 @@ add-set-half c = omega (arith, c .before .before .before .before .before .before
 
 loop-again : tie.Need-loop-again Inv-loop μ-loop
 loop-again c =
-    let a = c .before .before .before .before .before .before .before .before .before .before .before .before .before .before .before .args in
-    let l = c .before .before .before .before .before .before .before .before .before .before .loop in
-    let e = c .before .before .before .before .before .before .before .before .before .before .before .before .region-end in
-    let bytes = c .before .before .before .before .before .before .before .before .before .before .before .before .before .before .shared-slice-known in
-    region-next (a .code .now) (a .p) (a .w .now) (l .w) (l .at) (l .counter) (l .inv)
-    (e .result) (e .ensures) (c .before .before .before .before .before .before .before .before .before .loop-test .taken) _ _ _
-    (c .before .before .before .before .before .before .before .before .if1 .left)
-    (sym (c .before .before .before .before .before .before .before .decode .ensures) ∙ c .before .before .before .before .before .next .given .1)
-    (rw (e .ensures)
-    (region-below (a .code .now) (λ k. omega (arith, bytes .given k)) (a .p) (c .before .before .before .before .before .before .before .before .before .before .before .before .before .before .before .pre .0)))
-    (c .before .before .set-half .ensures)
+    let set-half = c .before .before .set-half in
+    let next = c .before .before .before .before .before .next in
+    let decode = c .before .before .before .before .before .before .before .decode in
+    let earlier = c .before .before .before .before .before .before .before .before in
+    let if1 = earlier .if1 in
+    let loop-test = earlier .before .loop-test in
+    let loop = earlier .before .before .loop in
+    let region-end = earlier .before .before .before .before .region-end in
+    let shared-slice-known = earlier .before .before .before .before .before .before .shared-slice-known in
+    let args = earlier .before .before .before .before .before .before .before .args in
+    let pre = earlier .before .before .before .before .before .before .before .pre in
+    let a = args in
+    let l = loop in
+    let e = region-end in
+    let bytes = shared-slice-known in
+    region-next (a .code .now) (a .p) (a .w .now) (l .w) (l .at) (l .counter) (l .inv) (e .result) (e .ensures)
+    (loop-test .taken) _ _ _ (if1 .left) (sym (decode .ensures) ∙ next .given .1)
+    (rw (e .ensures) (region-below (a .code .now) (λ k. omega (arith, bytes .given k)) (a .p) (pre .0))) (set-half .ensures)
 
 returns-4 : tie.Need-returns-4 Inv-loop μ-loop
 returns-4 c =
@@ -78,30 +85,7 @@ returns-4 c =
 pub cut-region-spec : {M : Type 1} → statement M
 cut-region-spec =
     tie.close
-    (tie.spec
-    Inv-loop
-    μ-loop
-    (λ c κs. search needs)
-    (λ c κs. search needs)
-    (λ c. search needs)
-    loop-holds
-    (λ c. search needs)
-    returns
-    (λ c κs. search needs)
-    (λ c. search needs)
-    (λ c. search needs)
-    returns-2
-    (λ c. search needs)
-    (λ c. search needs)
-    returns-3
-    (λ c. search needs)
-    mul-set-half
-    add-set-half
-    (λ c. search needs)
-    (λ c. search needs)
-    (λ c κs. search needs)
-    (λ c. search needs)
-    (λ c. search needs)
-    loop-again
-    (λ c. search needs)
-    returns-4)
+    (tie.spec Inv-loop μ-loop (λ c κs. search needs) (λ c κs. search needs) (λ c. search needs) loop-holds
+    (λ c. search needs) returns (λ c κs. search needs) (λ c. search needs) (λ c. search needs) returns-2 (λ c. search needs)
+    (λ c. search needs) returns-3 (λ c. search needs) mul-set-half add-set-half (λ c. search needs) (λ c. search needs)
+    (λ c κs. search needs) (λ c. search needs) (λ c. search needs) loop-again (λ c. search needs) returns-4)

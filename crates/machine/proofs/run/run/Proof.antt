@@ -1,38 +1,73 @@
 -- `machine::run::run` meets its contract: the record's number, then 24, else the steps.
 use mathlib.Core.Path.{sym, _∙_}
-use borrow.Author.Needs.{needs}
 use borrow.Author.Tests.{not-true, not-false}
+use borrow.Author.Needs.{needs}
+use Rattle.registers.specs.State.{state}
+use Rattle.machine.proofs.Unrolling.{run-refused, run-unfit, run-done, run-code}
 use Rattle.machine.proofs.run.run.Statement.{statement}
-use Rattle.machine.proofs.Running.{run-refused, run-unfit, run-done, run-code}
 use Rattle.machine.proofs.run.run.Tie as tie
 
 returns : tie.Need-returns
-returns c = run-unfit (c .before .before .before .before .before .before .before .before .before .before .before .before .args .r .now) (c .before .before .before .before .before .before .before .before .before .before .before .before .args .budget) (c .before .before .before .before .before .before .before .before .before .before .before .before .args .q) (c .before .before .before .before .before .before .before .before .before .before .before .before .args .memory .now) (c .before .before .before .before .before .before .before .before .before .before .before .before .args .stack .now) (c .before .before .before .before .before .before .reading2 .given .0 .0) (sym (c .before .before .before .before .before .before .before .before .read .ensures) ∙ c .before .before .before .before .before .before .reading2 .given .1) (c .before .before .before .before .areas-in .result) (c .before .before .before .before .areas-in .ensures) (c .before .state-fits .result) (c .before .state-fits .ensures) (not-true (c .before .state-fits .result) (c .if1 .taken))
+returns c =
+    let if1 = c .if1 in
+    let state-fits = c .before .state-fits in
+    let areas-in = c .before .before .before .before .areas-in in
+    let reading2 = c .before .before .before .before .before .before .reading2 in
+    let earlier = c .before .before .before .before .before .before .before .before in
+    let read = earlier .read in
+    let a = earlier .before .before .before .before .args in
+    let S = state (a .q) (a .memory .now) (a .stack .now) in
+    let sound = sym (read .ensures) ∙ reading2 .given .1 in
+    run-unfit (a .r .now) (a .budget) S (reading2 .given .0 .0) sound (areas-in .result) (areas-in .ensures)
+    (state-fits .result) (state-fits .ensures) (not-true (state-fits .result) (if1 .taken))
 
 run-steps-requires : tie.Need-run-steps-requires
-run-steps-requires c κs = (run-code (c .before .before .before .before .before .before .before .before .before .before .before .before .before .before .before .args .r .now) (c .before .before .before .before .before .before .before .before .before .before .before .before .before .before .before .args .budget) (c .before .before .before .before .before .before .before .before .before .before .before .before .before .before .before .args .q) (c .before .before .before .before .before .before .before .before .before .before .before .before .before .before .before .args .memory .now) (c .before .before .before .before .before .before .before .before .before .before .before .before .before .before .before .args .stack .now) (c .before .before .before .before .before .before .before .before .before .reading2 .given .0 .0) (sym (c .before .before .before .before .before .before .before .before .before .before .before .read .ensures) ∙ c .before .before .before .before .before .before .before .before .before .reading2 .given .1) (c .before .before .before .before .before .before .before .areas-in .result) (c .before .before .before .before .before .before .before .areas-in .ensures) (c .before .before .before .before .state-fits .result) (c .before .before .before .before .state-fits .ensures) (c .before .before .code-of .result .now) (c .before .before .code-of .ensures), sym (c .before .before .before .before .state-fits .ensures) ∙ not-false (c .before .before .before .before .state-fits .result) (c .before .before .before .if1 .left))
+run-steps-requires c κs =
+    let code-of = c .before .before .code-of in
+    let if1 = c .before .before .before .if1 in
+    let state-fits = c .before .before .before .before .state-fits in
+    let areas-in = c .before .before .before .before .before .before .before .areas-in in
+    let earlier = c .before .before .before .before .before .before .before .before .before in
+    let reading2 = earlier .reading2 in
+    let read = earlier .before .before .read in
+    let a = earlier .before .before .before .before .before .before .args in
+    let S = state (a .q) (a .memory .now) (a .stack .now) in
+    let sound = sym (read .ensures) ∙ reading2 .given .1 in (
+      run-code (a .r .now) (a .budget) S (reading2 .given .0 .0) sound (areas-in .result) (areas-in .ensures)
+          (state-fits .result) (state-fits .ensures) (code-of .result .now) (code-of .ensures),
+      sym (state-fits .ensures) ∙ not-false (state-fits .result) (if1 .left),
+    )
 
 returns-2 : tie.Need-returns-2
-returns-2 c = run-refused (c .before .before .before .before .before .before .before .args .r .now) (c .before .before .before .before .before .before .before .args .budget) (c .before .before .before .before .before .before .before .args .q) (c .before .before .before .before .before .before .before .args .memory .now) (c .before .before .before .before .before .before .before .args .stack .now) (c .before .reading .given .0 .0) (sym (c .before .before .before .read .ensures) ∙ c .before .reading .given .1)
+returns-2 c =
+    let reading = c .before .reading in
+    let read = c .before .before .before .read in
+    let a = c .before .before .before .before .before .before .before .args in
+    let S = state (a .q) (a .memory .now) (a .stack .now) in
+    run-refused (a .r .now) (a .budget) S (reading .given .0 .0) (sym (read .ensures) ∙ reading .given .1)
 
 returns-3 : tie.Need-returns-3
-returns-3 c = c .before .before .before .before .run-steps .ensures ∙ run-done (c .before .before .before .before .before .before .before .before .before .before .before .before .before .before .before .before .before .before .before .before .args .r .now) (c .before .before .before .before .before .before .before .before .before .before .before .before .before .before .before .before .before .before .before .before .args .budget) (c .before .before .before .before .before .before .before .before .before .before .before .before .before .before .before .before .before .before .before .before .args .q) (c .before .before .before .before .before .before .before .before .before .before .before .before .before .before .before .before .before .before .before .before .args .memory .now) (c .before .before .before .before .before .before .before .before .before .before .before .before .before .before .before .before .before .before .before .before .args .stack .now) (c .before .before .before .before .before .before .before .before .before .before .before .before .before .before .reading2 .given .0 .0) (sym (c .before .before .before .before .before .before .before .before .before .before .before .before .before .before .before .before .read .ensures) ∙ c .before .before .before .before .before .before .before .before .before .before .before .before .before .before .reading2 .given .1) (c .before .before .before .before .before .before .before .before .before .before .before .before .areas-in .result) (c .before .before .before .before .before .before .before .before .before .before .before .before .areas-in .ensures) (c .before .before .before .before .before .before .before .before .before .state-fits .result) (c .before .before .before .before .before .before .before .before .before .state-fits .ensures) (not-false (c .before .before .before .before .before .before .before .before .before .state-fits .result) (c .before .before .before .before .before .before .before .before .if1 .left)) (c .before .before .before .before .before .before .before .code-of .result .now) (c .before .before .before .before .before .before .before .code-of .ensures)
+returns-3 c =
+    let run-steps = c .before .before .before .before .run-steps in
+    let code-of = c .before .before .before .before .before .before .before .code-of in
+    let earlier = c .before .before .before .before .before .before .before .before in
+    let if1 = earlier .if1 in
+    let state-fits = earlier .before .state-fits in
+    let areas-in = earlier .before .before .before .before .areas-in in
+    let reading2 = earlier .before .before .before .before .before .before .reading2 in
+    let first = earlier .before .before .before .before .before .before .before .before in
+    let read = first .read in
+    let a = first .before .before .before .before .args in
+    let S = state (a .q) (a .memory .now) (a .stack .now) in
+    let sound = sym (read .ensures) ∙ reading2 .given .1 in
+    run-steps .ensures
+    ∙ run-done (a .r .now) (a .budget) S (reading2 .given .0 .0) sound (areas-in .result) (areas-in .ensures)
+    (state-fits .result) (state-fits .ensures) (not-false (state-fits .result) (if1 .left)) (code-of .result .now)
+    (code-of .ensures)
 
 pub run-spec : {M : Type 1} → statement M
 run-spec =
     tie.close
-    (tie.spec
-    (λ c κs. search needs)
-    (λ c. search needs)
-    (λ c. search needs)
-    (λ c κs. search needs)
-    (λ c κs. search needs)
-    (λ c. search needs)
-    (λ c. search needs)
-    returns
-    (λ c κs. search needs)
-    run-steps-requires
-    returns-2
-    (λ c. search needs)
-    (λ c. search needs)
-    returns-3)
+    (tie.spec (λ c κs. search needs) (λ c. search needs) (λ c. search needs) (λ c κs. search needs) (λ c κs. search needs)
+    (λ c. search needs) (λ c. search needs) returns (λ c κs. search needs) run-steps-requires returns-2 (λ c. search needs)
+    (λ c. search needs) returns-3)

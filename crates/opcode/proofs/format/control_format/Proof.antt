@@ -54,4 +54,7 @@ returns-16 : tie.Need-returns-16
 returns-16 c = rw (find-rest controlTable [] (c .before .args .opcode) (c .match .rest))
 
 pub control-format-spec : {M : Type 1} → statement M
-control-format-spec = tie.close (tie.spec returns returns-2 returns-3 returns-4 returns-5 returns-6 returns-7 returns-8 returns-9 returns-10 returns-11 returns-12 returns-13 returns-14 returns-15 returns-16)
+control-format-spec =
+    tie.close
+    (tie.spec returns returns-2 returns-3 returns-4 returns-5 returns-6 returns-7 returns-8 returns-9 returns-10 returns-11
+    returns-12 returns-13 returns-14 returns-15 returns-16)

@@ -52,12 +52,5 @@ returns-3 c =
 pub length-at-spec : {M : Type 1} → statement M
 length-at-spec =
     tie.close
-    (tie.spec
-    (λ c κs. search needs)
-    (λ c κs. search needs)
-    returns
-    add-length-in
-    (λ c κs. search needs)
-    returns-2
-    add-result
+    (tie.spec (λ c κs. search needs) (λ c κs. search needs) returns add-length-in (λ c κs. search needs) returns-2 add-result
     returns-3)

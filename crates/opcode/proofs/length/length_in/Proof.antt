@@ -55,17 +55,6 @@ returns-3 c = rw (whole (c .before .before), c .unsigned-halfword .ensures)
 pub length-in-spec : {M : Type 1} → statement M
 length-in-spec =
     tie.close
-    (tie.spec
-    (λ c κs. search needs)
-    (λ c κs. search needs)
-    (λ c. search needs)
-    returns
-    (λ c. search needs)
-    (λ c. search needs)
-    returns-2
-    (λ c. search needs)
-    (λ c κs. search needs)
-    (λ c. search needs)
-    mul-result
-    add-result
+    (tie.spec (λ c κs. search needs) (λ c κs. search needs) (λ c. search needs) returns (λ c. search needs)
+    (λ c. search needs) returns-2 (λ c. search needs) (λ c κs. search needs) (λ c. search needs) mul-result add-result
     returns-3)

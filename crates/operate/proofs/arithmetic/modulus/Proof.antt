@@ -71,19 +71,6 @@ returns-5 c = let d : tie.After-signed2 = c .before .before .before .before in
 pub modulus-spec : {M : Type 1} → statement M
 modulus-spec =
     tie.close
-    (tie.spec
-    (λ c κs. search needs)
-    (λ c κs. search needs)
-    rem-rest
-    (λ c κs. search needs)
-    returns
-    (λ c κs. search needs)
-    returns-2
-    add-signed-word
-    (λ c κs. search needs)
-    returns-3
-    add-signed-word-2
-    (λ c κs. search needs)
-    returns-4
-    (λ c κs. search needs)
-    returns-5)
+    (tie.spec (λ c κs. search needs) (λ c κs. search needs) rem-rest (λ c κs. search needs) returns (λ c κs. search needs)
+    returns-2 add-signed-word (λ c κs. search needs) returns-3 add-signed-word-2 (λ c κs. search needs) returns-4
+    (λ c κs. search needs) returns-5)

@@ -16,9 +16,12 @@ sub-signed-word c = result-fits Subtract (pos _) _ (sfits-lit tt) (read-fits (c 
 
 returns : tie.Need-returns
 unfolding negatedValue
-returns c = c .signed-word .ensures
-    ∙ rw (toZ-ofZ (sub-signed-word (c .before)), read (c .before .before .fits .x) (c .before .signed .ensures)) (ap signedWord (+ℤ-idl _))
+returns c =
+    let signed-word = c .signed-word in
+    let signed = c .before .signed in
+    let fits = c .before .before .fits in
+    signed-word .ensures ∙ rw (toZ-ofZ (sub-signed-word (c .before)), read (fits .x) (signed .ensures))
+    (ap signedWord (+ℤ-idl _))
 
 pub negated-value-spec : {M : Type 1} → statement M
-negated-value-spec =
-    tie.close (tie.spec (λ c κs. search needs) sub-signed-word (λ c κs. search needs) returns)
+negated-value-spec = tie.close (tie.spec (λ c κs. search needs) sub-signed-word (λ c κs. search needs) returns)

@@ -48,23 +48,6 @@ returns-8 c = rw (c .before .enum-told5 .given .1, ne-eqb (c .before .before .be
 pub unsigned-value-spec : {M : Type 1} → statement M
 unsigned-value-spec =
     tie.close
-    (tie.spec
-    (λ c. search needs)
-    (λ c. search needs)
-    (λ c κs. search needs)
-    (λ c. search needs)
-    returns
-    (λ c. search needs)
-    mul-unsigned-word
-    (λ c κs. search needs)
-    (λ c. search needs)
-    returns-2
-    (λ c. search needs)
-    (λ c. search needs)
-    returns-3
-    (λ c. search needs)
-    returns-4
-    returns-5
-    returns-6
-    returns-7
-    returns-8)
+    (tie.spec (λ c. search needs) (λ c. search needs) (λ c κs. search needs) (λ c. search needs) returns (λ c. search needs)
+    mul-unsigned-word (λ c κs. search needs) (λ c. search needs) returns-2 (λ c. search needs) (λ c. search needs) returns-3
+    (λ c. search needs) returns-4 returns-5 returns-6 returns-7 returns-8)

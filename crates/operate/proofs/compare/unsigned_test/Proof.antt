@@ -18,4 +18,5 @@ returns-4 c = rw (c .enum-told4 .given .1)
 pub unsigned-test-spec : {M : Type 1} → statement M
 unsigned-test-spec =
     tie.close
-    (tie.spec (λ c. search needs) (λ c. search needs) (λ c. search needs) (λ c. search needs) returns returns-2 returns-3 returns-4)
+    (tie.spec (λ c. search needs) (λ c. search needs) (λ c. search needs) (λ c. search needs) returns returns-2 returns-3
+    returns-4)

@@ -14,34 +14,46 @@ abbrev μ-loop : tie.MeasureT-loop
 μ-loop m start fp calls a frame₀ counter₀ frame counter = calls - counter
 
 loop-holds : tie.Need-loop-holds Inv-loop μ-loop
-loop-holds c = walked-start (c .before .args .m .now) (c .before .args .start) (c .before .args .fp) (c .before .args .calls) (c .before .args .a) (c .before .pre)
+loop-holds c =
+    let a = c .before .args in
+    let pre = c .before .pre in
+    walked-start (a .m .now) (a .start) (a .fp) (a .calls) (a .a) (pre)
 
 returns : tie.Need-returns Inv-loop μ-loop
-returns c = sym (walked-above (c .before .before .before .before .args .m .now) (c .before .before .before .before .args .start) (c .before .before .before .before .args .fp) (c .before .before .before .before .args .calls) (c .before .before .before .before .args .a) (c .before .before .loop .frame) (c .before .before .loop .counter) (c .before .before .loop .inv) (c .if1 .taken))
+returns c =
+    let if1 = c .if1 in
+    let loop = c .before .before .loop in
+    let a = c .before .before .before .before .args in
+    sym (walked-above (a .m .now) (a .start) (a .fp) (a .calls) (a .a) (loop .frame) (loop .counter) (loop .inv) (if1 .taken))
 
 returns-2 : tie.Need-returns-2 Inv-loop μ-loop
-returns-2 c = sym (walked-near (c .before .before .before .before .before .args .m .now) (c .before .before .before .before .before .args .start) (c .before .before .before .before .before .args .fp) (c .before .before .before .before .before .args .calls) (c .before .before .before .before .before .args .a) (c .before .before .before .loop .frame) (c .before .before .before .loop .counter) (c .before .before .before .loop .inv) (c .before .before .loop-test .taken) (c .before .if1 .left) (omega arith))
+returns-2 c =
+    let if1 = c .before .if1 in
+    let loop-test = c .before .before .loop-test in
+    let loop = c .before .before .before .loop in
+    let a = c .before .before .before .before .before .args in
+    sym
+    (walked-near (a .m .now) (a .start) (a .fp) (a .calls) (a .a) (loop .frame) (loop .counter) (loop .inv) (loop-test .taken) (if1 .left) (omega arith))
 
 loop-again : tie.Need-loop-again Inv-loop μ-loop
-loop-again c = rw (c .word-at .ensures) (walked-next (c .before .before .before .before .before .before .args .m .now) (c .before .before .before .before .before .before .args .start) (c .before .before .before .before .before .before .args .fp) (c .before .before .before .before .before .before .args .calls) (c .before .before .before .before .before .before .args .a) (c .before .before .before .before .loop .frame) (c .before .before .before .before .loop .counter) (c .before .before .before .before .loop .inv) (c .before .before .before .loop-test .taken) (omega arith))
+loop-again c =
+    let word-at = c .word-at in
+    let loop-test = c .before .before .before .loop-test in
+    let loop = c .before .before .before .before .loop in
+    let a = c .before .before .before .before .before .before .args in
+    rw (word-at .ensures)
+    (walked-next (a .m .now) (a .start) (a .fp) (a .calls) (a .a) (loop .frame) (loop .counter) (loop .inv) (loop-test .taken) (omega arith))
 
 returns-3 : tie.Need-returns-3 Inv-loop μ-loop
-returns-3 c = sym (walked-end (c .before .before .before .args .m .now) (c .before .before .before .args .start) (c .before .before .before .args .fp) (c .before .before .before .args .calls) (c .before .before .before .args .a) (c .before .loop .frame) (c .before .loop .counter) (c .before .loop .inv) (c .loop-test .left))
+returns-3 c =
+    let loop-test = c .loop-test in
+    let loop = c .before .loop in
+    let a = c .before .before .before .args in
+    sym
+    (walked-end (a .m .now) (a .start) (a .fp) (a .calls) (a .a) (loop .frame) (loop .counter) (loop .inv) (loop-test .left))
 
 pub is-link-spec : {M : Type 1} → statement M
 is-link-spec =
     tie.close
-    (tie.spec
-    Inv-loop
-    μ-loop
-    loop-holds
-    returns
-    (λ c. search needs)
-    returns-2
-    (λ c. search needs)
-    (λ c κs. search needs)
-    (λ c. search needs)
-    (λ c. search needs)
-    (λ c. search needs)
-    loop-again
-    returns-3)
+    (tie.spec Inv-loop μ-loop loop-holds returns (λ c. search needs) returns-2 (λ c. search needs) (λ c κs. search needs)
+    (λ c. search needs) (λ c. search needs) (λ c. search needs) loop-again returns-3)

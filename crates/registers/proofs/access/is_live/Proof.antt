@@ -14,7 +14,10 @@ returns c = rw (lt-leb (c .before .before .args .a + c .before .before .args .n)
 
 returns-2 : tie.Need-returns-2
 unfolding live
-returns-2 c = at-most-less (c .before .before .args .a) (c .before .before .args .n) (c .before .before .args .q .mp) (c .if1 .left)
+returns-2 c =
+    let if1 = c .if1 in
+    let a = c .before .before .args in
+    at-most-less (a .a) (a .n) (a .q .mp) (if1 .left)
 
 pub is-live-spec : {M : Type 1} → statement M
 is-live-spec = tie.close (tie.spec (λ c. search needs) returns returns-2)

@@ -1,55 +1,105 @@
 -- `step::Machine::step` meets its contract: decoding, the stack words, and what the instruction does.
-use Rattle.opcode.proofs.Found.{ends}
-use Rattle.step.specs.Step.{stepOf, performed}
-use Rattle.shape.specs.Shape.{needed}
-use borrow.Author.Tests.{lt-ltb, le-ltb}
-use lib.ListN.{length}
-use native.Mathlib.Omega.{arith}
+use Prim.Native.Nat.{_≤_}
 use mathlib.Core.Path.{_∙_, sym}
+use native.Mathlib.Omega.{arith}
+use lib.ListN.{length}
+use borrow.Author.Tests.{lt-ltb, le-ltb}
 use borrow.Author.Needs.{needs}
+use Rattle.opcode.proofs.Found.{ends}
+use Rattle.registers.specs.State.{state}
+use Rattle.shape.specs.Shape.{needed}
+use Rattle.state.proofs.Fitting.{Fitting, fitting}
+use Rattle.step.specs.Step.{perform, stepOf}
 use Rattle.step.proofs.Machine.step.Statement.{statement}
 use Rattle.step.proofs.Machine.step.Tie as tie
 
+-- Where an instruction stands, its bytes end within the code.
+within : (c : tie.After-decoded) →
+    let start = c .before .before .before .before .before .before .before .before in
+    c .decoded .given .0 .1 .0 ≤ length (start .args .code .now)
+within c =
+    let decoded = c .decoded in
+    let decode = c .before .before in
+    let a = decode .before .before .before .before .before .before .args in
+    ends (a .code .now) (length (a .code .now)) (a .self .registers .pc) (sym (decode .decode .ensures) ∙ decoded .given .1)
+    .1
+
+fitted : (c : tie.Start) → Fitting (c .args .areas) (state (c .args .self .registers) (c .args .memory .now) (c .args .stack .now))
+fitted c = fitting (c .args .areas) (state (c .args .self .registers) (c .args .memory .now) (c .args .stack .now)) (c .pre .1)
+
 returns : tie.Need-returns
-unfolding stepOf performed
-returns c = rw (← c .before .before .before .before .before .before .before .fetch .ensures, c .before .before .before .before .before .decoded .given .1, ← c .before .before .before .needed-words .ensures, lt-ltb (c .before .before .before .before .before .before .before .before .before .before .before .before .before .args .self .registers .height) (c .before .before .before .needed-words .result) (c .before .if1 .taken), c .trapped3 .ensures)
+unfolding stepOf perform
+returns c =
+    let trapped3 = c .trapped3 in
+    let if1 = c .before .if1 in
+    let needed-words = c .before .before .before .needed-words in
+    let decoded = c .before .before .before .before .before .decoded in
+    let decode = c .before .before .before .before .before .before .before .decode in
+    let a = c .before .before .before .before .before .before .before .before .before .before .before .before .before .args in
+    rw (
+      ← decode .ensures,
+      decoded .given .1,
+      ← needed-words .ensures,
+      lt-ltb (a .self .registers .height) (needed-words .result) (if1 .taken),
+      trapped3 .ensures,
+    )
 
-cast-performed : tie.Need-cast-performed
-cast-performed c = record { fits = omega (arith, c .before .before .before .before .before .before .before .before .before .before .before .before .before .before .pre .0, ends (c .before .before .before .before .before .before .before .before .before .before .before .before .before .before .args .code .now) (length (c .before .before .before .before .before .before .before .before .before .before .before .before .before .before .args .code .now)) (c .before .before .before .before .before .before .before .before .before .before .before .before .before .before .args .self .registers .pc) (sym (c .before .before .before .before .before .before .before .before .fetch .ensures) ∙ c .before .before .before .before .before .before .decoded .given .1)) }
+cast-execute : tie.Need-cast-execute
+cast-execute c =
+    let the-pre = c .before .before .before .before .before .before .before .before .before .before .before .before .before .before .pre in
+    let pre = the-pre in
+    record { fits = omega (arith, pre .0, within (c .before .before .before .before .before .before)) }
 
-performed-requires : tie.Need-performed-requires
-performed-requires c κs = (omega (arith, c .before .before .before .before .before .before .before .before .before .before .before .before .before .before .pre .0, ends (c .before .before .before .before .before .before .before .before .before .before .before .before .before .before .args .code .now) (length (c .before .before .before .before .before .before .before .before .before .before .before .before .before .before .args .code .now)) (c .before .before .before .before .before .before .before .before .before .before .before .before .before .before .args .self .registers .pc) (sym (c .before .before .before .before .before .before .before .before .fetch .ensures) ∙ c .before .before .before .before .before .before .decoded .given .1)), (c .before .before .before .before .before .before .before .before .before .before .before .before .before .before .pre .1, omega (arith, c .before .before .before .before .needed-words .ensures)))
+execute-requires : tie.Need-execute-requires
+execute-requires c κs =
+    let if1 = c .before .before .if1 in
+    let needed-words = c .before .before .before .before .needed-words in
+    let tested = c .before .before in
+    let F = fitted (tested .before .before .before .before .before .before .before .before .before .before .before .before) in
+    (F .links, (F .room, omega (arith, needed-words .ensures, if1 .left)))
+
+apply-requires : tie.Need-apply-requires
+apply-requires c κs =
+    let tested = c .before .before .before .before .before in
+    fitted (tested .before .before .before .before .before .before .before .before .before .before .before .before) .deep
 
 returns-2 : tie.Need-returns-2
-unfolding stepOf performed
-returns-2 c = rw (← c .before .before .before .fetch .ensures, c .before .enum-told .given .1, c .trapped .ensures)
+unfolding stepOf perform
+returns-2 c =
+    let trapped = c .trapped in
+    let enum-told = c .before .enum-told in
+    let decode = c .before .before .before .decode in
+    rw (← decode .ensures, enum-told .given .1, trapped .ensures)
 
 returns-3 : tie.Need-returns-3
-unfolding stepOf performed
-returns-3 c = rw (← c .before .before .before .fetch .ensures, c .before .enum-told2 .given .1, c .trapped2 .ensures)
+unfolding stepOf perform
+returns-3 c =
+    let trapped2 = c .trapped2 in
+    let enum-told2 = c .before .enum-told2 in
+    let decode = c .before .before .before .decode in
+    rw (← decode .ensures, enum-told2 .given .1, trapped2 .ensures)
 
 returns-4 : tie.Need-returns-4
-unfolding stepOf performed
-returns-4 c = rw (← c .before .before .before .before .before .before .before .before .before .before .before .before .before .fetch .ensures, c .before .before .before .before .before .before .before .before .before .before .before .decoded .given .1, le-ltb (c .before .before .before .before .before .before .before .before .before .before .before .before .before .before .before .before .before .before .before .args .self .registers .height) (needed (c .before .before .before .before .before .before .before .before .before .before .before .decoded .given .0 .0)) (omega (arith, c .before .before .before .before .before .before .before .before .before .needed-words .ensures))) (c .before .before .before .before .performed .ensures)
+unfolding stepOf perform
+returns-4 c =
+    let apply = c .before .before .before .before .apply in
+    let execute = c .before .before .before .before .before .before .before .execute in
+    let earlier = c .before .before .before .before .before .before .before .before .before .before in
+    let if1 = earlier .if1 in
+    let needed-words = earlier .before .before .needed-words in
+    let decoded = earlier .before .before .before .before .decoded in
+    let decode = earlier .before .before .before .before .before .before .decode in
+    let a = earlier .before .before .before .before .before .before .before .before .before .before .before .before .args in
+    rw (
+      ← decode .ensures,
+      decoded .given .1,
+      le-ltb (a .self .registers .height) (needed (decoded .given .0 .0)) (omega (arith, needed-words .ensures, if1 .left)),
+      ← execute .ensures,
+    ) (apply .ensures)
 
 pub step-spec : {M : Type 1} → statement M
 step-spec =
     tie.close
-    (tie.spec
-    (λ c. search needs)
-    (λ c κs. search needs)
-    (λ c. search needs)
-    (λ c κs. search needs)
-    (λ c. search needs)
-    (λ c κs. search needs)
-    (λ c. search needs)
-    (λ c κs. search needs)
-    (λ c κs. search needs)
-    returns
-    cast-performed
-    performed-requires
-    returns-2
-    returns-3
-    (λ c. search needs)
-    (λ c. search needs)
-    returns-4)
+    (tie.spec (λ c. search needs) (λ c κs. search needs) (λ c. search needs) (λ c κs. search needs) (λ c. search needs)
+    (λ c κs. search needs) (λ c. search needs) (λ c κs. search needs) (λ c κs. search needs) returns cast-execute
+    execute-requires apply-requires returns-2 returns-3 (λ c. search needs) (λ c. search needs) returns-4)

@@ -18,24 +18,30 @@ loop-holds : tie.Need-loop-holds Inv-loop μ-loop
 loop-holds c = refl
 
 returns : tie.Need-returns Inv-loop μ-loop
-returns c = sym (c .before .before .before .loop .inv ∙ small-breaks (c .before .before .before .before .args .most) (c .before .before .before .before .args .s .now) (c .before .before .before .loop .i) (c .before .before .loop-test .taken) (c .if1 .taken))
+returns c =
+    let if1 = c .if1 in
+    let loop-test = c .before .before .loop-test in
+    let loop = c .before .before .before .loop in
+    let a = c .before .before .before .before .args in
+    sym (loop .inv ∙ small-breaks (a .most) (a .s .now) (loop .i) (loop-test .taken) (if1 .taken))
 
 loop-again : tie.Need-loop-again Inv-loop μ-loop
-loop-again c = c .before .before .before .loop .inv ∙ small-turn (c .before .before .before .before .args .most) (c .before .before .before .before .args .s .now) (c .before .before .before .loop .i) (c .before .before .loop-test .taken) (c .if1 .left)
+loop-again c =
+    let if1 = c .if1 in
+    let loop-test = c .before .before .loop-test in
+    let loop = c .before .before .before .loop in
+    let a = c .before .before .before .before .args in
+    loop .inv ∙ small-turn (a .most) (a .s .now) (loop .i) (loop-test .taken) (if1 .left)
 
 returns-2 : tie.Need-returns-2 Inv-loop μ-loop
-returns-2 c = sym (c .before .loop .inv ∙ small-over (c .before .before .args .most) (c .before .before .args .s .now) (c .before .loop .i) (c .loop-test .left))
+returns-2 c =
+    let loop-test = c .loop-test in
+    let loop = c .before .loop in
+    let a = c .before .before .args in
+    sym (loop .inv ∙ small-over (a .most) (a .s .now) (loop .i) (loop-test .left))
 
 pub all-at-most-spec : {M : Type 1} → statement M
 all-at-most-spec =
     tie.close
-    (tie.spec
-    Inv-loop
-    μ-loop
-    loop-holds
-    (λ c. search needs)
-    returns
-    (λ c. search needs)
-    (λ c. search needs)
-    loop-again
+    (tie.spec Inv-loop μ-loop loop-holds (λ c. search needs) returns (λ c. search needs) (λ c. search needs) loop-again
     returns-2)

@@ -15,30 +15,56 @@ unfolding checkOf
 returns c = rw (← c .before .list-number .ensures, ne-eqb (c .before .list-number .result) 0 (c .if1 .taken))
 
 mul-examine : tie.Need-mul-examine
-mul-examine c = let s = small (c .before .before .before .before .before .before .args .r .now) (c .before .before .before .before .before .before .args .results .now) (c .before .before .before .before .before .before .args .w .now) (sym (c .before .before .list-number .ensures) ∙ c .before .if1 .left) in record { fits = omega (arith, rw (← c .code-of .ensures) at s) }
+mul-examine c =
+    let code-of = c .code-of in
+    let if1 = c .before .if1 in
+    let list-number = c .before .before .list-number in
+    let a = c .before .before .before .before .before .before .args in
+    let s = small (a .r .now) (a .results .now) (a .w .now) (sym (list-number .ensures) ∙ if1 .left) in
+    record { fits = omega (arith, rw (← code-of .ensures) at s) }
 
 slice-relend-prefix-examine : tie.Need-slice-relend-prefix-examine
-slice-relend-prefix-examine c = rw (c .code-of .ensures) (room (c .before .before .before .before .before .before .args .r .now) (c .before .before .before .before .before .before .args .results .now) (c .before .before .before .before .before .before .args .w .now) (sym (c .before .before .list-number .ensures) ∙ c .before .if1 .left))
+slice-relend-prefix-examine c =
+    let code-of = c .code-of in
+    let if1 = c .before .if1 in
+    let list-number = c .before .before .list-number in
+    let a = c .before .before .before .before .before .before .args in
+    rw (code-of .ensures) (room (a .r .now) (a .results .now) (a .w .now) (sym (list-number .ensures) ∙ if1 .left))
 
 slice-aggregate-examine : tie.Need-slice-aggregate-examine
-slice-aggregate-examine c = let s = rw (← c .before .code-of .ensures) at (room (c .before .before .before .before .before .before .before .args .r .now) (c .before .before .before .before .before .before .before .args .results .now) (c .before .before .before .before .before .before .before .args .w .now) (sym (c .before .before .before .list-number .ensures) ∙ c .before .before .if1 .left)) in omega (arith, s, length-take (4 * length (c .before .code-of .result .now)) (c .before .before .before .before .before .before .before .args .w .now))
+slice-aggregate-examine c =
+    let code-of = c .before .code-of in
+    let if1 = c .before .before .if1 in
+    let list-number = c .before .before .before .list-number in
+    let a = c .before .before .before .before .before .before .before .args in
+    let s = rw (← code-of .ensures) at
+    (room (a .r .now) (a .results .now) (a .w .now) (sym (list-number .ensures) ∙ if1 .left)) in
+    omega (arith, s, length-take (4 * length (code-of .result .now)) (a .w .now))
 
 examine-requires : tie.Need-examine-requires
-examine-requires c κs = let s = rw (← c .before .code-of .ensures) at (small (c .before .before .before .before .before .before .before .args .r .now) (c .before .before .before .before .before .before .before .args .results .now) (c .before .before .before .before .before .before .before .args .w .now) (sym (c .before .before .before .list-number .ensures) ∙ c .before .before .if1 .left)) in omega (arith, s)
+examine-requires c κs =
+    let code-of = c .before .code-of in
+    let if1 = c .before .before .if1 in
+    let list-number = c .before .before .before .list-number in
+    let a = c .before .before .before .before .before .before .before .args in
+    let s = rw (← code-of .ensures) at
+    (small (a .r .now) (a .results .now) (a .w .now) (sym (list-number .ensures) ∙ if1 .left)) in
+    omega (arith, s)
 
 returns-2 : tie.Need-returns-2
-returns-2 c = rw (c .before .before .before .before .code-of .ensures) (lends (c .before .before .before .before .before .before .before .before .before .before .args .r .now) (c .before .before .before .before .before .before .before .before .before .before .args .results .now) (c .before .before .before .before .before .before .before .before .before .before .args .w .now) (sym (c .before .before .before .before .before .before .list-number .ensures) ∙ c .before .before .before .before .before .if1 .left) (λ k. c .before .before .before .before .before .before .before .before .before .shared-slice-known .given k .fits) (c .before .before .examine .result) (c .before .before .examine .last .1 .1 .0) (rw (c .before .before .before .before .code-of .ensures) at (c .before .before .examine .ensures)))
+returns-2 c =
+    let examine = c .before .before .examine in
+    let code-of = c .before .before .before .before .code-of in
+    let if1 = c .before .before .before .before .before .if1 in
+    let list-number = c .before .before .before .before .before .before .list-number in
+    let earlier = c .before .before .before .before .before .before .before .before .before in
+    let shared-slice-known = earlier .shared-slice-known in
+    let a = earlier .before .args in
+    rw (code-of .ensures)
+    (lends (a .r .now) (a .results .now) (a .w .now) (sym (list-number .ensures) ∙ if1 .left) (λ k. shared-slice-known .given k .fits) (examine .result) (examine .last .1 .1 .0) (rw (code-of .ensures) at (examine .ensures)))
 
 pub check-spec : {M : Type 1} → statement M
 check-spec =
     tie.close
-    (tie.spec
-    (λ c κs. search needs)
-    returns
-    (λ c κs. search needs)
-    mul-examine
-    slice-relend-prefix-examine
-    slice-aggregate-examine
-    examine-requires
-    (λ c. search needs)
-    returns-2)
+    (tie.spec (λ c κs. search needs) returns (λ c κs. search needs) mul-examine slice-relend-prefix-examine
+    slice-aggregate-examine examine-requires (λ c. search needs) returns-2)

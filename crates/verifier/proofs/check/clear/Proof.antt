@@ -20,22 +20,19 @@ slice-write-w : tie.Need-slice-write-w Inv-loop μ-loop
 slice-write-w c = omega (arith, c .before .loop .inv .0 .kept, c .loop-test .taken)
 
 loop-again : tie.Need-loop-again Inv-loop μ-loop
-loop-again c = (zeroing-next (c .before .loop .inv .0) (omega (arith, c .before .loop .inv .0 .kept, c .loop-test .taken)), omega (arith, c .loop-test .taken))
+loop-again c =
+    let loop-test = c .loop-test in
+    let loop = c .before .loop in
+    (zeroing-next (loop .inv .0) (omega (arith, loop .inv .0 .kept, loop-test .taken)), omega (arith, loop-test .taken))
 
 returns : tie.Need-returns Inv-loop μ-loop
-returns c = zeroing-over (c .before .loop .inv .0) (omega (arith, c .before .loop .inv .0 .kept, c .before .loop .inv .1, c .loop-test .left))
+returns c =
+    let loop-test = c .loop-test in
+    let loop = c .before .loop in
+    zeroing-over (loop .inv .0) (omega (arith, loop .inv .0 .kept, loop .inv .1, loop-test .left))
 
 pub clear-spec : {M : Type 1} → statement M
 clear-spec =
     tie.close
-    (tie.spec
-    Inv-loop
-    μ-loop
-    loop-holds
-    (λ c. search needs)
-    slice-write-w
-    (λ c. search needs)
-    (λ c. search needs)
-    loop-again
-    (λ c. search needs)
-    returns)
+    (tie.spec Inv-loop μ-loop loop-holds (λ c. search needs) slice-write-w (λ c. search needs) (λ c. search needs) loop-again
+    (λ c. search needs) returns)

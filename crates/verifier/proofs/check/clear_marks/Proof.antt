@@ -15,7 +15,11 @@ loop-holds : tie.Need-loop-holds Inv-loop μ-loop
 loop-holds c = unmarking-start
 
 loop-again : tie.Need-loop-again Inv-loop μ-loop
-loop-again c = unmarking-next (c .before .before .before .before .before .loop .inv) (c .before .before .before .before .loop-test .taken) (c .before .before .set-half .ensures)
+loop-again c =
+    let set-half = c .before .before .set-half in
+    let loop-test = c .before .before .before .before .loop-test in
+    let loop = c .before .before .before .before .before .loop in
+    unmarking-next (loop .inv) (loop-test .taken) (set-half .ensures)
 
 returns : tie.Need-returns Inv-loop μ-loop
 returns c = unmarking-over (c .before .loop .inv) (c .loop-test .left)
@@ -23,15 +27,5 @@ returns c = unmarking-over (c .before .loop .inv) (c .loop-test .left)
 pub clear-marks-spec : {M : Type 1} → statement M
 clear-marks-spec =
     tie.close
-    (tie.spec
-    Inv-loop
-    μ-loop
-    loop-holds
-    (λ c. search needs)
-    (λ c. search needs)
-    (λ c κs. search needs)
-    (λ c. search needs)
-    (λ c. search needs)
-    loop-again
-    (λ c. search needs)
-    returns)
+    (tie.spec Inv-loop μ-loop loop-holds (λ c. search needs) (λ c. search needs) (λ c κs. search needs) (λ c. search needs)
+    (λ c. search needs) loop-again (λ c. search needs) returns)

@@ -7,37 +7,81 @@ use Rattle.verifier.proofs.check.examine.Tie as tie
 
 returns : tie.Need-returns
 unfolding examinedTop
-returns c = rw (← c .before .before .before .before .before .before .before .before .before .before .before .clear .ensures, ← c .before .before .before .before .before .before .before .cut-all .ensures, ne-eqb (c .before .before .before .before .before .before .before .cut-all .result) 0 (c .before .before .before .before .if1 .taken), c .before .before .clear2 .ensures)
+returns c =
+    let clear2 = c .before .before .clear2 in
+    let if1 = c .before .before .before .before .if1 in
+    let cut-all = c .before .before .before .before .before .before .before .cut-all in
+    let clear = c .before .before .before .before .before .before .before .before .before .before .before .clear in
+    rw (← clear .ensures, ← cut-all .ensures, ne-eqb (cut-all .result) 0 (if1 .taken), clear2 .ensures)
 
 returns-2 : tie.Need-returns-2
 unfolding examinedTop
-returns-2 c = rw (← c .before .before .before .before .before .before .before .before .before .before .before .before .before .before .clear .ensures, ← c .before .before .before .before .before .before .before .before .before .before .cut-all .ensures, eq-eqb (c .before .before .before .before .before .before .before .before .before .before .cut-all .result) 0 (c .before .before .before .before .before .before .before .if1 .left), ← c .before .before .before .before .before .code-number .ensures, ne-eqb (c .before .before .before .before .before .code-number .result) 0 (c .before .before .before .before .if2 .taken), c .before .before .clear3 .ensures)
+returns-2 c =
+    let clear3 = c .before .before .clear3 in
+    let if2 = c .before .before .before .before .if2 in
+    let code-number = c .before .before .before .before .before .code-number in
+    let if1 = c .before .before .before .before .before .before .before .if1 in
+    let earlier = c .before .before .before .before .before .before .before .before .before .before in
+    let cut-all = earlier .cut-all in
+    let clear = earlier .before .before .before .before .clear in
+    rw (
+      ← clear .ensures,
+      ← cut-all .ensures,
+      eq-eqb (cut-all .result) 0 (if1 .left),
+      ← code-number .ensures,
+      ne-eqb (code-number .result) 0 (if2 .taken),
+      clear3 .ensures,
+    )
 
 returns-3 : tie.Need-returns-3
 unfolding examinedTop
-returns-3 c = rw (← c .before .before .before .before .before .before .before .before .before .before .before .before .before .before .before .before .before .before .before .clear .ensures, ← c .before .before .before .before .before .before .before .before .before .before .before .before .before .before .before .cut-all .ensures, eq-eqb (c .before .before .before .before .before .before .before .before .before .before .before .before .before .before .before .cut-all .result) 0 (c .before .before .before .before .before .before .before .before .before .before .before .before .if1 .left), ← c .before .before .before .before .before .before .before .before .before .before .code-number .ensures, eq-eqb (c .before .before .before .before .before .before .before .before .before .before .code-number .result) 0 (c .before .before .before .before .before .before .before .before .before .if2 .left), ← c .before .before .before .before .before .before .before .find-maps .ensures, not-true (c .before .before .before .before .before .before .before .find-maps .result) (c .before .before .before .before .if3 .taken), c .before .before .clear4 .ensures)
+returns-3 c =
+    let clear4 = c .before .before .clear4 in
+    let if3 = c .before .before .before .before .if3 in
+    let find-maps = c .before .before .before .before .before .before .before .find-maps in
+    let earlier = c .before .before .before .before .before .before .before .before .before in
+    let if2 = earlier .if2 in
+    let code-number = earlier .before .code-number in
+    let if1 = earlier .before .before .before .if1 in
+    let cut-all = earlier .before .before .before .before .before .before .cut-all in
+    let clear = earlier .before .before .before .before .before .before .before .before .before .before .clear in
+    rw (
+      ← clear .ensures,
+      ← cut-all .ensures,
+      eq-eqb (cut-all .result) 0 (if1 .left),
+      ← code-number .ensures,
+      eq-eqb (code-number .result) 0 (if2 .left),
+      ← find-maps .ensures,
+      not-true (find-maps .result) (if3 .taken),
+      clear4 .ensures,
+    )
 
 returns-4 : tie.Need-returns-4
 unfolding examinedTop
-returns-4 c = rw (← c .before .before .before .before .before .before .before .before .before .before .before .before .before .before .before .before .before .before .before .clear .ensures, ← c .before .before .before .before .before .before .before .before .before .before .before .before .before .before .before .cut-all .ensures, eq-eqb (c .before .before .before .before .before .before .before .before .before .before .before .before .before .before .before .cut-all .result) 0 (c .before .before .before .before .before .before .before .before .before .before .before .before .if1 .left), ← c .before .before .before .before .before .before .before .before .before .before .code-number .ensures, eq-eqb (c .before .before .before .before .before .before .before .before .before .before .code-number .result) 0 (c .before .before .before .before .before .before .before .before .before .if2 .left), ← c .before .before .before .before .before .before .before .find-maps .ensures, not-false (c .before .before .before .before .before .before .before .find-maps .result) (c .before .before .before .before .if3 .left), c .before .before .clear-marks .ensures)
+returns-4 c =
+    let clear-marks = c .before .before .clear-marks in
+    let if3 = c .before .before .before .before .if3 in
+    let find-maps = c .before .before .before .before .before .before .before .find-maps in
+    let earlier = c .before .before .before .before .before .before .before .before .before in
+    let if2 = earlier .if2 in
+    let code-number = earlier .before .code-number in
+    let if1 = earlier .before .before .before .if1 in
+    let cut-all = earlier .before .before .before .before .before .before .cut-all in
+    let clear = earlier .before .before .before .before .before .before .before .before .before .before .clear in
+    rw (
+      ← clear .ensures,
+      ← cut-all .ensures,
+      eq-eqb (cut-all .result) 0 (if1 .left),
+      ← code-number .ensures,
+      eq-eqb (code-number .result) 0 (if2 .left),
+      ← find-maps .ensures,
+      not-false (find-maps .result) (if3 .left),
+      clear-marks .ensures,
+    )
 
 pub examine-spec : {M : Type 1} → statement M
 examine-spec =
     tie.close
-    (tie.spec
-    (λ c κs. search needs)
-    (λ c κs. search needs)
-    (λ c κs. search needs)
-    (λ c. search needs)
-    returns
-    (λ c κs. search needs)
-    (λ c κs. search needs)
-    (λ c. search needs)
-    returns-2
-    (λ c κs. search needs)
-    (λ c κs. search needs)
-    (λ c. search needs)
-    returns-3
-    (λ c κs. search needs)
-    (λ c. search needs)
-    returns-4)
+    (tie.spec (λ c κs. search needs) (λ c κs. search needs) (λ c κs. search needs) (λ c. search needs) returns
+    (λ c κs. search needs) (λ c κs. search needs) (λ c. search needs) returns-2 (λ c κs. search needs) (λ c κs. search needs)
+    (λ c. search needs) returns-3 (λ c κs. search needs) (λ c. search needs) returns-4)

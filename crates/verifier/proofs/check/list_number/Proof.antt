@@ -14,24 +14,58 @@ returns c = rw (← c .before .record-number .ensures, ne-eqb (c .before .record
 
 returns-2 : tie.Need-returns-2
 unfolding listNumber
-returns-2 c = rw (← c .before .before .before .record-number .ensures, eq-eqb (c .before .before .before .record-number .result) 0 (c .before .before .if1 .left), ← c .before .code-of .ensures, lt-ltb (c .before .before .before .before .before .before .args .room) (4 * length (c .before .code-of .result .now)) (omega (arith, c .if2 .taken)))
+returns-2 c =
+    let if2 = c .if2 in
+    let code-of = c .before .code-of in
+    let if1 = c .before .before .if1 in
+    let record-number = c .before .before .before .record-number in
+    let a = c .before .before .before .before .before .before .args in
+    rw (
+      ← record-number .ensures,
+      eq-eqb (record-number .result) 0 (if1 .left),
+      ← code-of .ensures,
+      lt-ltb (a .room) (4 * length (code-of .result .now)) (omega (arith, if2 .taken)),
+    )
 
 returns-3 : tie.Need-returns-3
 unfolding listNumber
-returns-3 c = rw (← c .before .before .before .before .before .record-number .ensures, eq-eqb (c .before .before .before .before .before .record-number .result) 0 (c .before .before .before .before .if1 .left), ← c .before .before .before .code-of .ensures, le-ltb (c .before .before .before .before .before .before .before .before .args .room) (4 * length (c .before .before .before .code-of .result .now)) (omega (arith, c .before .before .if2 .left)), ← c .before .results-sound .ensures, not-true (c .before .results-sound .result) (c .if3 .taken))
+returns-3 c =
+    let if3 = c .if3 in
+    let results-sound = c .before .results-sound in
+    let if2 = c .before .before .if2 in
+    let code-of = c .before .before .before .code-of in
+    let if1 = c .before .before .before .before .if1 in
+    let record-number = c .before .before .before .before .before .record-number in
+    let a = c .before .before .before .before .before .before .before .before .args in
+    rw (
+      ← record-number .ensures,
+      eq-eqb (record-number .result) 0 (if1 .left),
+      ← code-of .ensures,
+      le-ltb (a .room) (4 * length (code-of .result .now)) (omega (arith, if2 .left)),
+      ← results-sound .ensures,
+      not-true (results-sound .result) (if3 .taken),
+    )
 
 returns-4 : tie.Need-returns-4
 unfolding listNumber
-returns-4 c = rw (← c .before .before .before .before .before .record-number .ensures, eq-eqb (c .before .before .before .before .before .record-number .result) 0 (c .before .before .before .before .if1 .left), ← c .before .before .before .code-of .ensures, le-ltb (c .before .before .before .before .before .before .before .before .args .room) (4 * length (c .before .before .before .code-of .result .now)) (omega (arith, c .before .before .if2 .left)), ← c .before .results-sound .ensures, not-false (c .before .results-sound .result) (c .if3 .left))
+returns-4 c =
+    let if3 = c .if3 in
+    let results-sound = c .before .results-sound in
+    let if2 = c .before .before .if2 in
+    let code-of = c .before .before .before .code-of in
+    let if1 = c .before .before .before .before .if1 in
+    let record-number = c .before .before .before .before .before .record-number in
+    let a = c .before .before .before .before .before .before .before .before .args in
+    rw (
+      ← record-number .ensures,
+      eq-eqb (record-number .result) 0 (if1 .left),
+      ← code-of .ensures,
+      le-ltb (a .room) (4 * length (code-of .result .now)) (omega (arith, if2 .left)),
+      ← results-sound .ensures,
+      not-false (results-sound .result) (if3 .left),
+    )
 
 pub list-number-spec : {M : Type 1} → statement M
 list-number-spec =
     tie.close
-    (tie.spec
-    (λ c κs. search needs)
-    returns
-    (λ c κs. search needs)
-    returns-2
-    (λ c κs. search needs)
-    returns-3
-    returns-4)
+    (tie.spec (λ c κs. search needs) returns (λ c κs. search needs) returns-2 (λ c κs. search needs) returns-3 returns-4)

@@ -6,21 +6,15 @@ use Rattle.verifier.proofs.hand.give.Tie as tie
 
 returns : tie.Need-returns
 unfolding given
-returns c = rw (c .before .before .set-half3 .ensures, c .before .before .before .before .before .before .set-half2 .ensures, c .before .before .before .before .before .before .before .before .before .before .set-half .ensures)
+returns c =
+    let set-half3 = c .before .before .set-half3 in
+    let set-half2 = c .before .before .before .before .before .before .set-half2 in
+    let set-half = c .before .before .before .before .before .before .before .before .before .before .set-half in
+    rw (set-half3 .ensures, set-half2 .ensures, set-half .ensures)
 
 pub give-spec : {M : Type 1} → statement M
 give-spec =
     tie.close
-    (tie.spec
-    (λ c. search needs)
-    (λ c. search needs)
-    (λ c. search needs)
-    (λ c κs. search needs)
-    (λ c. search needs)
-    (λ c. search needs)
-    (λ c κs. search needs)
-    (λ c. search needs)
-    (λ c. search needs)
-    (λ c κs. search needs)
-    (λ c. search needs)
-    returns)
+    (tie.spec (λ c. search needs) (λ c. search needs) (λ c. search needs) (λ c κs. search needs) (λ c. search needs)
+    (λ c. search needs) (λ c κs. search needs) (λ c. search needs) (λ c. search needs) (λ c κs. search needs)
+    (λ c. search needs) returns)

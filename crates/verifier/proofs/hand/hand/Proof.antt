@@ -14,24 +14,35 @@ returns c = rw (← c .before .starts-in .ensures, not-true (c .before .starts-i
 
 returns-2 : tie.Need-returns-2
 unfolding handedTop
-returns-2 c = rw (← c .before .before .before .starts-in .ensures, not-false (c .before .before .before .starts-in .result) (c .before .before .if1 .left), lt-leb (c .before .before .before .before .before .before .args .way .height) 255 (c .if2 .taken))
+returns-2 c =
+    let if2 = c .if2 in
+    let if1 = c .before .before .if1 in
+    let starts-in = c .before .before .before .starts-in in
+    let a = c .before .before .before .before .before .before .args in
+    rw (← starts-in .ensures, not-false (starts-in .result) (if1 .left), lt-leb (a .way .height) 255 (if2 .taken))
 
 take-requires : tie.Need-take-requires
-take-requires c κs = (let n = start-near (c .before .before .before .before .before .before .before .args .w .now) (c .before .before .before .before .before .before .before .args .size) (c .before .before .before .before .before .before .before .args .p) (c .before .before .before .before .before .before .before .args .way .place) (sym (c .before .before .before .before .starts-in .ensures) ∙ not-false (c .before .before .before .before .starts-in .result) (c .before .before .before .if1 .left)) in omega (arith, c .before .before .before .before .before .before .before .pre .0), c .before .if2 .left)
+take-requires c κs =
+    let if2 = c .before .if2 in
+    let if1 = c .before .before .before .if1 in
+    let starts-in = c .before .before .before .before .starts-in in
+    let a = c .before .before .before .before .before .before .before .args in
+    let pre = c .before .before .before .before .before .before .before .pre in
+    (let n = start-near (a .w .now) (a .size) (a .p) (a .way .place) (sym (starts-in .ensures) ∙ not-false (starts-in .result) (if1 .left)) in omega (arith, pre .0), if2 .left)
 
 returns-3 : tie.Need-returns-3
 unfolding handedTop
-returns-3 c = rw (← c .before .before .before .before .before .before .before .starts-in .ensures, not-false (c .before .before .before .before .before .before .before .starts-in .result) (c .before .before .before .before .before .before .if1 .left), le-leb (c .before .before .before .before .before .before .before .before .before .before .args .way .height) 255 (c .before .before .before .before .if2 .left)) (c .before .before .take .ensures)
+returns-3 c =
+    let take = c .before .before .take in
+    let if2 = c .before .before .before .before .if2 in
+    let if1 = c .before .before .before .before .before .before .if1 in
+    let starts-in = c .before .before .before .before .before .before .before .starts-in in
+    let a = c .before .before .before .before .before .before .before .before .before .before .args in
+    rw (← starts-in .ensures, not-false (starts-in .result) (if1 .left), le-leb (a .way .height) 255 (if2 .left))
+    (take .ensures)
 
 pub hand-spec : {M : Type 1} → statement M
 hand-spec =
     tie.close
-    (tie.spec
-    (λ c κs. search needs)
-    (λ c. search needs)
-    returns
-    (λ c. search needs)
-    returns-2
-    take-requires
-    (λ c. search needs)
-    returns-3)
+    (tie.spec (λ c κs. search needs) (λ c. search needs) returns (λ c. search needs) returns-2 take-requires
+    (λ c. search needs) returns-3)

@@ -18,13 +18,38 @@ loop-holds : tie.Need-loop-holds Inv-loop μ-loop
 loop-holds c = branched-start
 
 cast-table-target : tie.Need-cast-table-target Inv-loop μ-loop
-cast-table-target c = omega (arith, c .before .before .table-size .ensures, size-below (c .before .before .before .before .before .args .table) (c .before .before .before .before .before .args .n), c .before .before .before .before .before .fits .n, c .loop-test .taken)
+cast-table-target c =
+    let loop-test = c .loop-test in
+    let table-size = c .before .before .table-size in
+    let a = c .before .before .before .before .before .args in
+    let fits = c .before .before .before .before .before .fits in
+    omega (arith, table-size .ensures, size-below (a .table) (a .n), fits .n, loop-test .taken)
 
 returns : tie.Need-returns Inv-loop μ-loop
-returns c = branched-turn (c .before .before .before .before .before .before .before .before .before .loop .inv) (rw (c .before .before .before .before .before .before .before .before .before .before .table-size .ensures) at (c .before .before .before .before .before .before .before .before .loop-test .taken)) (c .before .before .before .before .before .before .before .table-target .ensures) (rw (c .enum-told .given .1, c .before .before .before .before .before .way-toward .ensures) at (c .before .before .before .before .hand .ensures))
+returns c =
+    let enum-told = c .enum-told in
+    let hand = c .before .before .before .before .hand in
+    let way-toward = c .before .before .before .before .before .way-toward in
+    let table-target = c .before .before .before .before .before .before .before .table-target in
+    let earlier = c .before .before .before .before .before .before .before .before in
+    let loop-test = earlier .loop-test in
+    let loop = earlier .before .loop in
+    let table-size = earlier .before .before .table-size in
+    branched-turn (loop .inv) (rw (table-size .ensures) at (loop-test .taken)) (table-target .ensures)
+    (rw (enum-told .given .1, way-toward .ensures) at (hand .ensures))
 
 loop-again : tie.Need-loop-again Inv-loop μ-loop
-loop-again c = branched-next (c .before .before .before .before .before .before .before .before .before .before .loop .inv) (rw (c .before .before .before .before .before .before .before .before .before .before .before .table-size .ensures) at (c .before .before .before .before .before .before .before .before .before .loop-test .taken)) (c .before .before .before .before .before .before .before .before .table-target .ensures) (rw (c .before .before .before .before .before .before .way-toward .ensures) at (c .before .before .before .before .before .hand .ensures)) (c .before .next .given .1) (c .before .before .before .before .before .hand .kept .1 .0)
+loop-again c =
+    let next = c .before .next in
+    let hand = c .before .before .before .before .before .hand in
+    let way-toward = c .before .before .before .before .before .before .way-toward in
+    let earlier = c .before .before .before .before .before .before .before .before in
+    let table-target = earlier .table-target in
+    let loop-test = earlier .before .loop-test in
+    let loop = earlier .before .before .loop in
+    let table-size = earlier .before .before .before .table-size in
+    branched-next (loop .inv) (rw (table-size .ensures) at (loop-test .taken)) (table-target .ensures)
+    (rw (way-toward .ensures) at (hand .ensures)) (next .given .1) (hand .kept .1 .0)
 
 returns-2 : tie.Need-returns-2 Inv-loop μ-loop
 returns-2 c = branched-over (c .before .loop .inv) (rw (c .before .before .table-size .ensures) at (c .loop-test .left))
@@ -32,21 +57,6 @@ returns-2 c = branched-over (c .before .loop .inv) (rw (c .before .before .table
 pub hand-table-spec : {M : Type 1} → statement M
 hand-table-spec =
     tie.close
-    (tie.spec
-    Inv-loop
-    μ-loop
-    (λ c κs. search needs)
-    loop-holds
-    cast-table-target
-    (λ c κs. search needs)
-    (λ c κs. search needs)
-    (λ c κs. search needs)
-    (λ c. search needs)
-    (λ c. search needs)
-    returns
-    (λ c. search needs)
-    (λ c. search needs)
-    (λ c. search needs)
-    loop-again
-    (λ c. search needs)
-    returns-2)
+    (tie.spec Inv-loop μ-loop (λ c κs. search needs) loop-holds cast-table-target (λ c κs. search needs)
+    (λ c κs. search needs) (λ c κs. search needs) (λ c. search needs) (λ c. search needs) returns (λ c. search needs)
+    (λ c. search needs) (λ c. search needs) loop-again (λ c. search needs) returns-2)

@@ -17,23 +17,23 @@ loop-holds : tie.Need-loop-holds Inv-loop μ-loop
 loop-holds c = entered-start
 
 loop-again : tie.Need-loop-again Inv-loop μ-loop
-loop-again c = entered-next (c .before .before .before .before .before .loop .inv) (rw (c .before .before .before .before .before .before .entry-count .ensures) at (c .before .before .before .before .loop-test .taken)) (c .before .before .give-entry .ensures) (c .before .before .give-entry .kept .1 .0)
+loop-again c =
+    let give-entry = c .before .before .give-entry in
+    let loop-test = c .before .before .before .before .loop-test in
+    let loop = c .before .before .before .before .before .loop in
+    let entry-count = c .before .before .before .before .before .before .entry-count in
+    entered-next (loop .inv) (rw (entry-count .ensures) at (loop-test .taken)) (give-entry .ensures) (give-entry .kept .1 .0)
 
 returns : tie.Need-returns Inv-loop μ-loop
-returns c = c .before .before .give-entry2 .ensures ∙ entered-last (c .before .before .before .before .before .loop .inv) (rw (c .before .before .before .before .before .before .entry-count .ensures) at (c .before .before .before .before .loop-test .left))
+returns c =
+    let give-entry2 = c .before .before .give-entry2 in
+    let loop-test = c .before .before .before .before .loop-test in
+    let loop = c .before .before .before .before .before .loop in
+    let entry-count = c .before .before .before .before .before .before .entry-count in
+    give-entry2 .ensures ∙ entered-last (loop .inv) (rw (entry-count .ensures) at (loop-test .left))
 
 pub give-entries-spec : {M : Type 1} → statement M
 give-entries-spec =
     tie.close
-    (tie.spec
-    Inv-loop
-    μ-loop
-    (λ c κs. search needs)
-    loop-holds
-    (λ c κs. search needs)
-    (λ c. search needs)
-    (λ c. search needs)
-    loop-again
-    (λ c κs. search needs)
-    (λ c. search needs)
-    returns)
+    (tie.spec Inv-loop μ-loop (λ c κs. search needs) loop-holds (λ c κs. search needs) (λ c. search needs)
+    (λ c. search needs) loop-again (λ c κs. search needs) (λ c. search needs) returns)

@@ -7,20 +7,23 @@ use Rattle.stackmap.proofs.Entering.{parameters-few}
 use Rattle.verifier.proofs.walk.give_entry.Tie as tie
 
 give-requires : tie.Need-give-requires
-give-requires c κs = (omega (arith, c .entry-at .ok), rw (c .before .before .callee-parameters .ensures) (parameters-few (c .before .before .before .before .before .args .code .now) (λ k. omega (arith, c .before .before .before .before .shared-slice-known .given k)) (c .before .before .before .before .before .args .p)))
+give-requires c κs =
+    let entry-at = c .entry-at in
+    let callee-parameters = c .before .before .callee-parameters in
+    let shared-slice-known = c .before .before .before .before .shared-slice-known in
+    let a = c .before .before .before .before .before .args in
+    (omega (arith, entry-at .ok), rw (callee-parameters .ensures) (parameters-few (a .code .now) (λ k. omega (arith, shared-slice-known .given k)) (a .p)))
 
 returns : tie.Need-returns
 unfolding entryGiven
-returns c = rw (c .before .before .give .ensures, c .before .before .before .entry-at .ensures, c .before .before .before .before .before .callee-parameters .ensures)
+returns c =
+    let give = c .before .before .give in
+    let entry-at = c .before .before .before .entry-at in
+    let callee-parameters = c .before .before .before .before .before .callee-parameters in
+    rw (give .ensures, entry-at .ensures, callee-parameters .ensures)
 
 pub give-entry-spec : {M : Type 1} → statement M
 give-entry-spec =
     tie.close
-    (tie.spec
-    (λ c κs. search needs)
-    (λ c. search needs)
-    (λ c κs. search needs)
-    (λ c. search needs)
-    give-requires
-    (λ c. search needs)
-    returns)
+    (tie.spec (λ c κs. search needs) (λ c. search needs) (λ c κs. search needs) (λ c. search needs) give-requires
+    (λ c. search needs) returns)

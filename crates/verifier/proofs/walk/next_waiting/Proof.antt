@@ -20,10 +20,28 @@ loop-holds : tie.Need-loop-holds Inv-loop μ-loop
 loop-holds c = refl
 
 returns : tie.Need-returns Inv-loop μ-loop
-returns c = rw (c .before .before .before .loop .inv, one-left (c .before .before .before .loop .at) (c .before .before .before .before .before .args .size) (c .before .before .loop-test .taken), ← c .before .half-at .ensures, ne-eqb (c .before .half-at .result) 0 (c .if1 .taken))
+returns c =
+    let if1 = c .if1 in
+    let half-at = c .before .half-at in
+    let loop-test = c .before .before .loop-test in
+    let loop = c .before .before .before .loop in
+    let a = c .before .before .before .before .before .args in
+    rw (
+      loop .inv,
+      one-left (loop .at) (a .size) (loop-test .taken),
+      ← half-at .ensures,
+      ne-eqb (half-at .result) 0 (if1 .taken),
+    )
 
 loop-again : tie.Need-loop-again Inv-loop μ-loop
-loop-again c = c .before .before .before .loop .inv ∙ rw (one-left (c .before .before .before .loop .at) (c .before .before .before .before .before .args .size) (c .before .before .loop-test .taken), ← c .before .half-at .ensures, eq-eqb (c .before .half-at .result) 0 (c .if1 .left))
+loop-again c =
+    let if1 = c .if1 in
+    let half-at = c .before .half-at in
+    let loop-test = c .before .before .loop-test in
+    let loop = c .before .before .before .loop in
+    let a = c .before .before .before .before .before .args in
+    loop .inv ∙ rw
+    (one-left (loop .at) (a .size) (loop-test .taken), ← half-at .ensures, eq-eqb (half-at .result) 0 (if1 .left))
 
 returns-2 : tie.Need-returns-2 Inv-loop μ-loop
 returns-2 c = rw (c .before .loop .inv, sub-eq-zero-of-le (c .loop-test .left))
@@ -31,15 +49,5 @@ returns-2 c = rw (c .before .loop .inv, sub-eq-zero-of-le (c .loop-test .left))
 pub next-waiting-spec : {M : Type 1} → statement M
 next-waiting-spec =
     tie.close
-    (tie.spec
-    Inv-loop
-    μ-loop
-    loop-holds
-    (λ c. search needs)
-    (λ c. search needs)
-    (λ c κs. search needs)
-    returns
-    (λ c. search needs)
-    (λ c. search needs)
-    loop-again
-    returns-2)
+    (tie.spec Inv-loop μ-loop loop-holds (λ c. search needs) (λ c. search needs) (λ c κs. search needs) returns
+    (λ c. search needs) (λ c. search needs) loop-again returns-2)

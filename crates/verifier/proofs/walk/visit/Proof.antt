@@ -6,49 +6,60 @@ use Rattle.verifier.specs.Handing.{visitedTop}
 use Rattle.verifier.proofs.walk.visit.Tie as tie
 
 hand-ways-requires : tie.Need-hand-ways-requires
-hand-ways-requires c κs = (c .before .before .before .before .before .before .before .before .before .before .before .before .before .before .before .before .before .before .before .before .before .before .before .before .pre .0, (omega (arith, c .before .before .before .before .before .before .before .before .before .before .before .before .before .before .before .before .before .before .before .half-at .ok, c .before .before .before .before .before .before .before .before .before .before .before .before .before .before .before .before .before .before .held .ensures), omega (arith, c .before .before .before .before .before .before .before .before .before .before .before .before .before .before .before .before .before .before .before .before .before .before .before .before .pre .0, c .before .before .before .before .before .before .before .before .before .before .before .before .before .before .before .before .before .before .before .before .before .before .before .before .pre .1)))
+hand-ways-requires c κs =
+    let earlier = c .before .before .before .before .before .before .before .before .before .before .before .before .before .before .before .before .before .before in
+    let held = earlier .held in
+    let half-at = earlier .before .half-at in
+    let pre = earlier .before .before .before .before .before .before .pre in
+    (pre .0, (omega (arith, half-at .ok, held .ensures), omega (arith, pre .0, pre .1)))
 
 returns : tie.Need-returns
 unfolding visitedTop
-returns c = rw (← c .before .before .before .before .before .half-at .ensures, ← c .before .before .before .before .held .ensures, ← c .before .before .before .region-end .ensures, ← c .before .before .decode .ensures, c .enum-told .given .1)
+returns c =
+    let enum-told = c .enum-told in
+    let decode = c .before .before .decode in
+    let region-end = c .before .before .before .region-end in
+    let held = c .before .before .before .before .held in
+    let half-at = c .before .before .before .before .before .half-at in
+    rw (← half-at .ensures, ← held .ensures, ← region-end .ensures, ← decode .ensures, enum-told .given .1)
 
 returns-2 : tie.Need-returns-2
 unfolding visitedTop
-returns-2 c = rw (← c .before .before .before .before .before .half-at .ensures, ← c .before .before .before .before .held .ensures, ← c .before .before .before .region-end .ensures, ← c .before .before .decode .ensures, c .enum-told2 .given .1)
+returns-2 c =
+    let enum-told2 = c .enum-told2 in
+    let decode = c .before .before .decode in
+    let region-end = c .before .before .before .region-end in
+    let held = c .before .before .before .before .held in
+    let half-at = c .before .before .before .before .before .half-at in
+    rw (← half-at .ensures, ← held .ensures, ← region-end .ensures, ← decode .ensures, enum-told2 .given .1)
 
 returns-3 : tie.Need-returns-3
 unfolding visitedTop
-returns-3 c = rw (← c .before .before .before .before .before .before .before .before .before .before .before .before .before .before .before .before .before .before .before .before .before .before .half-at .ensures, ← c .before .before .before .before .before .before .before .before .before .before .before .before .before .before .before .before .before .before .before .before .before .held .ensures, ← c .before .before .before .before .before .before .before .before .before .before .before .before .before .before .before .before .before .before .before .before .region-end .ensures, ← c .before .before .before .before .before .before .before .before .before .before .before .before .before .before .before .before .before .before .before .decode .ensures, c .before .before .before .before .before .before .before .before .before .before .before .before .before .before .before .before .before .i .given .1, ← c .before .before .before .before .before .before .before .before .before .shape-of .ensures, ← c .before .before .before .before .before .before .before .before .before .before .before .before .before .before .half-at2 .ensures, ← c .before .before .before .before .before .before .before .before .before .before .before .before .before .held2 .ensures, ← c .before .before .before .before .before .before .before .before .before .before .before .half-at3 .ensures, ← c .before .before .before .before .before .before .before .before .ways-of .ensures, ← c .before .before .before .before .before .before .set-half .ensures) (c .before .before .hand-ways .ensures)
+returns-3 c =
+    let hand-ways = c .before .before .hand-ways in
+    let set-half = c .before .before .before .before .before .before .set-half in
+    let earlier = c .before .before .before .before .before .before .before .before in
+    let ways-of = earlier .ways-of in
+    let shape-of = earlier .before .shape-of in
+    let half-at3 = earlier .before .before .before .half-at3 in
+    let held2 = earlier .before .before .before .before .before .held2 in
+    let half-at2 = earlier .before .before .before .before .before .before .half-at2 in
+    let first = earlier .before .before .before .before .before .before .before .before .before in
+    let i = first .i in
+    let decode = first .before .before .decode in
+    let region-end = first .before .before .before .region-end in
+    let held = first .before .before .before .before .held in
+    let half-at = first .before .before .before .before .before .half-at in
+    rw
+    (← half-at .ensures, ← held .ensures, ← region-end .ensures, ← decode .ensures, i .given .1, ← shape-of .ensures, ← half-at2 .ensures, ← held2 .ensures, ← half-at3 .ensures, ← ways-of .ensures, ← set-half .ensures)
+    (hand-ways .ensures)
 
 pub visit-spec : {M : Type 1} → statement M
 visit-spec =
     tie.close
-    (tie.spec
-    (λ c. search needs)
-    (λ c. search needs)
-    (λ c κs. search needs)
-    (λ c κs. search needs)
-    (λ c κs. search needs)
-    (λ c κs. search needs)
-    (λ c. search needs)
-    (λ c. search needs)
-    (λ c. search needs)
-    (λ c. search needs)
-    (λ c κs. search needs)
-    (λ c κs. search needs)
-    (λ c. search needs)
-    (λ c. search needs)
-    (λ c κs. search needs)
-    (λ c κs. search needs)
-    (λ c κs. search needs)
-    (λ c. search needs)
-    (λ c. search needs)
-    (λ c κs. search needs)
-    (λ c. search needs)
-    hand-ways-requires
-    (λ c. search needs)
-    returns
-    (λ c. search needs)
-    returns-2
-    (λ c. search needs)
+    (tie.spec (λ c. search needs) (λ c. search needs) (λ c κs. search needs) (λ c κs. search needs) (λ c κs. search needs)
+    (λ c κs. search needs) (λ c. search needs) (λ c. search needs) (λ c. search needs) (λ c. search needs)
+    (λ c κs. search needs) (λ c κs. search needs) (λ c. search needs) (λ c. search needs) (λ c κs. search needs)
+    (λ c κs. search needs) (λ c κs. search needs) (λ c. search needs) (λ c. search needs) (λ c κs. search needs)
+    (λ c. search needs) hand-ways-requires (λ c. search needs) returns (λ c. search needs) returns-2 (λ c. search needs)
     returns-3)

@@ -16,13 +16,36 @@ loop-holds : tie.Need-loop-holds Inv-loop μ-loop
 loop-holds c = walked-start
 
 returns : tie.Need-returns Inv-loop μ-loop
-returns c = walked-over (c .before .before .before .before .loop .inv) (c .before .before .before .loop-test .taken) (c .before .next-waiting .ensures) (c .if1 .taken)
+returns c =
+    let if1 = c .if1 in
+    let next-waiting = c .before .next-waiting in
+    let loop-test = c .before .before .before .loop-test in
+    let loop = c .before .before .before .before .loop in
+    walked-over (loop .inv) (loop-test .taken) (next-waiting .ensures) (if1 .taken)
 
 returns-2 : tie.Need-returns-2 Inv-loop μ-loop
-returns-2 c = walked-turn (c .before .before .before .before .before .before .before .before .before .before .loop .inv) (c .before .before .before .before .before .before .before .before .before .loop-test .taken) (c .before .before .before .before .before .before .before .next-waiting .ensures) (c .before .before .before .before .before .before .if1 .left) (rw (c .enum-told .given .1) at (c .before .before .before .before .visit .ensures))
+returns-2 c =
+    let enum-told = c .enum-told in
+    let visit = c .before .before .before .before .visit in
+    let if1 = c .before .before .before .before .before .before .if1 in
+    let next-waiting = c .before .before .before .before .before .before .before .next-waiting in
+    let earlier = c .before .before .before .before .before .before .before .before .before in
+    let loop-test = earlier .loop-test in
+    let loop = earlier .before .loop in
+    walked-turn (loop .inv) (loop-test .taken) (next-waiting .ensures) (if1 .left)
+    (rw (enum-told .given .1) at (visit .ensures))
 
 loop-again : tie.Need-loop-again Inv-loop μ-loop
-loop-again c = walked-next (c .before .before .before .before .before .before .before .before .before .before .before .loop .inv) (c .before .before .before .before .before .before .before .before .before .before .loop-test .taken) (c .before .before .before .before .before .before .before .before .next-waiting .ensures) (c .before .before .before .before .before .before .before .if1 .left) (c .before .before .before .before .before .visit .ensures) (c .before .low .given .1) (c .before .before .before .before .before .visit .kept .1 .1 .0)
+loop-again c =
+    let low = c .before .low in
+    let visit = c .before .before .before .before .before .visit in
+    let if1 = c .before .before .before .before .before .before .before .if1 in
+    let earlier = c .before .before .before .before .before .before .before .before in
+    let next-waiting = earlier .next-waiting in
+    let loop-test = earlier .before .before .loop-test in
+    let loop = earlier .before .before .before .loop in
+    walked-next (loop .inv) (loop-test .taken) (next-waiting .ensures) (if1 .left) (visit .ensures) (low .given .1)
+    (visit .kept .1 .1 .0)
 
 returns-3 : tie.Need-returns-3 Inv-loop μ-loop
 returns-3 c = walked-spent (c .before .loop .inv) (c .loop-test .left)
@@ -30,20 +53,6 @@ returns-3 c = walked-spent (c .before .loop .inv) (c .loop-test .left)
 pub walk-spec : {M : Type 1} → statement M
 walk-spec =
     tie.close
-    (tie.spec
-    Inv-loop
-    μ-loop
-    loop-holds
-    (λ c κs. search needs)
-    (λ c. search needs)
-    returns
-    (λ c κs. search needs)
-    (λ c. search needs)
-    (λ c. search needs)
-    returns-2
-    (λ c. search needs)
-    (λ c. search needs)
-    (λ c. search needs)
-    loop-again
-    (λ c. search needs)
-    returns-3)
+    (tie.spec Inv-loop μ-loop loop-holds (λ c κs. search needs) (λ c. search needs) returns (λ c κs. search needs)
+    (λ c. search needs) (λ c. search needs) returns-2 (λ c. search needs) (λ c. search needs) (λ c. search needs) loop-again
+    (λ c. search needs) returns-3)

@@ -10,4 +10,5 @@ returns c = rw (c .before .label-height .ensures)
 
 pub is-poppable-spec : {M : Type 1} → statement M
 is-poppable-spec =
-    tie.close (tie.spec (λ c κs. search needs) (λ c. search needs) (λ c. search needs) (λ c. search needs) returns)
+    tie.close
+    (tie.spec (λ c κs. search needs) (λ c. search needs) (λ c. search needs) (λ c. search needs) returns)

@@ -13,16 +13,29 @@ abbrev μ-loop : tie.MeasureT-loop
 μ-loop code w n top₀ counter₀ top counter = n - counter
 
 loop-holds : tie.Need-loop-holds Inv-loop μ-loop
-loop-holds c = lowering-start (c .before .before .args .code .now) (c .before .before .args .w .now) (c .before .before .args .n) (c .before .before .args .self) (c .before .before .pre)
+loop-holds c =
+    let a = c .before .before .args in
+    let pre = c .before .before .pre in
+    lowering-start (a .code .now) (a .w .now) (a .n) (a .self) (pre)
 
 lowered-requires : tie.Need-lowered-requires Inv-loop μ-loop
 lowered-requires c κs = omega (arith, c .before .loop .inv .enough)
 
 loop-again : tie.Need-loop-again Inv-loop μ-loop
-loop-again c = lowering-next (c .before .before .before .before .before .args .code .now) (c .before .before .before .before .before .args .w .now) (c .before .before .before .before .before .args .n) (c .before .before .before .before .before .args .self) (c .before .before .loop .top) (c .before .before .loop .counter) (c .before .before .loop .inv) (c .lowered .result) (c .before .loop-test .taken) (c .lowered .ensures)
+loop-again c =
+    let lowered = c .lowered in
+    let loop-test = c .before .loop-test in
+    let loop = c .before .before .loop in
+    let a = c .before .before .before .before .before .args in
+    lowering-next (a .code .now) (a .w .now) (a .n) (a .self) (loop .top) (loop .counter) (loop .inv) (lowered .result)
+    (loop-test .taken) (lowered .ensures)
 
 returns : tie.Need-returns Inv-loop μ-loop
-returns c = lowering-done (c .before .before .before .before .args .code .now) (c .before .before .before .before .args .w .now) (c .before .before .before .before .args .n) (c .before .before .before .before .args .self) (c .before .loop .top) (c .before .loop .counter) (c .before .loop .inv) (c .loop-test .left)
+returns c =
+    let loop-test = c .loop-test in
+    let loop = c .before .loop in
+    let a = c .before .before .before .before .args in
+    lowering-done (a .code .now) (a .w .now) (a .n) (a .self) (loop .top) (loop .counter) (loop .inv) (loop-test .left)
 
 pub lowered-by-spec : {M : Type 1} → statement M
 lowered-by-spec =

@@ -1,0 +1,33 @@
+-- `control::jump_tf_effect` meets its contract: the boolean stays where the jump is taken.
+use native.Mathlib.Omega.{arith}
+use borrow.Author.Needs.{needs}
+use borrow.Author.Tests.{lt-ltb, le-ltb, eq-eqb, ne-eqb}
+use Rattle.control.proofs.jump_tf_effect.Statement.{statement}
+use Rattle.control.specs.Control.{jumpTFEffect}
+use Rattle.control.proofs.jump_tf_effect.Tie as tie
+
+returns : tie.Need-returns
+unfolding jumpTFEffect
+returns c = rw (le-ltb (c .before .args .b) 2 (omega arith))
+
+returns-2 : tie.Need-returns-2
+unfolding jumpTFEffect
+returns-2 c =
+    let jump-to = c .jump-to in
+    let place-at = c .before .place-at in
+    let if2 = c .before .before .if2 in
+    let a = c .before .before .before .before .args in
+    rw (lt-ltb (a .b) 2 (omega arith), eq-eqb (a .b) (a .truth) (if2 .taken), jump-to .ensures, place-at .ensures)
+
+returns-3 : tie.Need-returns-3
+unfolding jumpTFEffect
+returns-3 c =
+    let jump-to2 = c .jump-to2 in
+    let if2 = c .before .if2 in
+    let a = c .before .before .before .args in
+    rw (lt-ltb (a .b) 2 (omega arith), ne-eqb (a .b) (a .truth) (if2 .left), jump-to2 .ensures)
+
+pub jump-tf-effect-spec : {M : Type 1} → statement M
+jump-tf-effect-spec =
+    tie.close
+    (tie.spec returns (λ c κs. search needs) (λ c κs. search needs) returns-2 (λ c κs. search needs) returns-3)

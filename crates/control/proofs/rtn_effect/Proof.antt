@@ -1,0 +1,26 @@
+-- `control::rtn_effect` meets its contract: with no active call the finish, else the links below FP.
+use native.Mathlib.Omega.{arith}
+use borrow.Author.Tests.{eq-eqb, ne-eqb}
+use Rattle.control.proofs.rtn_effect.Statement.{statement}
+use Rattle.registers.specs.Program.{framesStart}
+use Rattle.control.specs.Control.{rtnEffect}
+use Rattle.control.proofs.Laws.{framed}
+use Rattle.control.proofs.rtn_effect.Tie as tie
+
+returns : tie.Need-returns
+unfolding rtnEffect
+returns c = rw (eq-eqb (c .before .before .before .args .q .calls) 0 (c .if1 .taken))
+
+returned-requires : tie.Need-returned-requires
+returned-requires c κs =
+    let if1 = c .if1 in
+    let a = c .before .before .before .args in
+    let pre = c .before .before .before .pre in
+    (framed (a .m .now) (framesStart (a .areas)) (a .q .fp) (a .q .calls) (pre) (if1 .left), omega arith)
+
+returns-2 : tie.Need-returns-2
+unfolding rtnEffect
+returns-2 c = rw (ne-eqb (c .before .before .before .before .args .q .calls) 0 (c .before .if1 .left), c .returned .ensures)
+
+pub rtn-effect-spec : {M : Type 1} → statement M
+rtn-effect-spec = tie.close (tie.spec returns returned-requires returns-2)

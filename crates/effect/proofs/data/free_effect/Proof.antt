@@ -1,0 +1,28 @@
+-- `effect::data::free_effect` meets its contract: MP moves down, not below FP.
+use Prim.Native.Nat.{_+_}
+use borrow.Author.Tests.{lt-leb, le-leb}
+use borrow.Author.Needs.{needs}
+use Rattle.effect.specs.Data.{freeEffect}
+use Rattle.effect.proofs.data.free_effect.Statement.{statement}
+use Rattle.effect.proofs.data.free_effect.Tie as tie
+
+returns : tie.Need-returns
+unfolding freeEffect
+returns c =
+    let if1 = c .if1 in
+    let a = c .before .before .before .args in
+    rw (lt-leb (a .q .fp + a .size) (a .q .mp) (if1 .taken))
+
+returns-2 : tie.Need-returns-2
+unfolding freeEffect
+returns-2 c =
+    let sized = c .sized in
+    let if1 = c .before .before .if1 in
+    let a = c .before .before .before .before .before .args in
+    rw (le-leb (a .q .fp + a .size) (a .q .mp) (if1 .left), sized .ensures)
+
+pub free-effect-spec : {M : Type 1} → statement M
+free-effect-spec =
+    tie.close
+    (tie.spec (λ c. search needs) (λ c. search needs) (λ c. search needs) returns (λ c. search needs) (λ c κs. search needs)
+    returns-2)

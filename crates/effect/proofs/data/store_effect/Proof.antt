@@ -1,0 +1,99 @@
+-- `effect::data::store_effect` meets its contract: live first, then unprotected.
+use Prim.Native.Nat.{_+_, _≤_}
+use native.Mathlib.Omega.{arith}
+use borrow.Author.Tests.{not-true, not-false}
+use borrow.Author.Needs.{needs}
+use Rattle.effect.specs.Data.{storeEffect}
+use Rattle.shape.proofs.Counting.{popped-small, words-small}
+use Rattle.registers.proofs.Protected.{live-below}
+use Rattle.effect.proofs.data.store_effect.Statement.{statement}
+use Rattle.effect.proofs.data.store_effect.Tie as tie
+
+-- Behind the first test the address is below MP.
+below : (c : tie.Else1) →
+    let words = c .before .before in
+    let start = words .before .before .before in
+    start .base-of .result + start .before .before .args .offset + words .words-in2 .result ≤ start .before .before .args .q .mp
+below c =
+    let words = c .before .before in
+    let start = words .before .before .before in
+    let a = start .before .before .args in
+    let live = c .before .is-live in
+    live-below (a .q) (start .base-of .result + a .offset) (words .words-in2 .result) (live .result) (live .ensures)
+    (not-false (live .result) (c .if1 .left))
+
+returns : tie.Need-returns
+unfolding storeEffect
+returns c =
+    let if1 = c .if1 in
+    let is-live = c .before .is-live in
+    let words-in2 = c .before .before .words-in2 in
+    let base-of = c .before .before .before .before .before .base-of in
+    rw (← base-of .ensures, ← words-in2 .ensures, ← is-live .ensures, not-true (is-live .result) (if1 .taken))
+
+add-pops : tie.Need-add-pops
+add-pops c =
+    let words-in = c .words-in in
+    let popped-words = c .before .popped-words in
+    let a = c .before .before .before .before .args in
+    record { fits = omega (arith, popped-words .ensures, words-in .ensures, popped-small (a .base), words-small (a .mode) .1) }
+
+is-any-protected-requires : tie.Need-is-any-protected-requires
+is-any-protected-requires c κs =
+    let pre = c .before .before .before .before .before .before .before .pre in
+    (pre, omega (arith, below c))
+
+returns-2 : tie.Need-returns-2
+unfolding storeEffect
+returns-2 c =
+    let if2 = c .if2 in
+    let is-any-protected = c .before .is-any-protected in
+    let if1 = c .before .before .if1 in
+    let is-live = c .before .before .before .is-live in
+    let words-in2 = c .before .before .before .before .words-in2 in
+    let base-of = c .before .before .before .before .before .before .before .base-of in
+    rw (
+      ← base-of .ensures,
+      ← words-in2 .ensures,
+      ← is-live .ensures,
+      not-false (is-live .result) (if1 .left),
+      ← is-any-protected .ensures,
+      if2 .taken,
+    )
+
+cast-stored : tie.Need-cast-stored
+cast-stored c = record { fits = omega (arith, below (c .before .before)) }
+
+returns-3 : tie.Need-returns-3
+unfolding storeEffect
+returns-3 c =
+    let moved = c .moved in
+    let stored = c .before .stored in
+    let if2 = c .before .before .if2 in
+    let is-any-protected = c .before .before .before .is-any-protected in
+    let if1 = c .before .before .before .before .if1 in
+    let is-live = c .before .before .before .before .before .is-live in
+    let words-in2 = c .before .before .before .before .before .before .words-in2 in
+    let words-in = c .before .before .before .before .before .before .before .words-in in
+    let earlier = c .before .before .before .before .before .before .before .before in
+    let popped-words = earlier .popped-words in
+    let base-of = earlier .before .base-of in
+    rw (
+      ← base-of .ensures,
+      stored .ensures,
+      popped-words .ensures,
+      words-in .ensures,
+      moved .ensures,
+      ← words-in2 .ensures,
+      ← is-live .ensures,
+      not-false (is-live .result) (if1 .left),
+      ← is-any-protected .ensures,
+      if2 .left,
+    )
+
+pub store-effect-spec : {M : Type 1} → statement M
+store-effect-spec =
+    tie.close
+    (tie.spec (λ c κs. search needs) (λ c. search needs) (λ c. search needs) (λ c κs. search needs) (λ c κs. search needs)
+    add-pops (λ c κs. search needs) (λ c. search needs) (λ c κs. search needs) returns is-any-protected-requires returns-2
+    cast-stored (λ c κs. search needs) (λ c κs. search needs) returns-3)

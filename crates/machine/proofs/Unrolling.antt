@@ -1,0 +1,92 @@
+-- A run unrolled step by step: what is left of the budget, from where the steps have come, decides what the whole run answers.
+use Prim.Native.Nat.{ℕ, zero, _+_, _-_, _≤_, _<_}
+use mathlib.Core.Path.{_≡_, _∙_, refl, sym}
+use mathlib.Core.Bool.{Bool, true, false}
+use mathlib.Core.List.{List}
+use native.Mathlib.Omega.{arith}
+use lib.ListN.{length}
+use borrow.Author.Tests.{ne-eqb}
+use Rattle.words.proofs.Left.{one-left}
+use Rattle.header.specs.declared.Header.{Header}
+use Rattle.record.specs.declared.Reading.the-variants.{Refused as NotRead, Sound}
+use Rattle.header.specs.Header.{codeOf}
+use Rattle.record.specs.Number.{recordNumber, readingOf}
+use Rattle.record.proofs.Sound.{sound-code}
+use Rattle.registers.specs.declared.Areas.{Areas}
+use Rattle.registers.specs.Program.{Program, program, areasIn, areasOf}
+use Rattle.registers.specs.State.{State}
+use Rattle.load.proofs.Loading.{sound-header, refused-number}
+use Rattle.state.specs.Fits.{fits}
+use Rattle.step.specs.declared.Outcome.the-variants.{Went, Finished, Trapped}
+use Rattle.step.specs.Step.{After, stepOf}
+use Rattle.step.proofs.Preservation.{Holds, step-holds}
+use Rattle.machine.specs.declared.run.Answer.the-variants.{Refused}
+use Rattle.machine.specs.declared.run.End.the-variants.{Finished as finish, Spent, Trapped as stop}
+use Rattle.machine.specs.Run.{Result, ended, proceed, runFrom, runNumber, runOf}
+
+-- So many steps have come from S₀ to S.
+pub record Running (P : Program) (budget : ℕ) (S₀ S : State) (steps : ℕ) : Type 0 where
+  pub count : steps ≤ budget
+  pub fit : fits (P .areas) S ≡ true
+  pub same : runFrom P budget 0 S₀ ≡ runFrom P (budget - steps) steps S
+  pub memory : length (S .memory) ≡ length (S₀ .memory)
+  pub stack : length (S .stack) ≡ length (S₀ .stack)
+
+pub running-start : (P : Program) (budget : ℕ) (S : State) → fits (P .areas) S ≡ true → Running P budget S S 0
+running-start P budget S h =
+    let none : budget - 0 ≡ budget = omega arith in
+    record { count = omega arith; fit = h; same = rw none; memory = refl; stack = refl }
+
+module _ (P : Program) (budget : ℕ) (S₀ S : State) (steps : ℕ) (R : Running P budget S₀ S steps) where
+  pub spent : budget ≤ steps → ended Spent steps S ≡ runFrom P budget 0 S₀
+  spent h =
+      let none : budget - steps ≡ zero = omega arith in
+      sym (R .same ∙ rw none)
+
+  module _ (a : After) (h : steps < budget) (e : a ≡ stepOf P S) where
+    turn : runFrom P budget 0 S₀ ≡ proceed (runFrom P (budget - (steps + 1)) (steps + 1)) steps (a .outcome) (a .state)
+    turn = R .same ∙ rw (one-left steps budget h, ← e)
+
+    pub finished : a .outcome ≡ Finished → ended finish (steps + 1) (a .state) ≡ runFrom P budget 0 S₀
+    finished o = sym (turn ∙ rw o)
+
+    pub trapped : (n : ℕ) → a .outcome ≡ Trapped n → ended (stop n) steps (a .state) ≡ runFrom P budget 0 S₀
+    trapped n o = sym (turn ∙ rw o)
+
+    pub went : a .outcome ≡ Went → length (a .state .memory) ≡ length (S .memory) → length (a .state .stack) ≡ length (S .stack)
+        → Running P budget S₀ (a .state) (steps + 1)
+    went o k l =
+        let H : Holds (P .areas) S a = rw e (step-holds P S (R .fit)) in
+        record {
+          count = omega arith;
+          fit = H .fit;
+          same = turn ∙ rw o;
+          memory = k ∙ R .memory;
+          stack = l ∙ R .stack;
+        }
+
+-- What run answers, by what reading the record and the test of the state gave.
+module _ (r : List ℕ) (budget : ℕ) (S : State) where
+  abbrev refused : ℕ → Result
+  refused n = record { answer = Refused n; state = S }
+
+  pub run-refused : (n : ℕ) → readingOf r ≡ NotRead n → refused n ≡ runOf r budget S
+  unfolding runOf runNumber
+  run-refused n e =
+      let t = refused-number r n e in
+      rw (t .1) (simp (ne-eqb (recordNumber r) 0 (t .0)))
+
+  module _ (h : Header) (e : readingOf r ≡ Sound h) (A : Areas) (a : A ≡ areasIn h) (t : Bool) (f : t ≡ fits A S) where
+    tested : t ≡ fits (areasOf r) S
+    tested = f ∙ rw (a, sound-header r h e .1)
+
+    pub run-unfit : t ≡ false → refused 24 ≡ runOf r budget S
+    unfolding runOf runNumber
+    run-unfit z = rw (sound-header r h e .0, ← tested, z)
+
+    pub run-done : t ≡ true → (code : List ℕ) → code ≡ codeOf r → runFrom (program code A) budget 0 S ≡ runOf r budget S
+    unfolding runOf runNumber
+    run-done z code c = rw (sound-header r h e .0, ← tested, z, c, a, sound-header r h e .1)
+
+    pub run-code : (code : List ℕ) → code ≡ codeOf r → length code ≤ 4096
+    run-code code c = rw c (sound-code r (sound-header r h e .0))

@@ -1,0 +1,81 @@
+-- Every configuration of a run of accepted code is safe: the invariant holds of the first and every step keeps it, and with it the header
+-- and the constants.
+use mathlib.Core.List.{List, [], _∷_}
+use mathlib.Core.Path.{_≡_, _∙_, refl}
+use Prim.Native.Nat.{ℕ, _≤_, _<_}
+use Rattle.registers.specs.declared.Areas.{Areas}
+use Rattle.registers.specs.declared.Registers.{Registers}
+use Rattle.registers.specs.Memory.{read}
+use Rattle.registers.specs.Program.{programOf, areasOf, constantsStart, framesStart}
+use Rattle.registers.specs.State.{State, state}
+use Rattle.stackmap.specs.Ways.{Subject}
+use Rattle.verifier.specs.Check.{checkOf}
+use Rattle.words.specs.Bytes.{Bytes}
+use Rattle.verifier.specs.Exact.{Ruled, subject}
+use Rattle.verifier.proofs.Exactly.{shows-reached}
+use Rattle.load.specs.declared.Loaded.the-variants.{Ready}
+use Rattle.load.specs.Load.{loadOf}
+use Rattle.safety.specs.Active.{Call, running, Configuration, Visits, at-first, one-more}
+use Rattle.safety.specs.Demand3.{Linked, no-link, a-link, Safe, loadedConfiguration}
+use Rattle.safety.proofs.Invariant.{registersOf, programIn, Framed, no-frame, a-frame, Inv}
+use Rattle.safety.proofs.ProtectedWords.{header-kept, constants-kept}
+use Rattle.safety.proofs.Places.{Checked, checked}
+use Rattle.safety.proofs.LoadedState.{loaded-holds}
+use Rattle.safety.proofs.Advance.{unread, advances}
+
+-- The frames have the link words.
+linked : (m : List ℕ) (start fp : ℕ) (calls : List Call) → Framed m start fp calls → Linked m calls
+linked m start fp [] (no-frame e) = no-link
+linked m start fp (c ∷ calls) (a-frame e saved back rest) = a-link saved back (linked m start (c .savedFp) calls rest)
+
+-- The invariant, with the protected data as they were.
+pub record Keeps (U : Subject) (A : Areas) (m0 : List ℕ) (c : Configuration) : Type 0 where
+  pub inv : Inv U A c
+  pub header : (a : ℕ) → a < 3 → read (c .state .memory) a ≡ read m0 a
+  pub constants : (a : ℕ) → constantsStart A ≤ a → a < framesStart A → read (c .state .memory) a ≡ read m0 a
+
+module _ (U : Subject) (C : Checked U) (A : Areas) (first : Configuration) (I : Inv U A first) where
+  pub keeps : {n : ℕ} {c : Configuration} → Visits (programIn U A) U first n c → Keeps U A (first .state .memory) c
+  keeps at-first = record { inv = I; header = λ a l. refl; constants = λ a l h. refl }
+  keeps (one-more {c = c} v w) =
+      let k = keeps v in
+      record {
+        inv = advances U C A c (k .inv) w;
+        header = λ a l. header-kept U A c (k .inv .fitted) a l ∙ k .header a l;
+        constants = λ a l h. constants-kept U A c (k .inv .fitted) a l h ∙ k .constants a l h;
+      }
+
+module _ (r results w parameters m s : List ℕ) (q : Registers) (b : Bytes r) (accepted : checkOf r results w .number ≡ 0)
+    (ready : loadOf r parameters m s .answer ≡ Ready q) (R : Ruled r results) where
+  abbrev U : Subject
+  U = subject r results R
+
+  abbrev S : State
+  S = state q (loadOf r parameters m s .memory) s
+
+  pub at-load : Inv U (areasOf r) (loadedConfiguration S)
+  at-load = loaded-holds r parameters m s q (R .record-sound) ready U refl (checked r results w b accepted R .cutted .some)
+
+  pub run-keeps : {n : ℕ} {c : Configuration} → Visits (programOf r) U (loadedConfiguration S) n c
+      → Keeps U (areasOf r) (S .memory) c
+  run-keeps = keeps U (checked r results w b accepted R) (areasOf r) (loadedConfiguration S) at-load
+
+  pub run-safe : (n : ℕ) (c : Configuration) → Visits (programOf r) U (loadedConfiguration S) n c
+      → Safe (programOf r) U (checkOf r results w .workspace) (S .memory) c
+  run-safe n c v =
+      let k = run-keeps v in
+      let i = k .inv in
+      let p = i .placed in
+      record {
+        procedure = p .procedure;
+        active = i .counted;
+        slots = p .slots;
+        placed = p .reached;
+        height = p .height;
+        labels = p .holds;
+        shown = shows-reached r results w b accepted R (running (c .calls)) (p .procedure) (registersOf c .pc) (p .slots) (p .reached);
+        header = k .header;
+        constants = k .constants;
+        links = linked (c .state .memory) (framesStart (areasOf r)) (registersOf c .fp) (c .calls) (i .framed);
+        unread = unread U (checked r results w b accepted R) (areasOf r) c i;
+      }

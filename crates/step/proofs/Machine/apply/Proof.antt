@@ -1,0 +1,101 @@
+-- `step::Machine::apply` meets its contract: room for the pushed words, then the place, then memory and stack.
+use Prim.Native.Nat.{_+_}
+use native.Mathlib.Omega.{arith}
+use lib.ListN.{length}
+use borrow.Author.Tests.{lt-ltb, le-ltb}
+use borrow.Author.Needs.{needs}
+use Rattle.step.specs.Step.{apply}
+use Rattle.step.proofs.Pushing.{pushes-small}
+use Rattle.step.proofs.Machine.apply.Statement.{statement}
+use Rattle.step.proofs.Machine.apply.Tie as tie
+
+add-height : tie.Need-add-height
+add-height c =
+    let push-count = c .push-count in
+    let low-word = c .before .low-word in
+    let e2 = c .before .before .before .e2 in
+    record { fits = omega (arith, low-word .ensures, push-count .ensures, pushes-small (e2 .given .0 .1 .0)) }
+
+returns : tie.Need-returns
+unfolding apply
+returns c =
+    let trapped2 = c .trapped2 in
+    let if1 = c .before .if1 in
+    let push-count = c .before .before .push-count in
+    let low-word = c .before .before .before .low-word in
+    let e2 = c .before .before .before .before .before .e2 in
+    let a = c .before .before .before .before .before .before .before .before .before .before .args in
+    let height = low-word .result + push-count .result in
+    rw (
+      e2 .given .1,
+      ← low-word .ensures,
+      ← push-count .ensures,
+      lt-ltb (length (a .stack .now)) height (if1 .taken),
+      trapped2 .ensures,
+    )
+
+returns-2 : tie.Need-returns-2
+unfolding apply
+returns-2 c =
+    let trapped3 = c .trapped3 in
+    let if2 = c .before .if2 in
+    let if1 = c .before .before .before .if1 in
+    let push-count = c .before .before .before .before .push-count in
+    let low-word = c .before .before .before .before .before .low-word in
+    let e2 = c .before .before .before .before .before .before .before .e2 in
+    let a = c .before .before .before .before .before .before .before .before .before .before .before .before .args in
+    let height = low-word .result + push-count .result in
+    rw (
+      e2 .given .1,
+      ← low-word .ensures,
+      ← push-count .ensures,
+      le-ltb (length (a .stack .now)) height (if1 .left),
+      le-ltb (e2 .given .0 .1 .1 .1 .0 .pc) (length (a .code .now)) (if2 .taken),
+      trapped3 .ensures,
+    )
+
+returns-3 : tie.Need-returns-3
+unfolding apply
+returns-3 c =
+    let trapped = c .trapped in
+    let e = c .before .before .e in
+    rw (e .given .1, trapped .ensures)
+
+returns-4 : tie.Need-returns-4
+unfolding apply
+returns-4 c =
+    let enum-told = c .enum-told in
+    rw (enum-told .given .1)
+
+returns-5 : tie.Need-returns-5
+unfolding apply
+returns-5 c =
+    let raised = c .raised in
+    let push-words = c .before .before .before .push-words in
+    let write-words = c .before .before .before .before .before .before .before .write-words in
+    let earlier = c .before .before .before .before .before .before .before .before .before .before in
+    let if2 = earlier .if2 in
+    let if1 = earlier .before .before .if1 in
+    let push-count = earlier .before .before .before .push-count in
+    let low-word = earlier .before .before .before .before .low-word in
+    let e2 = earlier .before .before .before .before .before .before .e2 in
+    let a = earlier .before .before .before .before .before .before .before .before .before .before .before .args in
+    let height = low-word .result + push-count .result in
+    rw (
+      e2 .given .1,
+      ← low-word .ensures,
+      ← push-count .ensures,
+      le-ltb (length (a .stack .now)) height (if1 .left),
+      lt-ltb (e2 .given .0 .1 .1 .1 .0 .pc) (length (a .code .now)) (if2 .left),
+      write-words .ensures,
+      push-words .ensures,
+      raised .ensures,
+    )
+
+pub apply-spec : {M : Type 1} → statement M
+apply-spec =
+    tie.close
+    (tie.spec (λ c. search needs) (λ c κs. search needs) (λ c. search needs) (λ c. search needs) (λ c κs. search needs)
+    (λ c κs. search needs) add-height (λ c κs. search needs) returns (λ c. search needs) (λ c κs. search needs) returns-2
+    (λ c κs. search needs) (λ c κs. search needs) (λ c. search needs) (λ c κs. search needs) returns-3 returns-4
+    (λ c. search needs) (λ c. search needs) returns-5)
