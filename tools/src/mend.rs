@@ -58,7 +58,7 @@ One of these asks for something else:
 
   -o OUT            write it to OUT, which is not FILE, over what is there; -o - is standard output,
                     and then the rest goes to standard error
-  --in-place        write it over FILE
+  --in-place        write it over FILE; where nothing is dropped, FILE is left alone
   --dry-run         write nothing
 
   --results DIGITS  how many result words each procedure leaves, from procedure 0 on, such as 001;
@@ -78,7 +78,7 @@ fn run(arguments: &Arguments, out: &mut Output) -> Result<Status, Failure> {
     let report = describe(&before, &mended, &after);
     match to {
         None => writeln!(out, "{report}nothing is written, as {DRY_RUN} asks")?,
-        Some(Destination::New(_)) if mended.places.is_empty() => {
+        Some(Destination::New(_) | Destination::InPlace(_)) if mended.places.is_empty() => {
             writeln!(out, "{report}nothing is written, since nothing is dropped")?;
         }
         Some(to) => write(out, &to, &report, &new)?,

@@ -59,7 +59,7 @@ RECORDS = [
     ("version", [5, 0], [(31, 5, 'version word 0, "3/- " (33 2f 2d 20): malformed')], record_of(SOUND, b"3/- ")),
     ("versions", [5, 0], [(31, 5, 'version word 0, ".3/-" (80 33 2f 2d): malformed'),
                           (35, 5, 'version word 1, " 3/-" (20 33 2f 2d): behind a malformed one')], record_of(SOUND, b"\x803/- 3/-")),
-    ("odd", [6, 0], [(31, 6, "the last of 1 source words, 7: of no pair")], record_of(SOUND, source=word_bytes([7]))),
+    ("odd", [6, 0], [(31, 6, "the only source word, 7: of no pair")], record_of(SOUND, source=word_bytes([7]))),
     ("odd behind a pair", [6, 0], [(39, 6, "the last of 3 source words, 2: of no pair")], record_of(SOUND, source=word_bytes([1, 9, 2]))),
     ("at the code size", [6, 0], [(31, 6, "pair 0, offset 3: not below 3, the code size"), (35, 6, "pair 0, line 9")],
      record_of(SOUND, source=word_bytes([3, 9, 2, 1]))),
@@ -75,12 +75,12 @@ RECORDS = [
     ("relocation, and both tables", [4, 4], [(35, 5, 'version word 0, "xxxx" (78 78 78 78): malformed'),
                                              (47, 6, "pair 1, offset 3: not below 3, the code size"), (51, 6, "pair 1, line 9")],
      word_bytes([0, 3, 0, 0, 1, 1, 4]) + SOUND + bytes(4) + b"xxxx" + word_bytes([1, 1, 3, 9])),
-    ("both tables", [5, 0], [(31, 5, 'version word 0, "xxxx" (78 78 78 78): malformed'), (35, 6, "the last of 1 source words, 7: of no pair")],
+    ("both tables", [5, 0], [(31, 5, 'version word 0, "xxxx" (78 78 78 78): malformed'), (35, 6, "the only source word, 7: of no pair")],
      record_of(SOUND, b"xxxx", word_bytes([7]))),
-    ("entries", [6, 7], [(29, 6, "the last of 1 source words, 7: of no pair")], record_of(b"\0", source=word_bytes([7]))),
-    ("instructions", [6, 10], [(32, 6, "the last of 1 source words, 7: of no pair")],
+    ("entries", [6, 7], [(29, 6, "the only source word, 7: of no pair")], record_of(b"\0", source=word_bytes([7]))),
+    ("instructions", [6, 10], [(32, 6, "the only source word, 7: of no pair")],
      record_of(bytes([0, 2, 0x9B, 0xE9]), source=word_bytes([7]))),
-    ("globals", [6, 0], [(35, 6, "the last of 1 source words, 7: of no pair")],
+    ("globals", [6, 0], [(35, 6, "the only source word, 7: of no pair")],
      record_of(SOUND, source=word_bytes([7]), sizes=[0, 3, 5, 1, 0, 0, 1], constants=bytes(4))),
 ]
 
@@ -229,7 +229,8 @@ def test_out(tests, folder):
 
 
 def test_in_place(tests, folder):
-    """FILE is written over, through a link, with its owner and permissions; another name of it keeps the old bytes."""
+    """FILE is written over, through a link, with its owner and permissions; another name of it keeps the old bytes. Where nothing is dropped
+    FILE is left alone."""
     within = folder / "within"
     within.mkdir()
     file, link, name = within / "file", folder / "link", folder / "name"
@@ -247,6 +248,13 @@ def test_in_place(tests, folder):
         tests.expect(f"--in-place {target}", good and holds(within, file=MENDED), (status, said, err, found))
         name.unlink()
         file.unlink()
+    file.write_bytes(MENDED)
+    before = file.stat()
+    status, said, err = tests.run("mend", "--in-place", file)
+    good = (status, err) == (0, "") and said.endswith("\nnothing is written, since nothing is dropped\n")
+    found = file.stat()
+    good = good and (found.st_ino, found.st_mtime_ns) == (before.st_ino, before.st_mtime_ns)
+    tests.expect("--in-place, nothing is dropped", good and holds(within, file=MENDED), (status, said, err, found))
     file.write_bytes(DAMAGED)
     leave = {"preexec_fn": lambda: Path(f".icode-{os.getpid()}-0").write_text("left")}
     status, said, err = tests.run("mend", "--in-place", "file", cwd=within, **leave)

@@ -10,7 +10,8 @@ pub extern "C" fn icode_mend(
     places: &mut [u32],
     counts: &mut [u32],
 ) -> u32
-    ensures { λ n. ⌜ reply n (now (out .exit)) (now (places .exit)) (now (counts .exit)) ≡ mendReply (now (bytes .entry)) (now (out .entry)) (now (places .entry)) (now (counts .entry)) ⌝ }
+    ensures { λ n. ⌜ reply n (now (out .exit)) (now (places .exit)) (now (counts .exit))
+        ≡ mendReply (now (bytes .entry)) (now (out .entry)) (now (places .entry)) (now (counts .entry)) ⌝ }
 {
     let number = record::size_number(bytes);
     if number != 0 {

@@ -71,7 +71,8 @@ module _ (r : List ℕ) (none : sizeNumber r ≡ 0) where
       let first = wordPlaces at (lost r) in
       let end : sourcesAt h ≤ length r = omega (arith, small .whole, small .sources) in
       rises-append (length r) (sourcesAt h) at first (droppedPairs r h ++ odd r) (omega (arith, small .sources)) end
-      (rises-wider (at + 4 * lost r) (sourcesAt h) at at first (omega (arith, small .sources)) (omega arith) (words-rise at (lost r)))
+      (rises-wider (at + 4 * lost r) (sourcesAt h) at at first (omega (arith, small .sources)) (omega arith)
+      (words-rise at (lost r)))
       table-rises
 
 pub places-rise : PlacesRise

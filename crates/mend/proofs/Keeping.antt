@@ -1,5 +1,5 @@
--- What stays: the other parts of every record; and all of a sound one, since each of its pairs is kept and each of its pieces is
--- the old one.
+-- What stays: the other parts of every record; a version table that is not malformed, and a source table that is sound, since
+-- each of its pairs is kept; and all of a sound record, since each of its pieces is the old one.
 use mathlib.Core.Bool.{true, and-eq-true-iff}
 use mathlib.Core.List.{List, [], _++_}
 use mathlib.Core.Path.{_≡_, _∙_, refl, sym, ap}
@@ -24,18 +24,7 @@ use Rattle.mend.specs.Mend.{keeps, keptPairs, droppedPairs, droppedWords
 use Rattle.mend.specs.Mended.{KeepsParts, KeepsSound}
 use Rattle.mend.proofs.Sifting.{Sifted, over, keep, lose, sifted}
 use Rattle.mend.proofs.Measuring.{Measures, left, kept, pairs, size, body, m}
-use Rattle.mend.proofs.Pieces.{same-front, same-parts}
-
-pub keeps-parts : KeepsParts
-keeps-parts r bytes none =
-    let k = versionsAt (headerOf r) - 28 in
-    let within : k ≤ size r = omega arith in
-    record {
-      sizes = same-front r none;
-      parts =
-          sym (take-take k (size r) (drop 28 (mendedRecord r)) within)
-          ∙ (ap (λ (l : List ℕ). take k l) (same-parts r none) ∙ take-take k (size r) (drop 28 r) within);
-    }
+use Rattle.mend.proofs.Pieces.{same-front, same-parts, from-pairs, header-mended, sources-place}
 
 -- The bytes of a word.
 word-as-bytes : (r : List ℕ) (i : ℕ) → Bytes r → i + 4 ≤ length r → wordBytes (wordAt r i) ≡ take 4 (drop i r)
@@ -82,66 +71,97 @@ all-kept {r} {h} {least} {at} (lose {n = n} f s) e =
 same-pieces : (a : List ℕ) {b c d b′ c′ d′ : List ℕ} → b ≡ b′ → c ≡ c′ → d ≡ d′ → a ++ (b ++ (c ++ d)) ≡ a ++ (b′ ++ (c′ ++ d′))
 same-pieces a e f g = rw (e, f, g)
 
-record Sound (r : List ℕ) : Type 0 where
-  none : sizeNumber r ≡ 0
-  versions : versionSound r (headerOf r) ≡ true
-  sources : sourceSound r (headerOf r) ≡ true
+module _ (r : List ℕ) (none : sizeNumber r ≡ 0) where
+  small : Measures r (headerOf r)
+  small = m r none
 
-module _ (r : List ℕ) (sound : Sound r) where
-  table : let h = headerOf r in (eqb (h .sources % 2) 0 ≡ true) × (rising (h .code) (sourceOffsets r h) ≡ true)
-  unfolding sourceSound
-  table =
-      let h = headerOf r in
-      and-eq-true-iff (eqb (h .sources % 2) 0) (rising (h .code) (sourceOffsets r h)) .0 (sound .sources)
+  -- A version table that is not malformed keeps its words.
+  module _ (sound : versionSound r (headerOf r) ≡ true) where
+    all-left : left r ≡ headerOf r .versions
+    all-left = rw sound
 
-  even : headerOf r .sources % 2 ≡ 0
-  even = eqb-true (headerOf r .sources % 2) 0 (table .0)
+    body-place : 28 + size r ≡ sourcesAt (headerOf r)
+    body-place = omega (arith, small .sources, small .front, all-left)
 
-  all : AllKept r (sourcesAt (headerOf r)) (headerOf r .sources / 2) (kept r) (droppedPairs r (headerOf r))
-  unfolding sourceOffsets keptPairs droppedPairs
-  all =
-      let h = headerOf r in
-      all-kept (sifted r h 0 (sourcesAt h) (h .sources / 2)) (table .1)
+    same-versions : Bytes r → wordBytes (left r) ≡ take 4 (drop 20 r)
+    unfolding headerOf
+    same-versions bytes = rw all-left (word-as-bytes r 20 bytes (omega (arith, small .whole, small .front)))
 
-  all-left : left r ≡ headerOf r .versions
-  all-left = rw (sound .versions)
+  -- A source table that is sound keeps its pairs.
+  module _ (sound : sourceSound r (headerOf r) ≡ true) where
+    table : let h = headerOf r in (eqb (h .sources % 2) 0 ≡ true) × (rising (h .code) (sourceOffsets r h) ≡ true)
+    unfolding sourceSound
+    table =
+        let h = headerOf r in
+        and-eq-true-iff (eqb (h .sources % 2) 0) (rising (h .code) (sourceOffsets r h)) .0 sound
 
+    even : headerOf r .sources % 2 ≡ 0
+    even = eqb-true (headerOf r .sources % 2) 0 (table .0)
+
+    all : AllKept r (sourcesAt (headerOf r)) (headerOf r .sources / 2) (kept r) (droppedPairs r (headerOf r))
+    unfolding sourceOffsets keptPairs droppedPairs
+    all =
+        let h = headerOf r in
+        all-kept (sifted r h 0 (sourcesAt h) (h .sources / 2)) (table .1)
+
+    all-counted : 2 * length (kept r) ≡ headerOf r .sources
+    all-counted = omega (arith, all .all, even)
+
+    same-sources : Bytes r → wordBytes (2 * length (kept r)) ≡ take 4 (drop 24 r)
+    unfolding headerOf
+    same-sources bytes = rw all-counted (word-as-bytes r 24 bytes (omega (arith, small .whole, small .front)))
+
+    same-pairs : pairs r ≡ drop (sourcesAt (headerOf r)) r
+    same-pairs =
+        let at = sourcesAt (headerOf r) in
+        let end : length r - at ≤ 8 * (headerOf r .sources / 2) = omega (arith, small .whole, small .sources, even) in
+        all .bytes ∙ take-all (8 * (headerOf r .sources / 2)) (drop at r) (simp length-drop end)
+
+  parts-kept : let k = versionsAt (headerOf r) - 28 in take k (drop 28 (mendedRecord r)) ≡ take k (drop 28 r)
+  parts-kept =
+      let k = versionsAt (headerOf r) - 28 in
+      let within : k ≤ size r = omega arith in
+      sym (take-take k (size r) (drop 28 (mendedRecord r)) within)
+      ∙ (ap (λ (l : List ℕ). take k l) (same-parts r none) ∙ take-take k (size r) (drop 28 r) within)
+
+  version-kept : versionSound r (headerOf r) ≡ true →
+      let k = sourcesAt (headerOf r) - 28 in
+      (headerOf (mendedRecord r) .versions ≡ headerOf r .versions) × (take k (drop 28 (mendedRecord r)) ≡ take k (drop 28 r))
+  version-kept sound =
+      let k : sourcesAt (headerOf r) - 28 ≡ size r = omega (arith, body-place sound) in
+      (rw (header-mended r none) (all-left sound), rw k (same-parts r none))
+
+  source-kept : sourceSound r (headerOf r) ≡ true →
+      (headerOf (mendedRecord r) .sources ≡ headerOf r .sources)
+      × (drop (sourcesAt (headerOf (mendedRecord r))) (mendedRecord r) ≡ drop (sourcesAt (headerOf r)) r)
+  source-kept sound = (
+    rw (header-mended r none) (all-counted sound),
+    rw (header-mended r none, sources-place r none) (from-pairs r none ∙ same-pairs sound),
+  )
+
+pub keeps-parts : KeepsParts
+keeps-parts r none = record {
+  sizes = same-front r none;
+  parts = parts-kept r none;
+  version = version-kept r none;
+  source = source-kept r none;
+}
+
+module _
+    (r : List ℕ) (none : sizeNumber r ≡ 0) (v : versionSound r (headerOf r) ≡ true) (s : sourceSound r (headerOf r) ≡ true) where
   nothing-dropped : droppedWords r ≡ []
   unfolding droppedWords
-  nothing-dropped = rw (all-left, sub-self (headerOf r .versions), all .none, even)
-
-  small : Measures r (headerOf r)
-  small = m r (sound .none)
+  nothing-dropped = rw (all-left r none v, sub-self (headerOf r .versions), all r none s .none, even r none s)
 
   -- The pieces of the new record are those of the old one.
-  same-versions : Bytes r → wordBytes (left r) ≡ take 4 (drop 20 r)
-  unfolding headerOf
-  same-versions bytes = rw all-left (word-as-bytes r 20 bytes (omega (arith, small .whole, small .front)))
-
-  same-sources : Bytes r → wordBytes (2 * length (kept r)) ≡ take 4 (drop 24 r)
-  unfolding headerOf
-  same-sources bytes =
-      let size : 2 * length (kept r) ≡ headerOf r .sources = omega (arith, all .all, even) in
-      rw size (word-as-bytes r 24 bytes (omega (arith, small .whole, small .front)))
-
-  same-pairs : pairs r ≡ drop (sourcesAt (headerOf r)) r
-  same-pairs =
-      let at = sourcesAt (headerOf r) in
-      let end : length r - at ≤ 8 * (headerOf r .sources / 2) = omega (arith, small .whole, small .sources, even) in
-      all .bytes ∙ take-all (8 * (headerOf r .sources / 2)) (drop at r) (simp length-drop end)
-
   same-body : body r ++ pairs r ≡ drop 28 r
-  same-body =
-      let place : sourcesAt (headerOf r) ≡ 28 + size r = omega (arith, small .sources, small .front, all-left) in
-      rw (same-pairs, place) (part-join r 28 (size r))
+  same-body = rw (same-pairs r none s, ← body-place r none v) (part-join r 28 (size r))
 
   same-record : Bytes r → mendedRecord r ≡ r
   unfolding mendedRecord
   same-record bytes =
-      same-pieces (take 20 r) (same-versions bytes) (same-sources bytes) same-body
+      same-pieces (take 20 r) (same-versions r none v bytes) (same-sources r none s bytes) same-body
       ∙ rw (part-join r 24 4, part-join r 20 4) (take-append-drop 20 r)
 
 pub keeps-sound : KeepsSound
-keeps-sound r bytes none v s =
-    let sound : Sound r = record { none = none; versions = v; sources = s } in
-    (same-record r sound bytes, nothing-dropped r sound)
+keeps-sound r bytes none v s = (same-record r none v s bytes, nothing-dropped r none v s)

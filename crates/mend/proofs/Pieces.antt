@@ -1,7 +1,7 @@
 -- The new record taken apart: from each place on stand the pieces that it is made of. So its header is the old one with two
 -- other sizes, its parts are the old ones, and it is a list of bytes.
 use mathlib.Core.List.{List, [], _∷_, _++_, append-assoc}
-use mathlib.Core.Path.{_≡_, _∙_, sym, ap}
+use mathlib.Core.Path.{_≡_, _∙_, refl, sym, ap}
 use Prim.Native.Nat.{ℕ, zero, suc, _+_, _*_, _-_, _≤_, _<_}
 use native.Mathlib.Omega.{arith}
 use lib.ListN.{length, take, drop, length-drop}
@@ -9,7 +9,7 @@ use lib.Seq.{length-take-le, take-at, drop-at, drop-drop, take-add}
 use Rattle.words.specs.Bytes.{Bytes, halfwordAt, wordAt}
 use Rattle.words.proofs.Bytes.{word-shared, bytes-append, bytes-take, bytes-drop}
 use Rattle.header.specs.declared.Header.{Header}
-use Rattle.header.specs.Header.{headerOf, versionsAt}
+use Rattle.header.specs.Header.{headerOf, codeAt, constantsAt, relocationAt, versionsAt, sourcesAt}
 use Rattle.record.specs.Number.{sizeNumber}
 use Rattle.mend.specs.Mend.{wordBytes, pairBytes, mendedRecord}
 use Rattle.mend.proofs.Measuring.{left, kept, pairs, size, body, m, header-length, body-length}
@@ -102,6 +102,15 @@ module _ (r : List ℕ) (none : sizeNumber r ≡ 0) where
         word-in-front (mendedRecord r) _ 20 (left r) from-version,
         word-in-front (mendedRecord r) _ 24 (2 * length (kept r)) from-sources,
       )
+
+  -- Its tables stand where they stood, the source table behind what is left of the version table.
+  pub versions-place : versionsAt (newHeader r) ≡ versionsAt (headerOf r)
+  unfolding codeAt constantsAt relocationAt versionsAt
+  versions-place = refl
+
+  pub sources-place : sourcesAt (newHeader r) ≡ versionsAt (headerOf r) + 4 * left r
+  unfolding sourcesAt
+  sources-place = rw versions-place
 
   pub mended-bytes : Bytes r → Bytes (mendedRecord r)
   unfolding mendedRecord

@@ -23,6 +23,7 @@ use Rattle.mend.specs.Mended.{Mends, MendsOnce}
 use Rattle.mend.proofs.Sifting.{Sifted, over, keep, lose, sifted, eight-bytes}
 use Rattle.mend.proofs.Measuring.{left, kept, size, m, mended-length}
 use Rattle.mend.proofs.Pieces.{newHeader, same-parts, from-pairs, header-mended, mended-bytes}
+use Rattle.mend.proofs.Pieces.{versions-place, sources-place}
 use Rattle.mend.proofs.Keeping.{keeps-sound}
 
 -- Where the pairs that are kept stand one behind the other, their offsets rise.
@@ -82,10 +83,6 @@ module _ (r : List ℕ) (none : sizeNumber r ≡ 0) where
         whole = rw (header-mended r none) (long ∙ omega arith);
       }
 
-  same-place : versionsAt (newHeader r) ≡ versionsAt (headerOf r)
-  unfolding codeAt constantsAt relocationAt versionsAt
-  same-place = refl
-
   -- The version word is the old one where it is sound, else gone.
   old-byte : (k : ℕ) → k < 4 * left r
       → byteAt (mendedRecord r) (versionsAt (headerOf r) + k) ≡ byteAt r (versionsAt (headerOf r) + k)
@@ -104,25 +101,25 @@ module _ (r : List ℕ) (none : sizeNumber r ≡ 0) where
   version-with true e =
       let h = headerOf r in
       let all : left r ≡ h .versions = rw e in
-      rw (sound-as (mendedRecord r) (newHeader r), same-place, all)
+      rw (sound-as (mendedRecord r) (newHeader r), versions-place r none, all)
       (sound-alike (h .versions) (sym (sound-as r h) ∙ e) (old-issue all))
   version-with false e =
       let gone : left r ≡ 0 = rw e in
       rw (sound-as (mendedRecord r) (newHeader r), gone)
 
   source-sound : sourceSound (mendedRecord r) (newHeader r) ≡ true
-  unfolding sourceSound sourceOffsets sourcesAt keptPairs
+  unfolding sourceSound sourceOffsets keptPairs
   source-sound =
       let h = headerOf r in
       let small = m r none in
       let half : 2 * length (kept r) / 2 ≡ length (kept r) = omega arith in
       let even : 2 * length (kept r) % 2 ≡ 0 = omega arith in
-      rw (even, half, same-place)
+      rw (even, half, sources-place r none)
       (kept-rise (sifted r h 0 (sourcesAt h) (h .sources / 2)) (omega (arith, small .whole, small .sources))
       (mendedRecord r) (versionsAt h + 4 * left r) (from-pairs r none))
 
 pub mends : Mends
-mends r bytes none = record {
+mends r none = record {
   sized = sized r none;
   version = rw (header-mended r none) (version-with r none (versionSound r (headerOf r)) refl);
   source = rw (header-mended r none) (source-sound r none);
@@ -130,5 +127,5 @@ mends r bytes none = record {
 
 pub mends-once : MendsOnce
 mends-once r bytes none =
-    let new = mends r bytes none in
+    let new = mends r none in
     keeps-sound (mendedRecord r) (mended-bytes r none bytes) (new .sized) (new .version) (new .source)

@@ -1,5 +1,5 @@
--- Mending, as 02, K12 words it. What goes is a version table whose first word is malformed (5), and what keeps the source table from
--- being sound (6).
+-- Mending, as 02, K12 words it. What goes is a version table whose first word is malformed (5), and what keeps the source table
+-- from being sound (6).
 use mathlib.Core.Bool.{Bool, cond, _&&_, _||_}
 use mathlib.Core.List.{List, [], _∷_, _++_}
 use Prim.Native.Nat.{ℕ, zero, suc, _+_, _*_, _-_, _/_, _%_}
@@ -20,7 +20,8 @@ use Rattle.mend.specs.declared.Mending.the-variants.{Refused, Mended}
 abbrev pub versionsLeft : List ℕ → Header → ℕ
 versionsLeft r h = cond (versionSound r h) (h .versions) 0
 
--- "a pair is kept exactly if its offset is below the code size and above the last kept one": `least` is 1 more than that one, or 0.
+-- "a pair is kept exactly if its offset is below the code size and above the last kept one": `least` is 1 more than that one, or
+-- 0 while none is kept.
 abbrev pub keeps : Header → ℕ → ℕ → Bool
 keeps h least offset = leb least offset && ltb offset (h .code)
 
@@ -50,8 +51,8 @@ droppedPairs r h = droppedFrom r h 0 (sourcesAt h) (h .sources / 2)
 abbrev pub wordPlaces : ℕ → ℕ → List ℕ
 wordPlaces at n = series (λ (i : ℕ). i) 4 at n
 
--- "the byte places of the dropped words in the old record, rising": words of the version table; words of pairs; and the word behind the last
--- whole pair, for "A source table of odd size loses its last word; then" its pairs are looked at.
+-- "the byte places of the dropped words in the old record, rising": words of the version table; words of pairs; and the word
+-- behind the last whole pair, for "A source table of odd size loses its last word; then" its pairs are looked at.
 unfoldable pub droppedWords : List ℕ → List ℕ
 droppedWords r =
     let h = headerOf r in
@@ -67,8 +68,8 @@ abbrev pub pairBytes : List ℕ → List ℕ → List ℕ
 pairBytes r [] = []
 pairBytes r (at ∷ places) = take 8 (drop at r) ++ pairBytes r places
 
--- The new record: five sizes of the header as they were, the other two "follow"; all parts up to the version table as they were, what is
--- left of that, and the pairs that are kept.
+-- The new record: five sizes of the header as they were, the other two "follow"; all parts up to the version table as they were,
+-- what is left of that, and the pairs that are kept.
 unfoldable pub mendedRecord : List ℕ → List ℕ
 mendedRecord r =
     let h = headerOf r in
@@ -94,13 +95,14 @@ pub record Outcome : Type 0 where
 abbrev pub mending : Mending → List ℕ → List ℕ → Outcome
 mending a out places = record { answer = a; out = out; places = places }
 
--- "It writes a new record into a lent buffer and, into another, the byte places"; a refusal leaves "both buffers untouched", and "a lent
--- buffer past the writing is untouched" (K1).
+-- "It writes a new record into a lent buffer and, into another, the byte places"; a refusal leaves "both buffers untouched", and
+-- "a lent buffer past the writing is untouched" (K1).
 unfoldable pub mendOf : List ℕ → List ℕ → List ℕ → Outcome
 mendOf r out places =
     let n = mendNumber r out places in
     cond (eqb n 0)
-    (mending (Mended (length (mendedRecord r)) (length (droppedWords r))) (sets out 0 (mendedRecord r)) (sets places 0 (droppedWords r)))
+    (mending (Mended (length (mendedRecord r)) (length (droppedWords r)))
+    (sets out 0 (mendedRecord r)) (sets places 0 (droppedWords r)))
     (mending (Refused n) out places)
 
 -- The number of an answer, and its values: the bytes of the new record and how many words were dropped.

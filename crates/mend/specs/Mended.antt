@@ -7,19 +7,25 @@ use lib.Dec.{eqb}
 use lib.ListN.{length, take, drop}
 use Rattle.words.specs.Bytes.{Bytes}
 use Rattle.words.specs.Order.{risingFrom}
-use Rattle.header.specs.Header.{headerOf, versionsAt}
+use Rattle.header.specs.Header.{headerOf, versionsAt, sourcesAt}
 use Rattle.version.specs.Version.{versionSound}
 use Rattle.source.specs.Source.{sourceSound}
 use Rattle.record.specs.Number.{sizeNumber}
 use Rattle.mend.specs.Mend.{droppedWords, mendedRecord}
 
--- "Every other part is byte for byte the same": the sizes of the other parts, and all bytes from the import list to the relocation table.
+-- "Every other part is byte for byte the same": the sizes of the other parts, and all bytes from the import list to the
+-- relocation table.
 pub record SameParts (r r' : List ℕ) : Type 0 where
   pub sizes : take 20 r' ≡ take 20 r
   pub parts : take (versionsAt (headerOf r) - 28) (drop 28 r') ≡ take (versionsAt (headerOf r) - 28) (drop 28 r)
+  -- A version table that is not malformed, and a source table that is sound, with their sizes.
+  pub version : versionSound r (headerOf r) ≡ true → (headerOf r' .versions ≡ headerOf r .versions)
+      × (take (sourcesAt (headerOf r) - 28) (drop 28 r') ≡ take (sourcesAt (headerOf r) - 28) (drop 28 r))
+  pub source : sourceSound r (headerOf r) ≡ true → (headerOf r' .sources ≡ headerOf r .sources)
+      × (drop (sourcesAt (headerOf r')) r' ≡ drop (sourcesAt (headerOf r)) r)
 
 abbrev pub KeepsParts : Type 0
-KeepsParts = (r : List ℕ) → Bytes r → sizeNumber r ≡ 0 → SameParts r (mendedRecord r)
+KeepsParts = (r : List ℕ) → sizeNumber r ≡ 0 → SameParts r (mendedRecord r)
 
 -- "a sound record comes out identical", with nothing dropped.
 abbrev pub KeepsSound : Type 0
@@ -34,12 +40,13 @@ pub record IsMended (r : List ℕ) : Type 0 where
   pub source : sourceSound r (headerOf r) ≡ true
 
 abbrev pub Mends : Type 0
-Mends = (r : List ℕ) → Bytes r → sizeNumber r ≡ 0 → IsMended (mendedRecord r)
+Mends = (r : List ℕ) → sizeNumber r ≡ 0 → IsMended (mendedRecord r)
 
 -- "mending twice changes nothing more".
 abbrev pub MendsOnce : Type 0
 MendsOnce =
-    (r : List ℕ) → Bytes r → sizeNumber r ≡ 0 → (mendedRecord (mendedRecord r) ≡ mendedRecord r) × (droppedWords (mendedRecord r) ≡ [])
+    (r : List ℕ) → Bytes r → sizeNumber r ≡ 0
+    → (mendedRecord (mendedRecord r) ≡ mendedRecord r) × (droppedWords (mendedRecord r) ≡ [])
 
 -- The places rise from the version table on, and lie in the old record.
 abbrev pub PlacesRise : Type 0
@@ -60,8 +67,8 @@ leftFrom r dropped at zero = []
 leftFrom r dropped at (suc n) =
     cond (isListed at dropped) (leftFrom r dropped (at + 4) n) (take 4 (drop at r) ++ leftFrom r dropped (at + 4) n)
 
--- What is left of both tables without the dropped words is what the new record has there. By `Shortens` each place is one of their
--- words.
+-- What is left of both tables without the dropped words is what the new record has there. By `Shortens` each place is one of
+-- their words.
 abbrev pub DropsJustThese : Type 0
 DropsJustThese =
     (r : List ℕ) → sizeNumber r ≡ 0

@@ -166,7 +166,8 @@ fn write_places(r: &[u8], h: Header, versions: u32, pairs: u32, places: &mut [u3
 
 // Writes the mended record into `out` and the places of the dropped words into `places`.
 pub fn mend(r: &[u8], out: &mut [u8], places: &mut [u32]) -> Mending
-    ensures { λ a. ⌜ mending a (now (out .exit)) (now (places .exit)) ≡ mendOf (now (r .entry)) (now (out .entry)) (now (places .entry)) ⌝ }
+    ensures { λ a. ⌜ mending a (now (out .exit)) (now (places .exit))
+        ≡ mendOf (now (r .entry)) (now (out .entry)) (now (places .entry)) ⌝ }
 {
     let number = record::size_number(r);
     if number != 0 {

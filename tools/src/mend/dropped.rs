@@ -46,9 +46,10 @@ impl Source<'_> {
     fn text(&self, index: usize) -> String {
         let (pair, value) = (index / 2, word(self.record.source, 4 * index));
         match index % 2 {
-            0 if 4 * (index + 1) == self.record.source.len() => {
-                format!("the last of {} source words, {value}: of no pair", index + 1)
-            }
+            0 if 4 * (index + 1) == self.record.source.len() => match index {
+                0 => format!("the only source word, {value}: of no pair"),
+                _ => format!("the last of {} source words, {value}: of no pair", index + 1),
+            },
             0 => format!("pair {pair}, offset {value}: {}", self.why(pair, value)),
             _ => format!("pair {pair}, line {value}"),
         }
