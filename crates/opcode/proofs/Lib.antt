@@ -1,6 +1,5 @@
 -- Laws about the table of codes, lengths, and bytes that are there.
 pub mod Rows
 pub mod Formats
-pub mod Short
 pub mod Present
 pub mod Found

@@ -13,7 +13,7 @@ use crate::instruction::Order;
 use crate::instruction::SetOperation;
 
 // 5.2.4.1: the operand is the last digit of the code.
-pub fn short_form(mode: Mode, code: &[u8], at: usize) -> Instruction
+fn short_form(mode: Mode, code: &[u8], at: usize) -> Instruction
     requires { ⌜ byteAt (now code) at < 128 ⌝ }
     ensures { λ i. ⌜ i ≡ made (find shortTable (byteAt (now (code .entry)) at / 16)) mode (now (code .entry)) at ⌝ }
 {

@@ -1,7 +1,6 @@
 // Instruction decoding: what stands at a place of the code, within a limit.
 ghost use mathlib.Core.Path.{_≡_};
 ghost use Prim.Native.Nat.{_<_};
-ghost use lib.ListN.{length};
 ghost use Rattle.opcode.specs.Decode.{decodeIn, decodeAt};
 use crate::instruction::Instruction;
 use crate::instruction::Mode;
@@ -46,17 +45,4 @@ pub fn decode(code: &[u8], limit: usize, at: usize) -> Decoded
         return Decoded::Past;
     }
     decode_in(Mode::Double, code, limit, at + 1)
-}
-
-// The instruction at a place, within the whole code. The short forms, most of what a run meets, are told by their first byte alone.
-pub fn fetch(code: &[u8], at: usize) -> Decoded
-    ensures { λ d. ⌜ d ≡ decodeAt (now (code .entry)) (length (now (code .entry))) at ⌝ }
-{
-    if code.len() <= at {
-        return Decoded::Past;
-    }
-    if words::byte_at(code, at) < 0x70 {
-        return Decoded::At(build::short_form(Mode::Normal, code, at), at + 1);
-    }
-    decode(code, code.len(), at)
 }

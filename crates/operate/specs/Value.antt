@@ -10,9 +10,14 @@ use mir.Val.{ofZ}
 use Rattle.operate.specs.declared.Value.{Value}
 use Rattle.operate.specs.declared.Value.the-variants.{Word, Trap}
 
-unfoldable pub signedWord : ℤ → Value
-signedWord z = cond (ltb (mag z) 0x8000_0000) (Word (ofZ w32 z)) (Trap 31)
+-- The numbers of a signed word, from -2^31 to 2^31 - 1: `mag z` is n both for n and for -(n + 1).
+abbrev pub isSigned : ℤ → Bool
+isSigned z = ltb (mag z) 0x8000_0000
 
+unfoldable pub signedWord : ℤ → Value
+signedWord z = cond (isSigned z) (Word (ofZ w32 z)) (Trap 31)
+
+-- The numbers of an unsigned word: from 0 to 2^32 - 1.
 unfoldable pub unsignedWord : ℤ → Value
 unsignedWord (pos n) = cond (ltb n 0x1_0000_0000) (Word n) (Trap 31)
 unsignedWord (negsuc n) = Trap 31

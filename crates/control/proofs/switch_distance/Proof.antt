@@ -14,20 +14,11 @@ returns c =
 
 returns-2 : tie.Need-returns-2
 returns-2 c =
-    let the-else-distance2 = c .else-distance2 in
-    let the-if2 = c .before .if2 in
-    let the-search-distance = c .before .before .search-distance in
-    let the-enum-told2 = c .before .before .before .enum-told2 in
-    let else-distance2 = the-else-distance2 in
-    let if2 = the-if2 in
-    let search-distance = the-search-distance in
-    let enum-told2 = the-enum-told2 in
-    rw (
-      enum-told2 .given .1,
-      ← search-distance .ensures,
-      eq-eqb (search-distance .result) 0 (if2 .taken),
-      else-distance2 .ensures,
-    )
+    let else-distance2 = c .else-distance2 in
+    let if2 = c .before .if2 in
+    let search-distance = c .before .before .search-distance in
+    let enum-told2 = c .before .before .before .enum-told2 in
+    rw (enum-told2 .given .1, ← search-distance .ensures, eq-eqb (search-distance .result) 0 (if2 .taken), else-distance2 .ensures)
 
 returns-3 : tie.Need-returns-3
 returns-3 c =
@@ -47,5 +38,14 @@ returns-4 c =
 pub switch-distance-spec : {M : Type 1} → statement M
 switch-distance-spec =
     tie.close
-    (tie.spec (λ c. search needs) (λ c κs. search needs) returns (λ c κs. search needs) (λ c. search needs)
-    (λ c κs. search needs) (λ c κs. search needs) returns-2 returns-3 returns-4)
+    (tie.spec
+    (λ c. search needs)
+    (λ c κs. search needs)
+    returns
+    (λ c κs. search needs)
+    (λ c. search needs)
+    (λ c κs. search needs)
+    (λ c κs. search needs)
+    returns-2
+    returns-3
+    returns-4)

@@ -95,20 +95,6 @@ returns c = stored c
 pub copy-pairs-spec : {M : Type 1} → statement M
 copy-pairs-spec =
     tie.close
-    (tie.spec
-    Inv-loop
-    μ-loop
-    (λ c κs. search needs)
-    loop-holds
-    (λ c κs. search needs)
-    (λ c κs. search needs)
-    (λ c. search needs)
-    (λ c. search needs)
-    copy-part-requires
-    add-next
-    add-at
-    (λ c. search needs)
-    (λ c. search needs)
-    loop-again
-    same-length
-    returns)
+    (tie.spec Inv-loop μ-loop (λ c κs. search needs) loop-holds (λ c κs. search needs) (λ c κs. search needs)
+    (λ c. search needs) (λ c. search needs) copy-part-requires add-next add-at (λ c. search needs) (λ c. search needs)
+    loop-again same-length returns)

@@ -86,20 +86,6 @@ returns c = stored c
 pub list-pairs-spec : {M : Type 1} → statement M
 list-pairs-spec =
     tie.close
-    (tie.spec
-    Inv-loop
-    μ-loop
-    (λ c κs. search needs)
-    loop-holds
-    (λ c κs. search needs)
-    (λ c κs. search needs)
-    (λ c. search needs)
-    (λ c. search needs)
-    list-words-requires
-    add-next
-    add-at
-    (λ c. search needs)
-    (λ c. search needs)
-    loop-again
-    same-length
-    returns)
+    (tie.spec Inv-loop μ-loop (λ c κs. search needs) loop-holds (λ c κs. search needs) (λ c κs. search needs)
+    (λ c. search needs) (λ c. search needs) list-words-requires add-next add-at (λ c. search needs) (λ c. search needs)
+    loop-again same-length returns)

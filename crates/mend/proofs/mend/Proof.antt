@@ -117,28 +117,7 @@ returns-4 c =
 pub mend-spec : {M : Type 1} → statement M
 mend-spec =
     tie.close
-    (tie.spec
-    (λ c κs. search needs)
-    returns
-    (λ c κs. search needs)
-    (λ c κs. search needs)
-    (λ c κs. search needs)
-    (λ c κs. search needs)
-    (λ c. search needs)
-    (λ c. search needs)
-    add-length
-    (λ c. search needs)
-    (λ c. search needs)
-    add-length-2
-    returns-2
-    sub-dropped
-    mul-dropped
-    sub-dropped-2
-    add-dropped
-    (λ c. search needs)
-    returns-3
-    (λ c κs. search needs)
-    (λ c κs. search needs)
-    (λ c. search needs)
-    (λ c. search needs)
-    returns-4)
+    (tie.spec (λ c κs. search needs) returns (λ c κs. search needs) (λ c κs. search needs) (λ c κs. search needs)
+    (λ c κs. search needs) (λ c. search needs) (λ c. search needs) add-length (λ c. search needs) (λ c. search needs)
+    add-length-2 returns-2 sub-dropped mul-dropped sub-dropped-2 add-dropped (λ c. search needs) returns-3
+    (λ c κs. search needs) (λ c κs. search needs) (λ c. search needs) (λ c. search needs) returns-4)

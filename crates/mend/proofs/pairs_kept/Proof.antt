@@ -31,8 +31,9 @@ add-kept c =
 add-at : tie.Need-add-at Inv-loop μ-loop
 unfolding codeAt constantsAt relocationAt versionsAt sourcesAt
 add-at c =
+    let loop-test = c .before .before .before .loop-test in
     let head = c .before .before .before .before in
-    omega (arith, head .loop .inv .place, head .before .before .sources-at .ensures, c .before .before .before .loop-test .taken)
+    omega (arith, head .loop .inv .place, head .before .before .sources-at .ensures, loop-test .taken)
 
 loop-again : tie.Need-loop-again Inv-loop μ-loop
 loop-again c =
@@ -57,18 +58,5 @@ returns c =
 pub pairs-kept-spec : {M : Type 1} → statement M
 pairs-kept-spec =
     tie.close
-    (tie.spec
-    Inv-loop
-    μ-loop
-    (λ c κs. search needs)
-    loop-holds
-    (λ c κs. search needs)
-    (λ c κs. search needs)
-    (λ c. search needs)
-    (λ c. search needs)
-    add-kept
-    add-at
-    (λ c. search needs)
-    (λ c. search needs)
-    loop-again
-    returns)
+    (tie.spec Inv-loop μ-loop (λ c κs. search needs) loop-holds (λ c κs. search needs) (λ c κs. search needs)
+    (λ c. search needs) (λ c. search needs) add-kept add-at (λ c. search needs) (λ c. search needs) loop-again returns)

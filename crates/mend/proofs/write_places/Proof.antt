@@ -89,20 +89,6 @@ returns c =
 pub write-places-spec : {M : Type 1} → statement M
 write-places-spec =
     tie.close
-    (tie.spec
-    sub-gone
-    (λ c κs. search needs)
-    (λ c κs. search needs)
-    list-words-requires
-    (λ c. search needs)
-    list-pairs-requires
-    sub-list-words
-    (λ c. search needs)
-    add-list-words
-    (λ c. search needs)
-    (λ c. search needs)
-    (λ c. search needs)
-    add-list-words-2
-    list-words-requires-2
-    (λ c. search needs)
-    returns)
+    (tie.spec sub-gone (λ c κs. search needs) (λ c κs. search needs) list-words-requires (λ c. search needs)
+    list-pairs-requires sub-list-words (λ c. search needs) add-list-words (λ c. search needs) (λ c. search needs)
+    (λ c. search needs) add-list-words-2 list-words-requires-2 (λ c. search needs) returns)

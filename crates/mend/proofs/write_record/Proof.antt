@@ -72,16 +72,5 @@ returns c =
 pub write-record-spec : {M : Type 1} → statement M
 write-record-spec =
     tie.close
-    (tie.spec
-    (λ c κs. search needs)
-    (λ c. search needs)
-    add-body
-    (λ c κs. search needs)
-    (λ c κs. search needs)
-    mul-put-word
-    (λ c κs. search needs)
-    sub-copy-part
-    (λ c κs. search needs)
-    copy-pairs-requires
-    (λ c. search needs)
-    returns)
+    (tie.spec (λ c κs. search needs) (λ c. search needs) add-body (λ c κs. search needs) (λ c κs. search needs) mul-put-word
+    (λ c κs. search needs) sub-copy-part (λ c κs. search needs) copy-pairs-requires (λ c. search needs) returns)

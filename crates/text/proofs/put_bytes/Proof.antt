@@ -20,12 +20,9 @@ loop-holds c = (refl, omega arith, left-start refl (omega arith))
 
 loop-again : tie.Need-loop-again Inv-loop μ-loop
 loop-again c =
-    let the-set-byte = c .before .before .set-byte in
-    let the-loop = c .before .before .before .before .before .before .loop in
-    let args = c .before .before .before .before .before .before .before .before .before .args in
-    let set-byte = the-set-byte in
-    let loop = the-loop in
-    let a = args in
+    let set-byte = c .before .before .set-byte in
+    let loop = c .before .before .before .before .before .before .loop in
+    let a = c .before .before .before .before .before .before .before .before .before .args in
     (refl, omega (arith, loop .inv .0), left-next (loop .inv .2) (drop-one (a .s .now) (loop .i) (omega (arith, loop .inv .0))) (wrote-one (set-byte .ensures) (omega arith)))
 
 same-length : tie.Need-same-length Inv-loop μ-loop

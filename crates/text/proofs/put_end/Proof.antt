@@ -17,38 +17,39 @@ put-numbered-requires-3 c κs =
 
 put-numbered-requires-4 : tie.Need-put-numbered-requires-4
 put-numbered-requires-4 c κs =
-    let the-put-numbered3 = c .before .before .before .before .put-numbered3 in
-    let put-numbered3 = the-put-numbered3 in
+    let put-numbered3 = c .before .before .before .before .put-numbered3 in
     let earlier = c .before .before .before .before .before .before .before .before .before in
     let put-numbered2 = earlier .put-numbered2 in
     let put-numbered = earlier .before .before .before .before .before .put-numbered in
-    omega
-    (arith, number-ends _ _ (put-numbered .ensures), number-ends _ _ (put-numbered2 .ensures), number-ends _ _ (put-numbered3 .ensures))
+    omega (
+      arith,
+      number-ends _ _ (put-numbered .ensures),
+      number-ends _ _ (put-numbered2 .ensures),
+      number-ends _ _ (put-numbered3 .ensures),
+    )
 
 put-bytes-requires : tie.Need-put-bytes-requires
 put-bytes-requires c κs =
-    let the-put-numbered4 = c .before .before .before .before .put-numbered4 in
-    let put-numbered4 = the-put-numbered4 in
-    let earlier = c .before .before .before .before .before .before .before .before .before in
-    let put-numbered3 = earlier .put-numbered3 in
-    let put-numbered2 = earlier .before .before .before .before .before .put-numbered2 in
-    let put-numbered = earlier .before .before .before .before .before .before .before .before .before .before .put-numbered
-    in
-    omega
-    (arith, number-ends _ _ (put-numbered .ensures), number-ends _ _ (put-numbered2 .ensures), number-ends _ _ (put-numbered3 .ensures), number-ends _ _ (put-numbered4 .ensures))
+    let last = number-ends _ _ (c .before .before .before .before .put-numbered4 .ensures) in
+    let third = c .before .before .before .before .before .before .before .before .before in
+    let second = third .before .before .before .before .before in
+    omega (
+      arith,
+      number-ends _ _ (second .before .before .before .before .before .put-numbered .ensures),
+      number-ends _ _ (second .put-numbered2 .ensures),
+      number-ends _ _ (third .put-numbered3 .ensures),
+      last,
+    )
 
 returns : tie.Need-returns
 unfolding endLine
 returns c =
-    let the-put-bytes = c .before .before .put-bytes in
-    let the-put-numbered4 = c .before .before .before .before .before .before .before .put-numbered4 in
-    let put-bytes = the-put-bytes in
-    let put-numbered4 = the-put-numbered4 in
+    let put-bytes = c .before .before .put-bytes in
+    let put-numbered4 = c .before .before .before .before .before .before .before .put-numbered4 in
     let earlier = c .before .before .before .before .before .before .before .before .before .before .before .before in
     let put-numbered3 = earlier .put-numbered3 in
     let put-numbered2 = earlier .before .before .before .before .before .put-numbered2 in
-    let put-numbered = earlier .before .before .before .before .before .before .before .before .before .before .put-numbered
-    in
+    let put-numbered = earlier .before .before .before .before .before .before .before .before .before .before .put-numbered in
     wrote-then (put-numbered .ensures)
     (wrote-then (put-numbered2 .ensures) (wrote-then (put-numbered3 .ensures) (wrote-then (put-numbered4 .ensures) (put-bytes .ensures))))
 

@@ -34,18 +34,12 @@ div-digit c =
 
 loop-again : tie.Need-loop-again Inv-loop μ-loop
 loop-again c =
-    let the-set-byte = c .before .before .set-byte in
-    let the-power-of-ten = c .before .before .before .before .power-of-ten in
-    let the-loop-test = c .before .before .before .before .before .loop-test in
-    let the-loop = c .before .before .before .before .before .before .loop in
-    let the-width-of = c .before .before .before .before .before .before .before .width-of in
-    let args = c .before .before .before .before .before .before .before .before .before .args in
-    let set-byte = the-set-byte in
-    let power-of-ten = the-power-of-ten in
-    let loop-test = the-loop-test in
-    let loop = the-loop in
-    let width-of = the-width-of in
-    let a = args in
+    let set-byte = c .before .before .set-byte in
+    let power-of-ten = c .before .before .before .before .power-of-ten in
+    let loop-test = c .before .before .before .before .before .loop-test in
+    let loop = c .before .before .before .before .before .before .loop in
+    let width-of = c .before .before .before .before .before .before .before .width-of in
+    let a = c .before .before .before .before .before .before .before .before .before .args in
     (omega arith, left-next (loop .inv .1) (digits-one (width-of .result) (loop .i) (a .n) (loop-test .taken)) (wrote-one (rw (← power-of-ten .ensures) (set-byte .ensures)) (omega arith)))
 
 same-length : tie.Need-same-length Inv-loop μ-loop

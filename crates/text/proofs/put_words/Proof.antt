@@ -31,10 +31,8 @@ put-number-requires c κs =
 
 loop-again : tie.Need-loop-again Inv-loop μ-loop
 loop-again c =
-    let the-put-number = c .before .before .put-number in
-    let the-put-bytes = c .before .before .before .before .before .before .before .put-bytes in
-    let put-number = the-put-number in
-    let put-bytes = the-put-bytes in
+    let put-number = c .before .before .put-number in
+    let put-bytes = c .before .before .before .before .before .before .before .put-bytes in
     let earlier = c .before .before .before .before .before .before .before .before .before .before .before in
     let loop = earlier .loop in
     let a = earlier .before .before .before .args in

@@ -18,11 +18,9 @@ within : (c : tie.After-decoded) →
     let start = c .before .before .before .before .before .before .before .before in
     c .decoded .given .0 .1 .0 ≤ length (start .args .code .now)
 within c =
-    let decoded = c .decoded in
     let decode = c .before .before in
     let a = decode .before .before .before .before .before .before .args in
-    ends (a .code .now) (length (a .code .now)) (a .self .registers .pc) (sym (decode .decode .ensures) ∙ decoded .given .1)
-    .1
+    ends (a .code .now) (length (a .code .now)) (a .self .registers .pc) (sym (decode .decode .ensures) ∙ c .decoded .given .1) .1
 
 fitted : (c : tie.Start) → Fitting (c .args .areas) (state (c .args .self .registers) (c .args .memory .now) (c .args .stack .now))
 fitted c = fitting (c .args .areas) (state (c .args .self .registers) (c .args .memory .now) (c .args .stack .now)) (c .pre .1)
@@ -46,8 +44,7 @@ returns c =
 
 cast-execute : tie.Need-cast-execute
 cast-execute c =
-    let the-pre = c .before .before .before .before .before .before .before .before .before .before .before .before .before .before .pre in
-    let pre = the-pre in
+    let pre = c .before .before .before .before .before .before .before .before .before .before .before .before .before .before .pre in
     record { fits = omega (arith, pre .0, within (c .before .before .before .before .before .before)) }
 
 execute-requires : tie.Need-execute-requires
@@ -100,6 +97,22 @@ returns-4 c =
 pub step-spec : {M : Type 1} → statement M
 step-spec =
     tie.close
-    (tie.spec (λ c. search needs) (λ c κs. search needs) (λ c. search needs) (λ c κs. search needs) (λ c. search needs)
-    (λ c κs. search needs) (λ c. search needs) (λ c κs. search needs) (λ c κs. search needs) returns cast-execute
-    execute-requires apply-requires returns-2 returns-3 (λ c. search needs) (λ c. search needs) returns-4)
+    (tie.spec
+    (λ c. search needs)
+    (λ c κs. search needs)
+    (λ c. search needs)
+    (λ c κs. search needs)
+    (λ c. search needs)
+    (λ c κs. search needs)
+    (λ c. search needs)
+    (λ c κs. search needs)
+    (λ c κs. search needs)
+    returns
+    cast-execute
+    execute-requires
+    apply-requires
+    returns-2
+    returns-3
+    (λ c. search needs)
+    (λ c. search needs)
+    returns-4)
