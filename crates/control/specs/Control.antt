@@ -27,7 +27,7 @@ use Rattle.effect.specs.declared.effect.Effect.the-variants.{Trap as trap, Fini
 use Rattle.registers.specs.declared.Areas.{Areas}
 use Rattle.registers.specs.Memory.{read, live, protects}
 use Rattle.registers.specs.Changes.{moved, sized, called, returned}
-use Rattle.effect.specs.Data.{boolean, storable}
+use Rattle.effect.specs.Data.{ifBoolean, ifStorable}
 
 -- JUMP.
 unfoldable pub jumpEffect : (q : Registers) (distance : ℕ) → Effect
@@ -35,12 +35,12 @@ jumpEffect q d = Go 0 NoPush NoWrite (moved q (placeAt (q .pc) d))
 
 -- JUMP_C: POP (B); if not B then PC := PC + dist.
 unfoldable pub jumpCEffect : (q : Registers) (next distance word : ℕ) → Effect
-jumpCEffect q next d b = boolean b (Go 1 NoPush NoWrite (moved q (cond (eqb b 0) (placeAt (q .pc) d) next)))
+jumpCEffect q next d b = ifBoolean b (Go 1 NoPush NoWrite (moved q (cond (eqb b 0) (placeAt (q .pc) d) next)))
 
 -- JUMP_T (truth is 1) and JUMP_F (truth is 0): POP (B); if B is `truth` then PUSH (B); PC := PC + dist.
 unfoldable pub jumpTFEffect : (q : Registers) (next truth distance word : ℕ) → Effect
 jumpTFEffect q next truth d b =
-    boolean b (cond (eqb b truth) (Go 0 NoPush NoWrite (moved q (placeAt (q .pc) d))) (Go 1 NoPush NoWrite (moved q next)))
+    ifBoolean b (cond (eqb b truth) (Go 0 NoPush NoWrite (moved q (placeAt (q .pc) d))) (Go 1 NoPush NoWrite (moved q next)))
 
 -- (S > 0 and X > L) or (S < 0 and X < L).
 abbrev pub beyond : ℤ → ℤ → ℤ → Bool
@@ -50,7 +50,7 @@ beyond s x l = (ltZ (pos 0) s && ltZ l x) || (ltZ s (pos 0) && ltZ x l)
 unfoldable pub iterEffect : (A : Areas) (q : Registers) (m : List ℕ) (next distance address first last step : ℕ) → Effect
 iterEffect A q m next d a f l s =
     cond (beyond (toZ w32 s) (toZ w32 f) (toZ w32 l)) (Go 4 NoPush NoWrite (moved q (placeAt (q .pc) d)))
-    (storable A q m a Normal (Go 0 (PushOne next) (WriteOne a f) (moved q next)))
+    (ifStorable A q m a Normal (Go 0 (PushOne next) (WriteOne a f) (moved q next)))
 
 -- NEXT's sum: MEMORY(A) + S. 01: "NEXT's sum traps likewise".
 unfoldable pub nextSum : List ℕ → ℕ → ℕ → Value

@@ -46,15 +46,15 @@ loaded m a Double = PushTwo (read m a) (read m (a + 1))
 -- LOAD_L, _G, _T, _F: the offset is n, and a is the address word of LOAD_F.
 unfoldable pub loadEffect : (q : Registers) (m : List ℕ) (next : ℕ) (base : Base) (mode : Mode) (n a : ℕ) → Effect
 loadEffect q m next base mode n a =
-    let at = baseOf q m a base + n in
-    cond (live q at (wordsIn mode)) (Go (popped base) (loaded m at mode) NoWrite (moved q next)) (trap 32)
+    let address = baseOf q m a base + n in
+    cond (live q address (wordsIn mode)) (Go (popped base) (loaded m address mode) NoWrite (moved q next)) (trap 32)
 
 -- LOAD_A_L, _G, _T, _F. 01: "An address sum past 32 bits is not live; LOAD_A_F traps 31 for it." The others' sums
 -- stay within 32 bits in every state that fits.
 unfoldable pub loadAddressEffect : (q : Registers) (m : List ℕ) (next : ℕ) (base : Base) (n a : ℕ) → Effect
 loadAddressEffect q m next base n a =
-    let at = baseOf q m a base + n in
-    cond (ltb at 0x1_0000_0000) (Go (popped base) (PushOne at) NoWrite (moved q next)) (trap 31)
+    let address = baseOf q m a base + n in
+    cond (ltb address 0x1_0000_0000) (Go (popped base) (PushOne address) NoWrite (moved q next)) (trap 31)
 
 abbrev pub stored : ℕ → Mode → ℕ → ℕ → Write
 stored a Normal x y = WriteOne a x
@@ -66,14 +66,14 @@ protectsAny A q m a Normal = protects A q m a
 protectsAny A q m a Double = protects A q m a || protects A q m (a + 1)
 
 -- A store: 01, "For two words both must be live, then both unprotected."
-abbrev pub storable : (A : Areas) (q : Registers) (m : List ℕ) (a : ℕ) (mode : Mode) (e : Effect) → Effect
-storable A q m a mode e = cond (live q a (wordsIn mode)) (cond (protectsAny A q m a mode) (trap 33) e) (trap 32)
+abbrev pub ifStorable : (A : Areas) (q : Registers) (m : List ℕ) (a : ℕ) (mode : Mode) (e : Effect) → Effect
+ifStorable A q m a mode e = cond (live q a (wordsIn mode)) (cond (protectsAny A q m a mode) (trap 33) e) (trap 32)
 
 -- STOR_L, _G, _F of x, or of x and y: the offset is n, and a is the address word of STOR_F.
 unfoldable pub storeEffect : (A : Areas) (q : Registers) (m : List ℕ) (next : ℕ) (base : Base) (mode : Mode) (n a x y : ℕ) → Effect
 storeEffect A q m next base mode n a x y =
-    let at = baseOf q m a base + n in
-    storable A q m at mode (Go (popped base + wordsIn mode) NoPush (stored at mode x y) (moved q next))
+    let address = baseOf q m a base + n in
+    ifStorable A q m address mode (Go (popped base + wordsIn mode) NoPush (stored address mode x y) (moved q next))
 
 -- One word is pushed in the place of those that go.
 abbrev pub pushEffect : (q : Registers) (next pops x : ℕ) → Effect
@@ -89,8 +89,8 @@ abbrev pub operateEffect : (q : Registers) (next : ℕ) (op : Operation) (x y : 
 operateEffect q next op x y = valueEffect q next (operands op) (operationValue op x y)
 
 -- 34 is "not a boolean".
-abbrev pub boolean : ℕ → Effect → Effect
-boolean b e = cond (isBoolean b) e (trap 34)
+abbrev pub ifBoolean : ℕ → Effect → Effect
+ifBoolean b e = cond (isBoolean b) e (trap 34)
 
 -- ALLOC: POP (L); PUSH (MP); MP := MP + L. 35 is "memory full".
 unfoldable pub allocEffect : (q : Registers) (m : List ℕ) (next size : ℕ) → Effect

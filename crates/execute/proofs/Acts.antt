@@ -40,7 +40,7 @@ use Rattle.registers.specs.Program.{Program}
 use Rattle.registers.specs.State.{State}
 use Rattle.registers.specs.Memory.{read, live, protects}
 use Rattle.registers.specs.Changes.{moved, sized, called, returned}
-use Rattle.effect.specs.Data.{pushes, baseOf, loaded, protectsAny, stored, storable, valueEffect}
+use Rattle.effect.specs.Data.{pushes, baseOf, loaded, protectsAny, stored, ifStorable, valueEffect}
 use Rattle.effect.specs.Data.{loadEffect, loadAddressEffect, storeEffect, allocEffect, freeEffect}
 use Rattle.control.specs.Control.{beyond, jumpEffect, jumpCEffect, jumpTFEffect, iterEffect, nextSum, sumEffect, nextEffect}
 use Rattle.control.specs.Control.{switchDistance, switchEffect, callEffect, enterEffect, rtnEffect}
@@ -105,7 +105,7 @@ module _ (P : Program) (S : State) (next : ℕ) where
   value-acts pops (Stop n) (a-trap d) = traps d
 
   storable-acts : (s : Shape) (a : ℕ) (mode : Mode) (e : Effect) → (protectsAny (P .areas) q m a mode ≡ false → Is s e)
-      → Is s (storable (P .areas) q m a mode e)
+      → Is s (ifStorable (P .areas) q m a mode e)
   storable-acts s a mode e h =
       tested s (live q a (wordsIn mode)) _ 32 (data-number 32 refl refl)
       (λ l. guarded s (protectsAny (P .areas) q m a mode) e 33 (data-number 33 refl refl) h)

@@ -1,5 +1,5 @@
--- What each instruction does with the words that it finds: one line an instruction, in the order of the enum, the manual's brackets
--- beside it.
+-- What each instruction does with the words that it finds: one clause an instruction, in the order of the enum, the manual's brackets
+-- beside it; a two-word value counts two.
 use mathlib.Core.List.{List}
 use Prim.Native.Nat.{ℕ, _+_, _-_}
 use lib.ListN.{take, drop}
@@ -45,8 +45,8 @@ execute P S next (Store base mode n) =  -- [ val => ], STOR_F [ adr, val => ]
     storeEffect (P .areas) (S .registers) (S .memory) next base mode n (word S 0) (word S (popped base)) (word S (popped base + 1))
 execute P S next (Pop n) = Go n NoPush NoWrite (moved (S .registers) next)  -- [ val (,...) => ]
 execute P S next Swap = Go 2 (PushTwo (word S 1) (word S 0)) NoWrite (moved (S .registers) next)  -- [ val, val => val, val ]
-execute P S next Nop = Go 0 NoPush NoWrite (moved (S .registers) next)  -- [ ]
-execute P S next (Operate op) = operateEffect (S .registers) next op (word S 0) (word S 1)  -- [ val, val => val ], or [ val => val ]
+execute P S next Nop = Go 0 NoPush NoWrite (moved (S .registers) next)
+execute P S next (Operate op) = operateEffect (S .registers) next op (word S 0) (word S 1)  -- [ val, val => val ] or as in shape/specs/Counts
 execute P S next Alloc = allocEffect (S .registers) (S .memory) next (word S 0)  -- [ size => adr ]
 execute P S next Free = freeEffect (S .registers) next (word S 0)  -- [ size => ]
 execute P S next (Jump d) = jumpEffect (S .registers) d  -- [ ]

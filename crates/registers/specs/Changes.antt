@@ -16,7 +16,7 @@ sized q place mp = record { pc = place; fp = q .fp; mp = mp; gp = q .gp; height 
 abbrev pub raised : Registers → ℕ → Registers
 raised q h = record { pc = q .pc; fp = q .fp; mp = q .mp; gp = q .gp; height = h; calls = q .calls }
 
--- CALL: MEMORY(MP) := FP; MEMORY(MP+1) := the next place; MP := MP + 2; FP := MP; PC := PROC (p).
+-- CALL: MP := MP + 2; FP := MP; PC := PROC (p). Its two MEMORY lines are in `callEffect`.
 abbrev pub called : Registers → ℕ → Registers
 called q entry =
     record {

@@ -3,8 +3,8 @@ use mathlib.Core.List.{List}
 use Prim.Native.Nat.{ℕ}
 use Rattle.registers.specs.declared.Registers.{Registers}
 
--- What a step finds and leaves: the registers, the memory, and the whole borrowed stack. 01: "Memory is a lent run of 32-bit words"; the
--- stack words below the height are the live ones.
+-- What a step finds and leaves: the registers, the memory, and the stack, that is the whole borrowed one (01: "Memory is a lent run of
+-- 32-bit words"). An instruction sees only the stack words that it finds (`finding` in execute/specs/Execute).
 pub record State : Type 0 where
   pub registers : Registers
   pub memory : List ℕ

@@ -1,4 +1,4 @@
--- What an instruction finds on the stack, its shape for the check, and what it does with procedures.
+-- What an instruction finds on the stack, its shape, and what it does with procedures.
 pub mod Counts
 pub mod Shape
 pub mod Linkage

@@ -1,4 +1,4 @@
--- The shape of an instruction: what the check makes of its operands. What takes and gives words alone and goes on is one shape; what
+-- The shape of an instruction: what check and step need to know of its words. What takes and gives words alone and goes on is one shape; what
 -- jumps, makes or uses a label, calls or returns has its own.
 use Prim.Native.Nat.{ℕ, _+_}
 use Rattle.opcode.specs.declared.instruction.Instruction.{Instruction}
@@ -19,8 +19,8 @@ shapeOf (LoadAddress base n) = Straight (popped base) 1  -- [ => adr ], LOAD_A_F
 shapeOf (Store base mode n) = Straight (popped base + wordsIn mode) 0  -- [ val => ], STOR_F [ adr, val => ]
 shapeOf (Pop n) = shape.Pop n  -- [ val (,...) => ]
 shapeOf Swap = Straight 2 2  -- [ val, val => val, val ]
-shapeOf Nop = Straight 0 0  -- [ ]
-shapeOf (Operate op) = Straight (operands op) 1  -- [ val, val => val ], NEG_I and NEG [ val => val ]
+shapeOf Nop = Straight 0 0
+shapeOf (Operate op) = Straight (operands op) 1  -- [ val, val => val ], or as in Counts
 shapeOf Alloc = Straight 1 1  -- [ size => adr ]
 shapeOf Free = Straight 1 0  -- [ size => ]
 shapeOf (Jump d) = shape.Jump d  -- [ ]
