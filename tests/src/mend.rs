@@ -67,6 +67,7 @@ fn set_size(record: &mut [u8], at: usize, kept: &[bool]) {
 mod tests {
     use super::{mended, Mended};
     use crate::generate::record::Parts;
+    use crate::record::LARGEST;
 
     /// A record of five code bytes, with these tables and something in every other part.
     fn record(version: &[[u8; 4]], source: &[u32]) -> Vec<u8> {
@@ -102,6 +103,25 @@ mod tests {
         let dropped = [3, 4, 7, 8, 9, 10, 13, 14, 15];
         expect(&[sound], &damaged, record(&[sound], &[0, 7, 2, 8, 3, 9]), &dropped);
         expect(&[], &[4], record(&[], &[]), &[0]);
+    }
+
+    #[test]
+    fn places_reach_to_the_end_of_the_longest_record() {
+        let largest = LARGEST.map(|size| size as usize);
+        let parts = |source| Parts {
+            imports: vec![1; largest[0]],
+            code: vec![0xff; largest[1]],
+            globals: LARGEST[2],
+            constants: vec![2; largest[3]],
+            relocation: vec![3; largest[4]],
+            version: vec![*b"12/B"; largest[5]],
+            source,
+        };
+        let mut source: Vec<u32> = (0..LARGEST[6] / 2).flat_map(|pair| [4 * pair, 7]).collect();
+        source[largest[6] - 2] = LARGEST[1];
+        let left = parts(source[..largest[6] - 2].to_vec()).assemble();
+        let expected = Mended { record: left, dropped: vec![32_916, 32_920] };
+        assert_eq!(mended(&parts(source).assemble()), Ok(expected));
     }
 
     #[test]

@@ -2,20 +2,19 @@
 
 use crate::failure::Failure;
 use crate::files;
+use crate::identity::{self, Identity};
 use crate::output::Output;
 use std::ffi::{OsStr, OsString};
-use std::fs;
 use std::io::{self, IsTerminal, Write};
-use std::os::unix::fs::MetadataExt;
 use std::path::Path;
 
 pub enum Destination<'a> {
     Standard,
-    /// A file that is written over where it exists.
+    /// A file that is written over where it exists; it is kept as it is where that fails.
     File(&'a OsStr),
     /// A file that must not exist.
     New(OsString),
-    /// A file that is kept as it is where the new one cannot be written.
+    /// The file that was read; it is kept as it is where that fails.
     InPlace(&'a OsStr),
 }
 
@@ -34,10 +33,15 @@ impl<'a> Destination<'a> {
     /// Tells whether it is the file that is read, by any of its names, so that it is not written
     /// over.
     pub fn is(&self, source: &OsStr) -> bool {
-        let Some(name) = self.name() else { return false };
-        let source = if source == "-" { OsStr::new("/dev/stdin") } else { source };
-        let found = identity(name);
-        found.is_some() && found == identity(source)
+        identity::is_damaged(identity::read(source), self.found())
+    }
+
+    /// Finds what is there before it is written.
+    pub fn found(&self) -> Option<Identity> {
+        match self.name() {
+            Some(name) => identity::named(name),
+            None => identity::stream(io::stdout()),
+        }
     }
 
     /// Names the file; none for standard output.
@@ -52,16 +56,11 @@ impl<'a> Destination<'a> {
     pub fn write(&self, out: &mut Output, bytes: &[u8]) -> Result<(), Failure> {
         let (name, written) = match self {
             Destination::Standard => return Ok(out.write_all(bytes)?),
-            Destination::File(name) => (*name, fs::write(name, bytes)),
             Destination::New(name) => (name.as_ref(), files::create(Path::new(name), bytes)),
-            Destination::InPlace(name) => (*name, files::replace(Path::new(name), bytes)),
+            Destination::File(name) | Destination::InPlace(name) => {
+                (*name, files::write(Path::new(name), bytes))
+            }
         };
         written.map_err(|error| Failure::UnwritableFile(name.to_owned(), error))
     }
-}
-
-/// Finds the device and the number there of a file that bytes would be lost from.
-fn identity(name: &OsStr) -> Option<(u64, u64)> {
-    let found = fs::metadata(name).ok().filter(|found| found.is_file());
-    found.map(|found| (found.dev(), found.ino()))
 }

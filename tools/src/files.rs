@@ -11,28 +11,54 @@ const NEW_MODE: u32 = 0o666;
 /// Rights of a temporary file, which may hold what only its owner may read.
 const TEMPORARY_MODE: u32 = 0o600;
 
+const NOT_OURS: &str =
+    "it belongs to another user or group, and no file of yours can take its place";
+
 /// Writes a file that must not be there yet.
 pub fn create(path: &Path, bytes: &[u8]) -> io::Result<()> {
     create_with(path, NEW_MODE, bytes, File::sync_all)
 }
 
-/// Writes over a file: it has all of the old bytes or all of the new ones, whatever happens. A link
-/// stays one, and its target is written.
-pub fn replace(path: &Path, bytes: &[u8]) -> io::Result<()> {
-    let path = fs::canonicalize(path)?;
-    let old = fs::metadata(&path)?;
-    if !old.is_file() {
-        return Err(io::Error::other("it is no regular file"));
+/// Writes a file, over one that is there: that has all of the old bytes or all of the new ones,
+/// whatever happens. A link stays one, and its target is written. A device, a pipe or an open file
+/// takes the bytes as they come.
+pub fn write(path: &Path, bytes: &[u8]) -> io::Result<()> {
+    match fs::metadata(path) {
+        Ok(_) if is_no_place(path) => fs::write(path, bytes),
+        Ok(old) => replace(&fs::canonicalize(path)?, &old, bytes),
+        Err(error) if error.kind() == ErrorKind::NotFound => match fs::read_link(path) {
+            Ok(target) => write(&path.with_file_name(target), bytes),
+            Err(_) => create(path, bytes),
+        },
+        Err(error) => Err(error),
     }
+}
+
+/// Tells whether something is there that no new file can take the place of: a folder, a device, a
+/// pipe, or an open file.
+pub fn is_no_place(path: &Path) -> bool {
+    fs::metadata(path).is_ok_and(|found| !found.is_file() || is_open_file(path))
+}
+
+/// Tells whether a name means an open file, whatever the file's own name is, as /dev/fd/3 does.
+fn is_open_file(path: &Path) -> bool {
+    let folder = path.parent().filter(|folder| !folder.as_os_str().is_empty());
+    let Ok(folder) = fs::canonicalize(folder.unwrap_or(Path::new("."))) else { return false };
+    let link = || fs::read_link(path).is_ok_and(|target| is_open_file(&folder.join(target)));
+    folder.starts_with("/proc") || link()
+}
+
+/// Puts a new file in the place of a regular one.
+fn replace(path: &Path, old: &Metadata, bytes: &[u8]) -> io::Result<()> {
     // Asks for the right to write, for a rename would pass over a file's protection.
-    OpenOptions::new().write(true).open(&path)?;
+    OpenOptions::new().write(true).open(path)?;
     let mut count = 0;
     loop {
         let beside = path.with_file_name(format!(".icode-{}-{count}", process::id()));
         let finish = |file: &File| {
-            keep_rights(file, &old)?;
+            keep_rights(file, old)?;
             file.sync_all()?;
-            fs::rename(&beside, &path)
+            fs::rename(&beside, path)
         };
         match create_with(&beside, TEMPORARY_MODE, bytes, finish) {
             // Passes by what a stopped program may have left under this name.
@@ -61,7 +87,10 @@ fn create_with(
 fn keep_rights(file: &File, old: &Metadata) -> io::Result<()> {
     let own = file.metadata()?;
     if (own.uid(), own.gid()) != (old.uid(), old.gid()) {
-        fchown(file, Some(old.uid()), Some(old.gid()))?;
+        fchown(file, Some(old.uid()), Some(old.gid())).map_err(|error| match error.kind() {
+            ErrorKind::PermissionDenied => io::Error::other(NOT_OURS),
+            _ => error,
+        })?;
     }
     file.set_permissions(old.permissions())
 }

@@ -9,7 +9,10 @@ mod command;
 mod destination;
 mod failure;
 mod files;
+mod identity;
 mod input;
+#[allow(unsafe_code)]
+mod limit;
 mod output;
 #[allow(unsafe_code)]
 mod standard;
@@ -49,6 +52,7 @@ const COMMANDS: [Command; 5] =
     [list::COMMAND, asm::COMMAND, trace::COMMAND, page::COMMAND, mend::COMMAND];
 
 fn main() -> ExitCode {
+    limit::outlive();
     let mut out = Output::open();
     let done = run_program(&COMMANDS, env::args_os().skip(1), &mut out);
     let flushed = out.flush();

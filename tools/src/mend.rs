@@ -8,6 +8,8 @@ use crate::bytes::counted;
 use crate::command::Command;
 use crate::destination::Destination;
 use crate::failure::{escaped, Failure, Status};
+use crate::files;
+use crate::identity;
 use crate::input;
 use crate::judged::Judged;
 use crate::library::{self, Mended};
@@ -16,6 +18,7 @@ use crate::record::Record;
 use std::ffi::OsStr;
 use std::fs;
 use std::io::{self, Write};
+use std::path::Path;
 
 pub const COMMAND: Command = Command {
     name: "mend",
@@ -56,8 +59,8 @@ or a later number: it is written all the same, and the exit status is 1. What is
 The mended file is FILE.mended, which must not exist; where nothing is dropped, none is written.
 One of these asks for something else:
 
-  -o OUT            write it to OUT, which is not FILE, over what is there; -o - is standard output,
-                    and then the rest goes to standard error
+  -o OUT            write it to OUT, over what is there, unless OUT is FILE or has what is printed;
+                    -o - is standard output, and then the rest goes to standard error
   --in-place        write it over FILE; where nothing is dropped, FILE is left alone
   --dry-run         write nothing
 
@@ -70,6 +73,7 @@ fn run(arguments: &Arguments, out: &mut Output) -> Result<Status, Failure> {
     let name = arguments.one_file().map_err(usage)?;
     let to = destination(arguments, name).map_err(usage)?;
     let results = arguments.results().map_err(usage)?;
+    keep_apart(to.as_ref(), name).map_err(usage)?;
     let old = input::read_any(name)?;
     let before = Judged::of(name, &old, results.as_deref())?;
     let mended = library::mend(before.record).map_err(|_| before.refused(name))?;
@@ -102,6 +106,10 @@ fn destination<'a>(
             }
         }
         [IN_PLACE] if name == "-" => Err("standard input cannot be written in place".to_string()),
+        [IN_PLACE] if files::is_no_place(Path::new(name)) => {
+            let why = "FILE is no regular file under a name of its own";
+            Err(format!("{why}, and cannot be written in place"))
+        }
         [IN_PLACE] => Ok(Some(Destination::InPlace(name))),
         [] if name == "-" => {
             let why = format!("standard input has no name to add {ENDING} to");
@@ -113,6 +121,20 @@ fn destination<'a>(
         }
         _ => Err(format!("{OUT}, {IN_PLACE} and {DRY_RUN} exclude each other")),
     }
+}
+
+/// Refuses to print what is dropped into FILE or among the bytes of the mended file.
+fn keep_apart(to: Option<&Destination>, name: &OsStr) -> Result<(), String> {
+    let (stream, printed) = match to {
+        Some(Destination::Standard) => ("standard error", identity::stream(io::stderr())),
+        _ => ("standard output", identity::stream(io::stdout())),
+    };
+    let what = match to {
+        _ if identity::is_damaged(identity::read(name), printed) => "FILE",
+        Some(to) if identity::is_mixed(printed, to.found()) => "the mended file",
+        _ => return Ok(()),
+    };
+    Err(format!("{stream} is {what} itself, and what is dropped would be printed there"))
 }
 
 impl<'a> Judged<'a> {

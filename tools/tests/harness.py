@@ -2,6 +2,7 @@
 
 import os
 import re
+import resource
 import subprocess
 from pathlib import Path
 
@@ -50,6 +51,11 @@ class Tests:
         """The exit status, nothing on standard output, and words of the message."""
         found, out, err = self.run_bytes(*arguments, **more)
         self.expect(name, (found, out) == (status, b"") and words in err, (found, out, err))
+
+
+def short_files():
+    """Lets a file have no more than ten bytes, as on a disk that is almost full."""
+    resource.setrlimit(resource.RLIMIT_FSIZE, (10, 10))
 
 
 def word_bytes(numbers):

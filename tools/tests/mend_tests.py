@@ -3,8 +3,6 @@ nothing is lost where it cannot write."""
 
 import os
 import re
-import resource
-import signal
 import stat
 import subprocess
 import tempfile
@@ -138,6 +136,12 @@ def test_limit(tests):
     status, new, rows, numbers = mended(tests, longest)
     good = len(new) == 28 + 4096 + 4096 + 8 and (status, len(rows), numbers) == (1, 16 + 2046, [5, 7])
     tests.expect("a record with the largest tables", good, (status, len(new), len(rows), numbers))
+    source = word_bytes(word for pair in range(1023) for word in (4 * pair, pair)) + word_bytes([4092, 1])
+    longest = word_bytes([16, 4096, 0, 1024, 4096, 16, 2048]) + bytes(64 + 4096 + 4096 + 16384) + b"12/B" * 16
+    status, new, rows, numbers = mended(tests, longest + source[:-8] + word_bytes([4096, 1]))
+    dropped = [(32916, 6, "pair 1023, offset 4096: not below 4096, the code size"), (32920, 6, "pair 1023, line 1")]
+    good = new == longest[:24] + word_bytes([2046]) + longest[28:] + source[:-8] and (status, rows, numbers) == (1, dropped, [4, 4])
+    tests.expect("the longest record", good, (status, len(new), rows, numbers))
 
 
 def test_results(tests):
@@ -228,6 +232,112 @@ def test_out(tests, folder):
         tests.expect_run("-o /dev/null from itself", ("mend", "-", "-o", "/dev/null"), 1, "refused with 1: ", stdin=null)
 
 
+def test_replaced(tests, folder):
+    """OUT keeps its owner and permissions; a link stays one, also to what is not there yet; another name of OUT keeps the old bytes."""
+    within = folder / "within"
+    within.mkdir()
+    file, out, name = folder / "file", within / "out", folder / "name"
+    file.write_bytes(DAMAGED)
+    for link, target in (("link", "within/out"), ("second", "link"), ("third", out)):
+        (folder / link).symlink_to(target)
+    owner = (NOBODY, NOBODY) if os.geteuid() == 0 else (os.geteuid(), os.getegid())
+    for target, mode in ((out, 0o640), (folder / "link", 0o604), (folder / "second", 0o600)):
+        out.write_bytes(b"before")
+        os.chown(out, *owner)
+        out.chmod(mode)
+        os.link(out, name)
+        status, said, err = tests.run("mend", file, "-o", target)
+        found = out.stat()
+        good = (status, err) == (0, "") and said.endswith(f"\nwritten to {target}\n") and name.read_bytes() == b"before"
+        good = good and (stat.S_IMODE(found.st_mode), found.st_uid, found.st_gid) == (mode, *owner) and holds(within, out=MENDED)
+        tests.expect(f"-o {target}, over a file", good and (folder / "link").is_symlink(), (status, said, err, found))
+        name.unlink()
+        out.unlink()
+    for target in (folder / "second", folder / "third", out):
+        status, said, err = tests.run("mend", file, "-o", target, umask=0o027)
+        good = (status, err) == (0, "") and holds(within, out=MENDED) and stat.S_IMODE(out.stat().st_mode) == 0o640
+        good = good and all((folder / link).is_symlink() for link in ("link", "second", "third"))
+        tests.expect(f"-o {target}, a new file", good, (status, err))
+        out.unlink()
+
+
+def test_direct(tests, folder):
+    """A device, a pipe and an open file are no files that could be replaced: they take the bytes as they come."""
+    file, pipe, opened = folder / "file", folder / "pipe", folder / "opened"
+    file.write_bytes(DAMAGED)
+    os.mkfifo(pipe)
+    for output in (subprocess.PIPE, subprocess.DEVNULL):
+        status, _, err = tests.run("mend", file, "-o", "/dev/null", stdout=output)
+        tests.expect("-o /dev/null", (status, err) == (0, "") and Path("/dev/null").is_char_device(), (status, err))
+    got = []
+    reader = threading.Thread(target=lambda: got.append(pipe.read_bytes()))
+    reader.start()
+    status, said, err = tests.run("mend", file, "-o", pipe)
+    reader.join()
+    good = (status, err, got) == (0, "", [MENDED]) and said.endswith(f"\nwritten to {pipe}\n") and pipe.is_fifo()
+    tests.expect("-o to a pipe", good, (status, said, err, got))
+    (folder / "link").symlink_to("/dev/fd")
+    for removed in (False, True):
+        with open(opened, "w+b") as stream:
+            stream.write(b"before")
+            stream.flush()
+            if removed:
+                opened.unlink()
+            for name in (f"/dev/fd/{stream.fileno()}", folder / "link" / str(stream.fileno())):
+                status, _, err = tests.run("mend", file, "-o", name, pass_fds=[stream.fileno()])
+                stream.seek(0)
+                got = stream.read()
+                tests.expect(f"-o {name}, removed {removed}", (status, err, got) == (0, "", MENDED), (status, err, got))
+    tests.expect("nothing else is made", sorted(path.name for path in folder.iterdir()) == ["file", "link", "pipe"])
+
+
+def test_apart(tests, folder):
+    """What is dropped is printed neither into FILE nor among the bytes of the mended file, by whatever name; that is seen before anything is
+    written."""
+    file, out, name = folder / "file", folder / "out", folder / "name"
+    ways = {">": os.O_WRONLY | os.O_TRUNC, ">>": os.O_WRONLY | os.O_APPEND, "1<>": os.O_RDWR}
+    printed = "itself, and what is dropped would be printed there\nusage: icode mend"
+    out.write_bytes(b"before")
+    os.link(out, name)
+    (folder / "link").symlink_to(out)
+
+    def refused(call, arguments, way, path, words, **more):
+        file.write_bytes(DAMAGED)
+        out.write_bytes(b"before")
+        stream = os.open(path, ways[way])
+        before = path.read_bytes()
+        status, _, err = tests.run("mend", *arguments, cwd=folder, stdout=stream, **more)
+        os.close(stream)
+        good = status == 2 and err.startswith(f"icode: {words}") and path.read_bytes() == before and file.read_bytes() == DAMAGED
+        tests.expect(f"mend {call}", good and len(list(folder.iterdir())) == 4, (status, err, path.read_bytes()))
+
+    for way in ways:
+        for target in ("out", "name", "link", "/dev/stdout", "/dev/fd/1", "/proc/self/fd/1"):
+            refused(f"-o {target} file {way} out", ("-o", target, "file"), way, out, f"standard output is the mended file {printed}")
+    for way in (">>", "1<>"):
+        refused(f"-o - file {way} file", ("-o", "-", "file"), way, file, "OUT is FILE itself; --in-place writes over it\nusage: icode mend")
+        for option in ((), ("--in-place",), ("--dry-run",), ("-o", "other")):
+            refused(f"{option} file {way} file", (*option, "file"), way, file, f"standard output is FILE {printed}")
+        for option, words in (("-o", "-"), "OUT is FILE itself; "), (("-o", "other"), f"standard output is FILE {printed}"):
+            file.write_bytes(DAMAGED)
+            with open(file, "rb") as stdin:
+                refused(f"{option} - < file {way} file", (*option, "-"), way, file, words, stdin=stdin)
+    file.write_bytes(DAMAGED)
+    for arguments in (("-o", "/dev/stdout", "file"), ("-o", "/dev/fd/1", "file")):
+        tests.expect_run(f"{arguments}, a pipe", ("mend", *arguments), 2, f"standard output is the mended file {printed}", cwd=folder)
+    with open(out, "ab") as appended:
+        for stdout in (subprocess.PIPE, appended):
+            status, said, _ = tests.run_bytes("mend", "-o", "-", "file", cwd=folder, stdout=stdout, stderr=subprocess.STDOUT)
+            said = said or out.read_bytes()
+            words = f"icode: standard error is the mended file {printed}"
+            tests.expect("-o -, both to one", status == 2 and words.encode() in said and COLUMNS.encode() not in said, (status, said))
+    beside = folder / "file.mended"
+    with open(beside, "wb") as stdout:
+        status, _, err = tests.run("mend", "file", cwd=folder, stdout=stdout)
+    good = status == 2 and err.startswith(f"icode: standard output is the mended file {printed}") and beside.read_bytes() == b""
+    tests.expect("file > file.mended", good and file.read_bytes() == DAMAGED, (status, err))
+
+
 def test_in_place(tests, folder):
     """FILE is written over, through a link, with its owner and permissions; another name of it keeps the old bytes. Where nothing is dropped
     FILE is left alone."""
@@ -262,16 +372,22 @@ def test_in_place(tests, folder):
     tests.expect("a temporary file that was left", (status, left) == (0, sorted([MENDED, b"left"])), (status, left, err))
 
 
-def test_pipe(tests, folder):
-    """A pipe that has a name is not replaced by a file."""
-    pipe = folder / "pipe"
+def test_no_regular_file(tests, folder):
+    """What is no regular file, or is meant as an open one, is not replaced by one; nothing is read from a pipe before it is refused."""
+    pipe, file = folder / "pipe", folder / "file"
     os.mkfifo(pipe)
-    writer = threading.Thread(target=lambda: pipe.write_bytes(DAMAGED))
-    writer.start()
-    status, said, err = tests.run("mend", "--in-place", pipe)
-    writer.join()
-    good = (status, err) == (2, f"icode: cannot write '{pipe}': it is no regular file\n") and pipe.is_fifo()
-    tests.expect("--in-place of a pipe", good and COLUMNS in said and list(folder.iterdir()) == [pipe], (status, said, err))
+    file.write_bytes(DAMAGED)
+    words = "icode: FILE is no regular file under a name of its own, and cannot be written in place\nusage: icode mend"
+    for name in (pipe, folder, "/dev/null", "/dev/stdin"):
+        with open(file, "rb") as stdin:
+            tests.expect_run(f"--in-place {name}", ("mend", "--in-place", name), 2, words, stdin=stdin)
+    read, write = os.pipe()
+    os.write(write, DAMAGED)
+    os.close(write)
+    tests.expect_run("--in-place <(cat file)", ("mend", "--in-place", f"/dev/fd/{read}"), 2, words, pass_fds=[read])
+    tests.expect("nothing is read", os.read(read, 100) == DAMAGED)
+    os.close(read)
+    tests.expect("all is as it was", pipe.is_fifo() and file.read_bytes() == DAMAGED and sorted(folder.iterdir()) == [file, pipe])
 
 
 def lost(stream, descriptor, full, unwritable):
@@ -298,29 +414,25 @@ def test_unsaid(tests, folder):
         tests.expect("-o -, what is dropped is said first", good, (status, err))
 
 
-def short_files():
-    """Lets a file have no more than ten bytes, as on a disk that is almost full."""
-    signal.signal(signal.SIGXFSZ, signal.SIG_IGN)
-    resource.setrlimit(resource.RLIMIT_FSIZE, (10, 10))
-
-
 def test_no_room(tests, folder):
-    """FILE stays as it is where there is no room for the new one, and nothing is left beside it; what is dropped is said all the same."""
-    file = folder / "file"
+    """FILE and OUT stay as they are where there is no room for the new one, and nothing is left beside them; what is dropped is said all the
+    same."""
+    file, out, new = folder / "file", folder / "out", folder / "new"
     file.write_bytes(DAMAGED)
-    for option, target in (((), folder / "file.mended"), (("--in-place",), file)):
+    out.write_bytes(b"before")
+    for option, target in (((), folder / "file.mended"), (("--in-place",), file), (("-o", out), out), (("-o", new), new)):
         status, said, err = tests.run("mend", file, *option, preexec_fn=short_files)
         good = (status, err) == (2, f"icode: cannot write '{target}': File too large\n") and COLUMNS in said and "written to" not in said
-        tests.expect(f"{option}, no room", good and holds(folder, file=DAMAGED), (status, said, err))
+        tests.expect(f"{option}, no room", good and holds(folder, file=DAMAGED, out=b"before"), (status, said, err))
 
 
 def test_protected(tests, folder):
-    """A folder that takes no new file, and a file that may not be written, for one who is not root."""
-    open_, locked = folder / "open", folder / "locked"
-    for within, mode in ((open_, 0o777), (locked, 0o555)):
+    """A folder that takes no new file, a file that may not be written, and one of another user that may, for one who is not root."""
+    open_, locked, shared = folder / "open", folder / "locked", folder / "shared"
+    for within, mode, file_mode in ((open_, 0o777, 0o444), (locked, 0o555, 0o666), (shared, 0o777, 0o666)):
         within.mkdir()
         (within / "file").write_bytes(DAMAGED)
-        (within / "file").chmod(0o666 if within == locked else 0o444)
+        (within / "file").chmod(file_mode)
         within.chmod(mode)
     folder.chmod(0o755)
     user = {"user": NOBODY, "group": NOBODY, "extra_groups": []} if os.geteuid() == 0 else {}
@@ -329,10 +441,17 @@ def test_protected(tests, folder):
     except (PermissionError, subprocess.SubprocessError) as error:
         print(f"skipped: mend in folders and over files that are protected: root may write all, and nobody cannot run the program: {error}")
         return
-    for within, option, target in ((locked, (), "file.mended"), (locked, ("--in-place",), "file"), (open_, ("--in-place",), "file")):
-        status, said, err = tests.run("mend", within / "file", *option, **user)
-        good = (status, err) == (2, f"icode: cannot write '{within / target}': Permission denied\n") and COLUMNS in said
-        tests.expect(f"{option} in {within.name}", good and holds(within, file=DAMAGED), (status, said, err))
+    denied, owned = "Permission denied", "it belongs to another user or group, and no file of yours can take its place"
+    example = EXAMPLES / "page-twelve-damaged.run"
+    over = (("--in-place", "file"), ("-o", "file", "-"))
+    calls = [(locked, ("file",), "file.mended", denied)]
+    calls += [(within, arguments, "file", denied) for within in (locked, open_) for arguments in over]
+    calls += [(shared, arguments, "file", owned) for arguments in over if user]
+    for within, arguments, target, reason in calls:
+        with open(example, "rb") as stdin:
+            status, said, err = tests.run("mend", *arguments, cwd=within, stdin=stdin, **user)
+        good = (status, err) == (2, f"icode: cannot write '{target}': {reason}\n") and COLUMNS in said
+        tests.expect(f"{arguments} in {within.name}", good and holds(within, file=DAMAGED), (status, said, err))
     locked.chmod(0o755)
 
 
@@ -376,6 +495,7 @@ def test(tests):
     test_results(tests)
     test_options(tests)
     test_example(tests)
-    for part in (test_beside, test_out, test_in_place, test_pipe, test_unsaid, test_no_room, test_protected, test_refused):
+    for part in (test_beside, test_out, test_replaced, test_direct, test_apart, test_in_place, test_no_regular_file, test_unsaid, test_no_room,
+                 test_protected, test_refused):
         with tempfile.TemporaryDirectory() as folder:
             part(tests, Path(folder))

@@ -96,6 +96,12 @@ def test_outputs(tests, folder):
     good = (status, err) == (0, "") and made.read_bytes() == record_of(b"\0\2\xe9")
     tests.expect("-o needs no standard output", good, (status, err))
     tests.expect_run("-o over the text", ("asm", text, "-o", folder / "." / "text"), 2, "OUT is the text itself")
+    with open(text, "ab") as stdout:
+        tests.expect_run("behind the text", ("asm", text), 2, "OUT is the text itself", stdout=stdout)
+    made.write_bytes(b"before")
+    tests.expect_run("no room", ("asm", text, "-o", made), 2, f"icode: cannot write '{made}': File too large\n", preexec_fn=short_files)
+    left = sorted(path.name for path in folder.iterdir())
+    tests.expect("an old file is as it was", made.read_bytes() == b"before" and left == ["empty", "made", "text"], left)
     tests.expect("the text is as it was", text.read_text() == TEXT)
 
 

@@ -43,6 +43,11 @@ const NOTHING: &str = "nothing to mend";
 const DAMAGE: [&str; 9] =
     [ONE_VERSION, MANY_VERSIONS, ODD, BEYOND, AT_SIZE, EQUAL, FALLING, KEPT, NOTHING];
 
+/// Only the longest records reach to this byte. What is beyond it is counted in the same way.
+const FAR: usize = 1 << 15;
+const DROPPED_FAR: &str = "dropped from byte 32,768 on";
+const LEFT_LONG: &str = "new record of over 32,768 bytes";
+
 fn main() -> std::process::ExitCode {
     let mut expected = vec![
         Expected { kind: "number", numbers: vec![0, 1, 2, 3, 8], least: 1_000 },
@@ -54,18 +59,25 @@ fn main() -> std::process::ExitCode {
         Expected { kind: "number of the new record", numbers: vec![0, 4, 7], least: 1_000 },
     ];
     expected.extend(DAMAGE.map(|kind| Expected { kind, numbers: vec![0, 8], least: 1_000 }));
+    let long = [DROPPED_FAR, LEFT_LONG];
+    expected.extend(long.map(|kind| Expected { kind, numbers: vec![0, 8], least: 300 }));
     harness::main(CASES, &expected, compare)
 }
 
 fn compare(random: &mut Random, tally: &mut Tally) -> Result<(), String> {
-    let record = match random.below(100) {
-        0 => record::with_lines(random),
-        1..=59 => record::worn(random),
+    let record = match random.below(400) {
+        0 => record::long_and_worn(random),
+        1..=4 => record::with_lines(random),
+        5..=239 => record::worn(random),
         _ => record::any(random),
     };
     tally.note("record's number", number(&record));
-    let damage = damage(&record);
-    let needed = mended(&record).map(|Mended { record, dropped }| (record.len(), dropped.len()));
+    let mut kinds = damage(&record);
+    let mended = mended(&record);
+    if let Ok(mended) = &mended {
+        kinds.extend(far(mended));
+    }
+    let needed = mended.map(|Mended { record, dropped }| (record.len(), dropped.len()));
     let (bytes, words) = needed.unwrap_or((record.len(), ANY_PLACES));
     let mut lent: Vec<_> = (0..=MOST_COUNTS).map(|counts| (bytes, words, counts)).collect();
     lent.push((bytes.saturating_sub(1), words, MEND_COUNTS));
@@ -80,7 +92,7 @@ fn compare(random: &mut Random, tally: &mut Tally) -> Result<(), String> {
         let number = call.agree()?;
         call.note(tally, number, needed);
         if matches!(number, 0 | 8) {
-            damage.iter().for_each(|kind| tally.note(kind, number));
+            kinds.iter().for_each(|kind| tally.note(kind, number));
         }
     }
     hold(&record, tally)
@@ -190,6 +202,13 @@ fn damage(bytes: &[u8]) -> BTreeSet<&'static str> {
         kinds.insert(NOTHING);
     }
     kinds
+}
+
+/// What is beyond all but the longest records: a dropped word, the end of the new record.
+fn far(mended: &Mended) -> impl Iterator<Item = &'static str> {
+    let dropped = mended.dropped.last().is_some_and(|&place| place as usize >= FAR);
+    let left = mended.record.len() > FAR;
+    [dropped.then_some(DROPPED_FAR), left.then_some(LEFT_LONG)].into_iter().flatten()
 }
 
 /// Holds the library alone to this: a sound record comes out as it was; the new one is never refused

@@ -2,6 +2,7 @@
 
 use crate::random::Random;
 use crate::record::LARGEST;
+use std::ops::RangeInclusive;
 
 /// A record's parts, to be put together with whatever header sizes they have.
 #[derive(Clone, Debug, Default)]
@@ -294,18 +295,54 @@ pub fn worn(random: &mut Random) -> Vec<u8> {
     parts.assemble()
 }
 
+/// A record of almost the greatest length, with all its parts and a source table to be mended: near
+/// its end, where byte places do not fit into 15 bits, and now and then anywhere.
+pub fn long_and_worn(random: &mut Random) -> Vec<u8> {
+    let mut parts = largest_parts(random);
+    let mut size = |index: usize, less: usize| LARGEST[index] as usize - random.below(less + 1);
+    let (imports, code, constants) = (size(0, 2), size(1, 7), size(3, 3));
+    let (relocation, version, source) = (size(4, 7), size(5, 2), size(6, 1));
+    parts.imports = random.words(imports);
+    parts.relocation = random.words(relocation);
+    parts.code.truncate(code);
+    parts.constants.truncate(constants);
+    parts.version.truncate(version);
+    parts.source.truncate(source);
+    if random.percent(10) {
+        damage_version(random, &mut parts);
+    }
+    let pairs = parts.source.len() / 2;
+    for _ in 0..random.pick(&[0, 1, 1, 2, 5]) {
+        damage_pair(random, &mut parts, pairs - 10..=pairs - 1);
+    }
+    for _ in 0..random.pick(&[0, 0, 1, 5, 100]) {
+        damage_pair(random, &mut parts, 1..=pairs - 1);
+    }
+    parts.assemble()
+}
+
+/// Another offset of a pair, but for the first.
+fn damage_pair(random: &mut Random, parts: &mut Parts, among: RangeInclusive<usize>) {
+    let at = 2 * random.within(among);
+    parts.source[at] = offset_behind(random, parts.source[at - 2], parts.code.len() as u32);
+}
+
 /// A pair somewhere in the source table, at an offset near that before it, near the end of the code
 /// or anywhere.
 fn insert_pair(random: &mut Random, parts: &mut Parts) {
     let size = parts.code.len() as u32;
     let at = 2 * random.below(parts.source.len() / 2 + 1);
     let before = if at > 0 { parts.source[at - 2] } else { 0 };
+    let offset = offset_behind(random, before, size);
+    parts.source.splice(at..at, [offset, random.word()]);
+}
+
+fn offset_behind(random: &mut Random, before: u32, size: u32) -> u32 {
     let near = [before.saturating_sub(1), before, before.saturating_add(1)];
-    let offset = match random.below(4) {
+    match random.below(4) {
         0 => random.pick(&near),
         1 => random.pick(&[0, size.saturating_sub(1), size, size + 1, u32::MAX]),
         2 => random.below(size as usize) as u32,
         _ => random.word(),
-    };
-    parts.source.splice(at..at, [offset, random.word()]);
+    }
 }
