@@ -5,7 +5,7 @@
   docs/NUMBERS.md         the names of include/icode.h, the messages of the console and of icode list
   docs/ARCHITECTURE.md    the crates of crates.txt, in its order and layers
   crates.txt              the crates that each crate's files name
-  docs/PROMISES.md        the public functions of each crate, and the theorems that its specs/ state
+  docs/PROMISES.md        the public functions of each crate, which of them have a `requires`, and the theorems that its specs/ state
   docs/RULES.md, README   names of functions, definitions and laws that there are
   include/icode.h, .rs    the exported functions
 """
@@ -144,6 +144,22 @@ def promises():
         yield f"docs/PROMISES.md: {crate}: there is no {name}"
 
 
+def internal():
+    """A public function has a `requires` just where its row says Internal; what C calls has none."""
+    said, crate = {}, ""
+    for line in text("docs/PROMISES.md").splitlines():
+        crate = line[3:].strip() if line.startswith("## ") else crate
+        row = re.match(r"\| `([\w:.-]+)` \| ([^|]*)", line)
+        if row:
+            said[crate, row.group(1)] = "Internal" in row.group(2)
+    for crate, name, is_public, file, begin, _ in edits.functions():
+        code = text(f"crates/{crate}/{file}")
+        head = [found.start() for found in re.finditer(rf"fn {name.split('::')[-1]}\b", code) if found.start() < begin][-1]
+        required = re.search(r"^\s*requires\b", code[head:begin], re.M) is not None
+        if is_public and required != said.get((crate, name), False):
+            yield f"docs/PROMISES.md: {crate}: {name} {'has a requires, and is not said to be' if required else 'has no requires, and is said to be'} Internal"
+
+
 def declared(path):
     return re.findall(r"^\s*(?:pub )?([\w'-]+) :", path.read_text(), re.M)
 
@@ -176,7 +192,7 @@ def exports():
             yield f"{file}: {name} is {'not declared' if name in exported else 'not exported'}"
 
 
-CHECKS = (opcodes, numbers, architecture, dependencies, promises, names_in_documents, exports)
+CHECKS = (opcodes, numbers, architecture, dependencies, promises, internal, names_in_documents, exports)
 
 
 def main():

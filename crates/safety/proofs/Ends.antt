@@ -19,7 +19,7 @@ use Rattle.load.specs.Load.{loadOf}
 use Rattle.machine.specs.Run.{proceed, runFrom, runNumber, runOf}
 use Rattle.step.proofs.Outcomes.{step-stops}
 use Rattle.safety.specs.Active.{Configuration, Visits, at-first, one-more}
-use Rattle.safety.specs.Demand3.{finished, spent, data-trap, loadedConfiguration, Ends, Claim}
+use Rattle.safety.specs.Demand3.{loadedConfiguration, Ends, Claim}
 use Rattle.safety.proofs.Invariant.{programIn, stepIn, advanceIn, Inv, Steps}
 use Rattle.safety.proofs.Places.{Checked, checked}
 use Rattle.safety.proofs.Advance.{at-place, steps}
@@ -35,16 +35,16 @@ module _ (U : Subject) (C : Checked U) (A : Areas) (first : Configuration) (I : 
   ended-at {n = n} v left J Went e later = let z : n + 1 ≡ suc n = omega arith in rw z (later e)
   ended-at {n = n} {c = c} v left J Finished e later =
       let T = step-stops P (c .state) (λ w. let z : _≡_ {A = ℕ} 0 1 = cc in omega arith) in
-      record { steps = n; last = c; visited = v; ending = finish; proper = finished; ends = rw T }
+      record { steps = n; last = c; visited = v; ending = finish; proper = tt; ends = rw T }
   ended-at {n = n} {c = c} v left J (Trapped k) e later =
       let T = step-stops P (c .state) (λ w. let z : _≡_ {A = ℕ} 0 1 = cc in omega arith) in
       let d : DataTrap k =
       subst (λ (x : Outcome). Steps U A c (at-place U C A c J .out) (linkageOf (shapeOf (at-place U C A c J .instruction))) x) e
       (steps U C A c J) in
-      record { steps = n; last = c; visited = v; ending = stop k; proper = data-trap d; ends = rw T }
+      record { steps = n; last = c; visited = v; ending = stop k; proper = d; ends = rw T }
 
   ended : (left : ℕ) {n : ℕ} {c : Configuration} → Visits P U first n c → Ends P U first (runFrom P left n (c .state))
-  ended zero {n = n} {c = c} v = record { steps = n; last = c; visited = v; ending = Spent; proper = spent; ends = refl }
+  ended zero {n = n} {c = c} v = record { steps = n; last = c; visited = v; ending = Spent; proper = tt; ends = refl }
   ended (suc left) {c = c} v =
       ended-at v left (keeps U C A first I v .inv) (stepIn U A c .outcome) refl (λ w. ended left (one-more v w))
 

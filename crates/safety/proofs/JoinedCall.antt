@@ -23,7 +23,7 @@ use Rattle.machine.specs.declared.run.Ended.{Ended as Ending}
 use Rattle.load.proofs.Loading.{refused-memory}
 use Rattle.load.specs.Load.{Loading, loading, startOf, loadTests, loadNumber, loadOf}
 use Rattle.machine.specs.Run.{Result, ran, runOf}
-use Rattle.safety.specs.Joined.{Joined, joinedOf, ProperAnswer, not-run, well-ended, RefusedJoined}
+use Rattle.safety.specs.Joined.{Joined, joinedOf, ProperAnswer, RefusedJoined}
 use Rattle.safety.proofs.LoadedState.{refused-not}
 use Rattle.safety.proofs.Ends.{claim}
 
@@ -41,19 +41,19 @@ not-loaded r parameters m s {l} {m'} e {n} f =
     (λ t g.
     let h : NotLoaded n ≡ NotLoaded (loadNumber r parameters m s) = sym f ∙ ap (λ (x : Loading). x .answer) g in
     let y : n ≡ loadNumber r parameters m s = cc in
-    not-run {n = n} (omega (arith, eqb-false (loadNumber r parameters m s) 0 t)) (omega (arith, load-number-range r parameters m s))) e
+    (omega (arith, eqb-false (loadNumber r parameters m s) 0 t), omega (arith, load-number-range r parameters m s))) e
 
 pub not-accepted : (r results w : List ℕ) {n : ℕ} {w' : List ℕ} → checking n w' ≡ checkOf r results w → (n ≡ 0 → ⊥) → ProperAnswer (Refused n)
 not-accepted r results w {n} e f =
     let z : n ≡ checkOf r results w .number = ap (λ (k : Checking). k .number) e in
-    not-run {n = n} (omega arith) (omega (arith, check-range r results w))
+    (omega arith, omega (arith, check-range r results w))
 
 module _ (r results w parameters : List ℕ) (budget : ℕ) (m s : List ℕ) (b : Bytes r) where
   ran-well : (q : Registers) → checkOf r results w .number ≡ 0 → loadOf r parameters m s .answer ≡ Ready q
       → ProperAnswer (runOf r budget (state q (loadOf r parameters m s .memory) s) .answer)
   ran-well q c l =
       let E = claim r results w parameters m s q b c l .1 .runs budget in
-      subst (λ (a : Result). ProperAnswer (a .answer)) (sym (E .ends)) (well-ended (E .proper))
+      subst (λ (a : Result). ProperAnswer (a .answer)) (sym (E .ends)) (E .proper)
 
   -- From what the three calls promise.
   pub answered-well : {n : ℕ} {w' : List ℕ} → checking n w' ≡ checkOf r results w → n ≡ 0 → {l : Loaded} {m' : List ℕ}

@@ -16,7 +16,7 @@ use Rattle.verifier.proofs.Exactly.{shows-reached}
 use Rattle.load.specs.declared.Loaded.the-variants.{Ready}
 use Rattle.load.specs.Load.{loadOf}
 use Rattle.safety.specs.Active.{Call, running, Configuration, Visits, at-first, one-more}
-use Rattle.safety.specs.Demand3.{Linked, no-link, a-link, Safe, loadedConfiguration}
+use Rattle.safety.specs.Demand3.{Linked, Safe, loadedConfiguration}
 use Rattle.safety.proofs.Invariant.{registersOf, programIn, Framed, no-frame, a-frame, Inv}
 use Rattle.safety.proofs.ProtectedWords.{header-kept, constants-kept}
 use Rattle.safety.proofs.Places.{Checked, checked}
@@ -25,8 +25,8 @@ use Rattle.safety.proofs.Advance.{unread, advances}
 
 -- The frames have the link words.
 linked : (m : List ℕ) (start fp : ℕ) (calls : List Call) → Framed m start fp calls → Linked m calls
-linked m start fp [] (no-frame e) = no-link
-linked m start fp (c ∷ calls) (a-frame e saved back rest) = a-link saved back (linked m start (c .savedFp) calls rest)
+linked m start fp [] (no-frame e) = tt
+linked m start fp (c ∷ calls) (a-frame e saved back rest) = (saved, back, linked m start (c .savedFp) calls rest)
 
 -- The invariant, with the protected data as they were.
 pub record Keeps (U : Subject) (A : Areas) (m0 : List ℕ) (c : Configuration) : Type 0 where

@@ -24,10 +24,10 @@ use Rattle.machine.specs.Run.{Result, ended, runOf}
 use Rattle.safety.specs.Active.{Call, running, shareOf, Configuration, stepOn, Visits}
 
 -- "the run finishes, spends its budget, or ends in one of the nine data traps, never in one of the four code traps".
-pub data Proper : End → Type 0 where
-  finished : Proper Finished
-  spent : Proper Spent
-  data-trap : {n : ℕ} → DataTrap n → Proper (Trapped n)
+abbrev pub Proper : End → Type 0
+Proper Finished = Unit {0}
+Proper Spent = Unit {0}
+Proper (Trapped n) = DataTrap n
 
 -- The words of a share, the top first, are as the slots say: "A label slot holds the word that its maker pushes."
 pub data Holds (code : List ℕ) (s : List ℕ) : ℕ → List Slot → Type 0 where
@@ -36,9 +36,9 @@ pub data Holds (code : List ℕ) (s : List ℕ) : ℕ → List Slot → Type 0 w
   holds-label : {bottom origin : ℕ} {l : List Slot} → getD s (bottom + length l) 0 ≡ labelWord code origin → Holds code s bottom l → Holds code s bottom (label origin ∷ l)
 
 -- Each call's link words are as that call wrote them.
-pub data Linked (m : List ℕ) : List Call → Type 0 where
-  no-link : Linked m []
-  a-link : {c : Call} {calls : List Call} → read m (c .link) ≡ c .savedFp → read m (c .link + 1) ≡ c .back → Linked m calls → Linked m (c ∷ calls)
+abbrev pub Linked : List ℕ → List Call → Type 0
+Linked m [] = Unit {0}
+Linked m (c ∷ calls) = (read m (c .link) ≡ c .savedFp) × (read m (c .link + 1) ≡ c .back) × Linked m calls
 
 -- Two stacks that differ only in words below a share.
 pub record SameFrom (share : ℕ) (s s' : List ℕ) : Type 0 where

@@ -10,7 +10,6 @@ use Rattle.load.specs.declared.Loaded.{Loaded}
 use Rattle.load.specs.declared.Loaded.the-variants.{Refused as NotLoaded, Ready}
 use Rattle.machine.specs.declared.run.Answer.{Answer}
 use Rattle.machine.specs.declared.run.Answer.the-variants.{Refused, Ended}
-use Rattle.machine.specs.declared.run.Ended.{Ended as Ending}
 use Rattle.registers.specs.State.{state}
 use Rattle.load.specs.Load.{loadOf}
 use Rattle.machine.specs.Run.{Result, runOf}
@@ -40,9 +39,9 @@ joinedOf r results w parameters budget m s =
 
 -- The check's numbers are 1 to 15 and the load's are among them; a run of accepted code is never refused and ends properly: "never in
 -- one of the four code traps".
-pub data ProperAnswer : Answer → Type 0 where
-  not-run : {n : ℕ} → 1 ≤ n → n ≤ 15 → ProperAnswer (Refused n)
-  well-ended : {e : Ending} → Proper (e .ending) → ProperAnswer (Ended e)
+abbrev pub ProperAnswer : Answer → Type 0
+ProperAnswer (Refused n) = (1 ≤ n) × (n ≤ 15)
+ProperAnswer (Ended e) = Proper (e .ending)
 
 -- 00, demand 1: "A refused record leaves memory and stack as they were".
 abbrev pub RefusedJoined : Type 0
