@@ -1,5 +1,6 @@
--- What `execute` can give, by the shape of the instruction: one constructor for each kind of effect, with the tests that it passed as
--- premises. The instructions and their tests are taken apart once, in `acts`; what holds of every step goes by these constructors.
+-- What `execute` can give, by the shape of the instruction: one constructor for each kind of effect, with the tests that it
+-- passed as premises. The instructions and their tests are taken apart once, in `acts`; what holds of every step goes by
+-- these constructors.
 use mathlib.Core.Bool.{Bool, true, false, cond}
 use mathlib.Core.List.{List}
 use mathlib.Core.Path.{_≡_, refl}
@@ -123,7 +124,8 @@ module _ (P : Program) (S : State) (next : ℕ) where
   sum-acts : (a l s : ℕ) (v : Value) → Valued v → Is shape.Next (sumEffect (P .areas) q m next a l s (word S 4) v)
   sum-acts a l s (Word x) h =
       guarded shape.Next (protects (P .areas) q m a) _ 33 (data-number 33 refl refl)
-      (λ p. by-test (Is shape.Next) (beyond (toZ w32 s) (toZ w32 x) (toZ w32 l)) _ _ (λ e. leaves-loop a x p) (λ e. repeats-loop a x p))
+      (λ p. by-test (Is shape.Next) (beyond (toZ w32 s) (toZ w32 x) (toZ w32 l)) _ _ (λ e. leaves-loop a x p)
+      (λ e. repeats-loop a x p))
   sum-acts a l s (Stop n) (a-trap d) = traps d
 
   call-acts : (p : ℕ) → Is (shape.Call p) (callEffect (P .code) q m next p)
@@ -135,7 +137,8 @@ module _ (P : Program) (S : State) (next : ℕ) where
       (λ r. calls (leb-false 64 (q .calls) d) (leb-true (q .mp + 2) (length m) r))))
 
   pub acts : (i : Instruction) → Is (shapeOf i) (execute P S next i)
-  unfolding execute shapeOf loadEffect loadAddressEffect storeEffect allocEffect freeEffect jumpEffect jumpCEffect iterEffect nextEffect nextSum switchEffect enterEffect rtnEffect
+  unfolding execute shapeOf loadEffect loadAddressEffect storeEffect allocEffect freeEffect
+      jumpEffect jumpCEffect iterEffect nextEffect nextSum switchEffect enterEffect rtnEffect
   acts (LoadConstant n) = passes refl
   acts (Load base mode n) =
       let a = baseOf q m (word S 0) base + n in
@@ -146,7 +149,8 @@ module _ (P : Program) (S : State) (next : ℕ) where
   acts (Pop n) = drops
   acts Swap = passes refl
   acts Nop = passes refl
-  acts (Operate op) = value-acts (operands op) (operationValue op (word S 0) (word S 1)) (operation-valued op (word S 0) (word S 1))
+  acts (Operate op) =
+      value-acts (operands op) (operationValue op (word S 0) (word S 1)) (operation-valued op (word S 0) (word S 1))
   acts Alloc =
       tested _ (leb (q .mp + word S 0) (length m)) _ 35 (data-number 35 refl refl)
       (λ l. resizes refl (λ f. omega arith) (λ f. leb-true (q .mp + word S 0) (length m) l))

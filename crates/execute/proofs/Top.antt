@@ -108,7 +108,8 @@ store-found P q m s next Popped Double n l =
 
 pub iter-found : (P : Program) (q : Registers) (m s : List ℕ) (next d : ℕ) → 4 ≤ q .height
     → executed P (state q m s) next (Iter d)
-    ≡ iterEffect (P .areas) q m next d (read s (q .height - 4)) (read s (q .height - 3)) (read s (q .height - 2)) (read s (q .height - 1))
+    ≡ iterEffect (P .areas) q m next d (read s (q .height - 4)) (read s (q .height - 3)) (read s (q .height - 2))
+    (read s (q .height - 1))
 unfolding execute shapeOf
 iter-found P q m s next d l =
     rw (
@@ -120,7 +121,8 @@ iter-found P q m s next d l =
 
 pub next-found : (P : Program) (q : Registers) (m s : List ℕ) (next : ℕ) → 5 ≤ q .height
     → executed P (state q m s) next Next
-    ≡ nextEffect (P .areas) q m next (read s (q .height - 5)) (read s (q .height - 3)) (read s (q .height - 2)) (read s (q .height - 1))
+    ≡ nextEffect (P .areas) q m next (read s (q .height - 5)) (read s (q .height - 3)) (read s (q .height - 2))
+    (read s (q .height - 1))
 unfolding execute shapeOf
 next-found P q m s next l =
     rw (

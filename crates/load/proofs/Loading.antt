@@ -70,7 +70,8 @@ module _ (r ps : List ℕ) (h : Header) (e : h ≡ headerOf r) where
   word-third i q = rw (q, e)
 
   later : (i : ℕ) → 3 ≤ i →
-      read (initialData r ps) i ≡ read (ps ++ (replicate (h .globals - length ps) 0 ++ wordsFrom r (constantsAt h) (h .constants))) (i - 3)
+      read (initialData r ps) i ≡ read (ps ++ (replicate (h .globals - length ps) 0 ++ wordsFrom r (constantsAt h)
+      (h .constants))) (i - 3)
   unfolding initialData constantWords
   later zero l = absurd (omega arith)
   later (suc zero) l = absurd (omega arith)
@@ -79,10 +80,12 @@ module _ (r ps : List ℕ) (h : Header) (e : h ≡ headerOf r) where
 
   pub word-parameter : (i : ℕ) → 3 ≤ i → i - 3 < length ps → read (initialData r ps) i ≡ read ps (i - 3)
   word-parameter i l k =
-      later i l ∙ List·getD-append ps (replicate (h .globals - length ps) 0 ++ wordsFrom r (constantsAt h) (h .constants)) 0 (i - 3) k
+      later i l ∙ List·getD-append ps (replicate (h .globals - length ps) 0 ++ wordsFrom r (constantsAt h) (h .constants)) 0
+      (i - 3) k
 
   past-parameters : (i : ℕ) → 3 ≤ i → length ps ≤ i - 3 →
-      read (initialData r ps) i ≡ read (replicate (h .globals - length ps) 0 ++ wordsFrom r (constantsAt h) (h .constants)) (i - 3 - length ps)
+      read (initialData r ps) i ≡ read (replicate (h .globals - length ps) 0 ++ wordsFrom r (constantsAt h) (h .constants))
+      (i - 3 - length ps)
   past-parameters i l k =
       later i l ∙ behind ps (replicate (h .globals - length ps) 0 ++ wordsFrom r (constantsAt h) (h .constants)) (i - 3) k
 
@@ -96,7 +99,8 @@ module _ (r ps : List ℕ) (h : Header) (e : h ≡ headerOf r) where
   past-globals : (i : ℕ) → 3 ≤ i → length ps ≤ h .globals → h .globals ≤ i - 3 →
       read (initialData r ps) i ≡ read (wordsFrom r (constantsAt h) (h .constants)) (i - 3 - h .globals)
   past-globals i l k g =
-      let n : length {A = ℕ} (replicate (h .globals - length ps) 0) ≡ h .globals - length ps = length-replicate (h .globals - length ps) 0 in
+      let n : length {A = ℕ} (replicate (h .globals - length ps) 0) ≡ h .globals - length ps = length-replicate
+      (h .globals - length ps) 0 in
       let q : i - 3 - length ps - (h .globals - length ps) ≡ i - 3 - h .globals = omega arith in
       past-parameters i l (omega arith)
       ∙ behind (replicate (h .globals - length ps) 0) (wordsFrom r (constantsAt h) (h .constants)) (i - 3 - length ps)

@@ -37,5 +37,9 @@ pub product-fits : (x y : ℕ) → Fits w32 x → Fits w32 y → Fits w64 (x * y
 product-fits x y f g =
     record {
       fits =
-          omega (arith, mul-le-mul {n₁ = x} {m₁ = y} {n₂ = 0xFFFF_FFFF} {m₂ = 0xFFFF_FFFF} (omega (arith, f .fits)) (omega (arith, g .fits)));
+          omega (
+            arith,
+            mul-le-mul {n₁ = x} {m₁ = y} {n₂ = 0xFFFF_FFFF} {m₂ = 0xFFFF_FFFF} (omega (arith, f .fits))
+                (omega (arith, g .fits)),
+          );
     }

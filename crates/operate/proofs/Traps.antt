@@ -43,7 +43,8 @@ unsigned-word (negsuc n) = too-large
 pub signed-valued : (op : Arithmetic) (x y : ℕ) → Valued (signedValue op x y)
 unfolding signedValue
 signed-valued op x y =
-    either Valued (divides op && eqb y 0) _ _ (a-trap (data-number 30 refl refl)) (signed-word (signedNumber op (toZ w32 x) (toZ w32 y)))
+    either Valued (divides op && eqb y 0) _ _ (a-trap (data-number 30 refl refl))
+    (signed-word (signedNumber op (toZ w32 x) (toZ w32 y)))
 
 unsigned-valued : (op : Arithmetic) (x y : ℕ) → Valued (unsignedValue op x y)
 unfolding unsignedValue

@@ -1,5 +1,5 @@
--- Where the link words of a chain of frames lie: below FP and not below the frames' start, since each frame lies at least two words
--- below the one that it called.
+-- Where the link words of a chain of frames lie: below FP and not below the frames' start, since each frame lies at least two
+-- words below the one that it called.
 use Prim.Native.Nat.{ℕ, zero, suc, _+_, _-_, _<_, _≤_}
 use mathlib.Core.Path.{_≡_, _∙_, refl}
 use mathlib.Core.Bool.{Bool, true, false, and-eq-true-iff}

@@ -1,5 +1,5 @@
--- A completed step keeps the invariant. Within a procedure control goes to a way out of the stack picture; CALL and RTN go from one share
--- to another; what a step leaves alone below the share keeps the callers.
+-- A completed step keeps the invariant. Within a procedure control goes to a way out of the stack picture; CALL and RTN go
+-- from one share to another; what a step leaves alone below the share keeps the callers.
 use mathlib.Core.Bool.{true}
 use mathlib.Core.List.{List}
 use mathlib.Core.Option.{some}
@@ -77,9 +77,11 @@ module _ (U : Subject) (C : Checked U) (A : Areas) (c : Configuration) (I : Inv 
 
   pub steps : Steps U A c (at-place .out) (linkageOf (shapeOf i)) (stepIn U A c .outcome)
   steps =
-      slots-kept finds-words U A c i (at-place .next) (running (c .calls)) (I .placed .slots) (at-place .out) doing (I .fitted) (I .placed .height)
+      slots-kept finds-words U A c i (at-place .next) (running (c .calls)) (I .placed .slots) (at-place .out) doing
+      (I .fitted) (I .placed .height)
       (I .placed .holds) (at-place .ways-out) (at-place .stays) (at-place .callable)
-      (λ e some. returns-inside U C (c .state .memory) (c .state .stack) (framesStart A) (q .fp) (c .calls) (I .framed) (I .placed .suspended)
+      (λ e some. returns-inside U C (c .state .memory) (c .state .stack) (framesStart A) (q .fp) (c .calls) (I .framed)
+      (I .placed .suspended)
       (omega (arith, I .counted)))
 
   -- Nothing below the share changes.
@@ -97,7 +99,8 @@ module _ (U : Subject) (C : Checked U) (A : Areas) (c : Configuration) (I : Inv 
     active : shapeOf i ≡ Rtn → length (c .calls) ≡ 0 → ⊥
     active e none =
         let did = step-did U A c i (at-place .next) doing w in
-        subst (λ (x : Shape). Framing q (c .state .memory) (at-place .next) (linkageOf x) (did .write) (did .registers)) e (did .done) .active
+        subst (λ (x : Shape). Framing q (c .state .memory) (at-place .next) (linkageOf x) (did .write) (did .registers)) e
+        (did .done) .active
         (omega (arith, I .counted))
 
     within-placed : Within (U .code) (shareOf (c .calls)) (at-place .out) q' s' → Placed U (c .calls) q' s'
@@ -120,12 +123,14 @@ module _ (U : Subject) (C : Checked U) (A : Areas) (c : Configuration) (I : Inv 
         rw (m .0 .same-stack)
         (called-placed U C (c .state .stack) (c .calls) (I .placed .slots) (at-place .out) q q' (at-place .next) d
         (at-place .callable d e .1)
-        (rw e at (at-place .ways-out)) (λ k a. stepped (I .placed .reached) (at-place .found) a) (I .placed .height) (I .placed .holds) (I .placed .suspended)
+        (rw e at (at-place .ways-out)) (λ k a. stepped (I .placed .reached) (at-place .found) a) (I .placed .height)
+        (I .placed .holds) (I .placed .suspended)
         (m .0 .same-height) (m .1))
     placed-after (entering par) e m = within-placed m
     placed-after returning e m =
         rw (m .0 .same-stack)
-        (returned-placed U C (c .state .memory) (c .state .stack) (framesStart A) (q .fp) (q .height) (c .calls) (I .placed .slots)
+        (returned-placed U C (c .state .memory) (c .state .stack) (framesStart A) (q .fp) (q .height) (c .calls)
+        (I .placed .slots)
         (at-place .out) q' (I .framed)
         (I .placed .suspended) (active e) (rw e at (at-place .ways-out)) (I .placed .height) (m .0 .same-height) (m .1))
 

@@ -1,5 +1,6 @@
--- From an effect to its step: an effect that traps on data, finishes rightly, or goes to a place in the code and leaves the registers
--- and the stack as they must be, is carried out so. Carrying it out adds the trap 36, and 21 for a place outside the code.
+-- From an effect to its step: an effect that traps on data, finishes rightly, or goes to a place in the code and leaves the
+-- registers and the stack as they must be, is carried out so. Carrying it out adds the trap 36, and 21 for a place outside
+-- the code.
 use mathlib.Core.List.{List}
 use mathlib.Core.Path.{_≡_, refl, sym, subst}
 use Prim.Native.Nat.{ℕ, _+_, _-_, _≤_, _<_}
@@ -35,7 +36,8 @@ pub data Good (code : List ℕ) (c : Configuration) (Done : Type 0) (Then : Regi
   good-finish : Done → Good code c Done Then Finish
   good-go : {pops : ℕ} {push : Push} {write : Write} {q : Registers} → q .pc < length code
       → (registersOf c .height - pops + pushes push ≤ length (c .state .stack)
-      → Then (raised q (registersOf c .height - pops + pushes push)) (sets (c .state .stack) (registersOf c .height - pops) (pushed push)))
+      → Then (raised q (registersOf c .height - pops + pushes push)) (sets (c .state .stack) (registersOf c .height - pops)
+      (pushed push)))
       → Good code c Done Then (Go pops push write q)
 
 module _ (U : Subject) (A : Areas) (c : Configuration) (out : List Way) (k : Linkage) where

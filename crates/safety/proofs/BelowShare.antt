@@ -1,5 +1,5 @@
--- Nothing below the share is read or changed: a step reads of the stack the words that its instruction finds, and stores where those that
--- go began, both in the share.
+-- Nothing below the share is read or changed: a step reads of the stack the words that its instruction finds, and stores
+-- where those that go began, both in the share.
 use mathlib.Core.Bool.{Bool, true, false, cond}
 use mathlib.Core.List.{List, [], _∷_}
 use mathlib.Core.Path.{_≡_, _∙_, refl, sym}
@@ -31,7 +31,11 @@ use Rattle.safety.proofs.Invariant.{registersOf, programIn, StepUnread}
 
 set-same : (share : ℕ) (s s' : List ℕ) (j v : ℕ) → SameFrom share s s' → SameFrom share (set s j v) (set s' j v)
 set-same share s s' j v same =
-    record { room = length-set s' j v ∙ same .room ∙ sym (length-set s j v); above = λ i h. by i h (eqb i j) refl (ltb j (length s)) refl }
+    record {
+      room = length-set s' j v ∙ same .room ∙ sym (length-set s j v);
+      above = λ i h. by i h (eqb i j) refl
+          (ltb j (length s)) refl;
+    }
   where
     by : (i : ℕ) → share ≤ i → (t : Bool) → eqb i j ≡ t → (u : Bool) → ltb j (length s) ≡ u
         → getD (set s' j v) i 0 ≡ getD (set s j v) i 0
@@ -39,7 +43,8 @@ set-same share s s' j v same =
         rw (eqb-true i j e) (getD-set-same s' j v 0 (omega (arith, ltb-true j (length s) l, same .room))
         ∙ sym (getD-set-same s j v 0 (ltb-true j (length s) l)))
     by i h true e false l =
-        rw (set-out s' j v (omega (arith, ltb-false j (length s) l, same .room)), set-out s j v (ltb-false j (length s) l)) (same .above i h)
+        rw (set-out s' j v (omega (arith, ltb-false j (length s) l, same .room)), set-out s j v (ltb-false j (length s) l))
+        (same .above i h)
     by i h false e u l =
         getD-set-other s' j i v 0 (eqb-false i j e) ∙ same .above i h ∙ sym (getD-set-other s j i v 0 (eqb-false i j e))
 
@@ -53,7 +58,8 @@ drop-same share s s' j same h =
     (λ i l. getD-drop j s' i 0 ∙ same .above (j + i) (omega arith) ∙ sym (getD-drop j s i 0))
 
 -- Words that begin in the share.
-top-same : (share : ℕ) (s s' : List ℕ) (n height : ℕ) → SameFrom share s s' → share + n ≤ height → topWords n height s' ≡ topWords n height s
+top-same : (share : ℕ) (s s' : List ℕ) (n height : ℕ) → SameFrom share s s' → share + n ≤ height
+    → topWords n height s' ≡ topWords n height s
 top-same share s s' n height same h = rw (drop-same share s s' (height - n) same (omega arith))
 
 -- What a step leaves of each of two stacks.

@@ -1,5 +1,5 @@
--- The shares of suspended callers: they lie below the running call's, so that words above leave them as they are; CALL suspends the
--- caller callers the words that it gives, and RTN goes back to it with the words that it gets.
+-- The shares of suspended callers: they lie below the running call's, so that words above leave them as they are. CALL
+-- suspends the caller without the words that it gives, and RTN goes back to it with the words that it gets.
 use mathlib.Core.Bool.{cond, and-eq-true-iff}
 use mathlib.Core.List.{List, [], _∷_}
 use mathlib.Core.Option.{none, some}
@@ -56,7 +56,8 @@ module _ (U : Subject) (C : Checked U) where
       → cond (isWords (resultsIn (U .results) (running calls)) l) (some []) none ≡ some out → height ≡ shareOf calls + length l
       → q .height ≡ height → q .pc ≡ read m (fp - 1) → Placed U (callers calls) q s
   returned-placed m s start fp height [] l out q (no-frame e) S active w h same to = absurd (active refl)
-  returned-placed m s start fp height (c ∷ calls) l out q (a-frame e saved back frames) (a-caller k reached share u p rest) active w h same to =
+  returned-placed m s start fp height (c ∷ calls) l out q (a-frame e saved back frames) (a-caller k reached share u p rest)
+      active w h same to =
       let n : ℕ = resultsIn (U .results) (c .procedure) in
       let place : fp - 1 ≡ c .link + 1 = omega arith in
       let at : q .pc ≡ c .back = to ∙ rw place back in

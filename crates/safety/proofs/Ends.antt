@@ -1,5 +1,5 @@
--- How a run of accepted code ends: in a configuration that it visits, finished, spent or in a data trap. A step that does not go on leaves
--- everything as it was, and where it traps it is on data.
+-- How a run of accepted code ends: in a configuration that it visits, finished, spent or in a data trap. A step that does not
+-- go on leaves everything as it was, and where it traps it is on data.
 use mathlib.Core.Path.{_≡_, refl, subst}
 use Prim.Native.Nat.{ℕ, zero, suc, _+_}
 use native.Mathlib.Omega.{arith}
@@ -29,7 +29,8 @@ module _ (U : Subject) (C : Checked U) (A : Areas) (first : Configuration) (I : 
   abbrev P : Program
   P = programIn U A
 
-  ended-at : {n : ℕ} {c : Configuration} → Visits P U first n c → (left : ℕ) → Inv U A c → (o : Outcome) → stepIn U A c .outcome ≡ o
+  ended-at : {n : ℕ} {c : Configuration} → Visits P U first n c → (left : ℕ) → Inv U A c → (o : Outcome)
+      → stepIn U A c .outcome ≡ o
       → (stepIn U A c .outcome ≡ Went → Ends P U first (runFrom P left (suc n) (advanceIn U A c .state)))
       → Ends P U first (proceed (runFrom P left (n + 1)) n o (stepIn U A c .state))
   ended-at {n = n} v left J Went e later = let z : n + 1 ≡ suc n = omega arith in rw z (later e)

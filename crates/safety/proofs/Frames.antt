@@ -1,5 +1,5 @@
--- A completed step keeps the frames in step with the active calls: CALL writes a new frame's link words above the others, RTN goes back to
--- the one below, and every step keeps the link words there are, which are protected.
+-- A completed step keeps the frames in step with the active calls: CALL writes a new frame's link words above the others, RTN
+-- goes back to the one below, and every step keeps the link words there are, which are protected.
 use mathlib.Core.Bool.{true, _||_, or-true}
 use mathlib.Core.List.{List, [], _∷_}
 use mathlib.Core.Path.{_≡_, _∙_, refl, sym}
@@ -92,7 +92,8 @@ frame-below m start fp n (c ∷ calls) (a-frame e r t rest) h count =
 abbrev InStep : List ℕ → ℕ → Registers → List Call → Type 0
 InStep m start q calls = Framed m start (q .fp) calls × (length calls ≡ q .calls)
 
-module _ (U : Subject) (start next : ℕ) (m n popped : List ℕ) (q : Registers) (calls : List Call) (F : Framed m start (q .fp) calls)
+module _ (U : Subject) (start next : ℕ) (m n popped : List ℕ) (q : Registers) (calls : List Call)
+    (F : Framed m start (q .fp) calls)
     (count : length calls ≡ q .calls) (kept : (b : ℕ) → isLink m (q .fp) (q .calls) b ≡ true → read n b ≡ read m b) where
   same-frames : Framed n start (q .fp) calls
   same-frames = framed-kept m n start (q .fp) calls F (λ b h. kept b (rw (← count) h))
@@ -128,6 +129,7 @@ pub frames-kept : FramesKept
 frames-kept U A c i next D f F count w =
     let did = step-did U A c i next D w in
     let t =
-    framed-after U (framesStart A) next (c .state .memory) (stepIn U A c .state .memory) (did .popped) (registersOf c) (c .calls) F count
+    framed-after U (framesStart A) next (c .state .memory) (stepIn U A c .state .memory) (did .popped) (registersOf c)
+    (c .calls) F count
     (links-kept U A c f) (linkageOf (shapeOf i)) (did .write) (did .registers) (did .done) (did .memory) in
     rw (D .decoded, did .fp, did .calls) t

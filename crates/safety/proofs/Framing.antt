@@ -1,4 +1,5 @@
--- Of the words that an instruction finds at most these go; and CALL and RTN alone move FP and count calls. By what an instruction can do.
+-- Of the words that an instruction finds at most these go; and CALL and RTN alone move FP and count calls. By what an
+-- instruction can do.
 use mathlib.Core.List.{List}
 use mathlib.Core.Path.{_≡_, refl}
 use Prim.Native.Nat.{ℕ, _≤_, _+_, _-_}
@@ -60,7 +61,8 @@ module _ (P : Program) (S : State) (next : ℕ) where
       → Does k (Still (S .registers)) (Go pops push write (sized (S .registers) place mp))
   still place mp l = does-go l (record { fp = refl; calls = refl })
 
-  pub acts-do : {s : Shape} {e : Effect} → Acts P S next s e → Does (finds s) (Framing (S .registers) (S .memory) next (linkageOf s)) e
+  pub acts-do : {s : Shape} {e : Effect} → Acts P S next s e → Does (finds s)
+      (Framing (S .registers) (S .memory) next (linkageOf s)) e
   acts-do (traps d) = does-trap
   acts-do (passes p) = still _ _ (omega arith)
   acts-do (resizes p f r) = still _ _ (omega arith)

@@ -44,7 +44,8 @@ advanceIn U A c = advance (programIn U A) U c
 -- The frames of the active calls, from FP down to where frames begin: each call's link words as it wrote them.
 pub data Framed (m : List ℕ) (start : ℕ) : ℕ → List Call → Type 0 where
   no-frame : {fp : ℕ} → fp ≡ start → Framed m start fp []
-  a-frame : {fp : ℕ} {c : Call} {calls : List Call} → fp ≡ c .link + 2 → read m (c .link) ≡ c .savedFp → read m (c .link + 1) ≡ c .back → Framed m start (c .savedFp) calls → Framed m start fp (c ∷ calls)
+  a-frame : {fp : ℕ} {c : Call} {calls : List Call} → fp ≡ c .link + 2 → read m (c .link) ≡ c .savedFp
+      → read m (c .link + 1) ≡ c .back → Framed m start (c .savedFp) calls → Framed m start fp (c ∷ calls)
 
 -- What each active call's caller has on its share of the stack, under the callee's, and finds when it goes on.
 pub data Suspended (U : Subject) (s : List ℕ) : List Call → Type 0 where

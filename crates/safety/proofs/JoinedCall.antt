@@ -1,5 +1,5 @@
--- The joined call ends properly, by demand 3 for the record that the check accepted; refused, it leaves memory and stack, for after an
--- accepted check only the load refuses.
+-- The joined call ends properly, by demand 3 for the record that the check accepted; refused, it leaves memory and stack, for
+-- after an accepted check only the load refuses.
 use mathlib.Core.List.{List}
 use mathlib.Core.Path.{_≡_, refl, sym, ap, subst, _∙_}
 use Prim.Native.Nat.{ℕ, zero, suc, _≤_}
@@ -32,7 +32,8 @@ load-number-range : (r parameters m s : List ℕ) → loadNumber r parameters m 
 unfolding loadNumber
 load-number-range r parameters m s = after-range r 8 (loadTests r parameters m s) (omega arith) refl
 
-pub not-loaded : (r parameters m s : List ℕ) {l : Loaded} {m' : List ℕ} → loading l m' ≡ loadOf r parameters m s → {n : ℕ} → l ≡ NotLoaded n
+pub not-loaded : (r parameters m s : List ℕ) {l : Loaded} {m' : List ℕ} → loading l m' ≡ loadOf r parameters m s → {n : ℕ}
+    → l ≡ NotLoaded n
     → ProperAnswer (Refused n)
 unfolding loadOf
 not-loaded r parameters m s {l} {m'} e {n} f =
@@ -43,7 +44,8 @@ not-loaded r parameters m s {l} {m'} e {n} f =
     let y : n ≡ loadNumber r parameters m s = cc in
     (omega (arith, eqb-false (loadNumber r parameters m s) 0 t), omega (arith, load-number-range r parameters m s))) e
 
-pub not-accepted : (r results w : List ℕ) {n : ℕ} {w' : List ℕ} → checking n w' ≡ checkOf r results w → (n ≡ 0 → ⊥) → ProperAnswer (Refused n)
+pub not-accepted : (r results w : List ℕ) {n : ℕ} {w' : List ℕ} → checking n w' ≡ checkOf r results w → (n ≡ 0 → ⊥)
+    → ProperAnswer (Refused n)
 not-accepted r results w {n} e f =
     let z : n ≡ checkOf r results w .number = ap (λ (k : Checking). k .number) e in
     (omega arith, omega (arith, check-range r results w))

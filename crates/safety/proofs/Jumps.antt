@@ -28,7 +28,8 @@ among-either : (b : Bool) (t u : ℕ) (k : List Slot) → Among (cond b u t) k (
 among-either true t u k = among-away t u k k
 among-either false t u k = among-on t u k k
 
-module _ {code : List ℕ} {c : Configuration} {l : List Slot} {out : List Way} {Done : Type 0} (S : Start code c l out) (next : ℕ) where
+module _ {code : List ℕ} {c : Configuration} {l : List Slot} {out : List Way} {Done : Type 0} (S : Start code c l out)
+    (next : ℕ) where
   pub pop-goes : (n : ℕ) → after (popSlots n l) (λ rest. next gets rest ∷ []) ≡ some out
       → Stays code c out Done (Go n NoPush NoWrite (moved (registersOf c) next))
   pop-goes n w =
@@ -51,7 +52,8 @@ module _ {code : List ℕ} {c : Configuration} {l : List Slot} {out : List Way} 
       popped-go S 1 _ T NoPush NoWrite (moved (registersOf c) (cond b away next)) (among-either b next away (T .rest))
 
   -- JUMP_T and JUMP_F: the boolean is kept where they jump, and goes where they go on.
-  pub jump-tf-goes : (d : ℕ) → after (popWords 1 l) (λ rest. both (next gets rest) (placeAt (registersOf c .pc) d gets l)) ≡ some out
+  pub jump-tf-goes : (d : ℕ) → after (popWords 1 l) (λ rest. both (next gets rest) (placeAt (registersOf c .pc) d gets l)) ≡
+      some out
       → Stays code c out Done (Go 0 NoPush NoWrite (moved (registersOf c) (placeAt (registersOf c .pc) d)))
       × Stays code c out Done (Go 1 NoPush NoWrite (moved (registersOf c) next))
   jump-tf-goes d w =

@@ -1,5 +1,5 @@
--- The instructions that make or use a label. ITER and the switches push the word that their origin's label must hold; NEXT and LEAVE
--- find it on top of the share.
+-- The instructions that make or use a label. ITER and the switches push the word that their origin's label must hold; NEXT
+-- and LEAVE find it on top of the share.
 use mathlib.Core.List.{List, [], _∷_}
 use mathlib.Core.Option.{some}
 use mathlib.Core.Path.{_≡_, refl, _∙_}
@@ -51,7 +51,8 @@ module _ (U : Subject) (c : Configuration) (i : Instruction) (next : ℕ) (D : D
 module _ {code : List ℕ} {c : Configuration} {l : List Slot} {out : List Way} {Done : Type 0} (S : Start code c l out) where
   -- ITER: past the loop, or into it.
   pub iter-goes : (next d : ℕ)
-      → after (popWords 4 l) (λ rest. both (next gets (label (registersOf c .pc) ∷ l)) (placeAt (registersOf c .pc) d gets rest)) ≡ some out
+      → after (popWords 4 l) (λ rest. both (next gets (label (registersOf c .pc) ∷ l))
+      (placeAt (registersOf c .pc) d gets rest)) ≡ some out
       → Stays code c out Done (Go 4 NoPush NoWrite (moved (registersOf c) (placeAt (registersOf c .pc) d)))
       × ((write : Write) → next ≡ labelWord code (registersOf c .pc)
       → Stays code c out Done (Go 0 (PushOne next) write (moved (registersOf c) next)))
@@ -68,7 +69,8 @@ module _ {code : List ℕ} {c : Configuration} {l : List Slot} {out : List Way} 
   -- SWITCH and SWITCH_X, to one of their targets.
   pub switch-goes : (t : Table) (n x place : ℕ) → x ≡ labelWord code (registersOf c .pc)
       → In place (switchTargets code (registersOf c .pc) t n)
-      → after (popWords 1 l) (λ rest. toAll (switchTargets code (registersOf c .pc) t n) (label (registersOf c .pc) ∷ rest)) ≡ some out
+      → after (popWords 1 l) (λ rest. toAll (switchTargets code (registersOf c .pc) t n) (label (registersOf c .pc) ∷ rest)) ≡
+      some out
       → Stays code c out Done (Go 1 (PushOne x) NoWrite (moved (registersOf c) place))
   switch-goes t n x place e h w =
       let q : Registers = registersOf c in
@@ -83,7 +85,8 @@ label-word : {code : List ℕ} {c : Configuration} {out : List Way} {origin : �
     → read (topWords (suc n) (registersOf c .height) (c .state .stack)) n ≡ labelWord code origin
 label-word {c = c} {l = l} n S h =
     let place : registersOf c .height - (suc n - n) ≡ shareOf (c .calls) + length l = omega (arith, S .height) in
-    found (c .state .stack) (registersOf c .height) (suc n) n (omega (arith, S .height)) (omega arith) ∙ rw place (holds-top (S .holds))
+    found (c .state .stack) (registersOf c .height) (suc n) n (omega (arith, S .height)) (omega arith) ∙ rw place
+    (holds-top (S .holds))
 
 -- Word k of the top n.
 abbrev top : Configuration → ℕ → ℕ → ℕ

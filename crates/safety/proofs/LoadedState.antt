@@ -1,5 +1,5 @@
--- The invariant holds of a record that is freshly loaded: no call is active, the stack is empty, and procedure 0's entry is where its
--- stack picture begins.
+-- The invariant holds of a record that is freshly loaded: no call is active, the stack is empty, and procedure 0's entry is
+-- where its stack picture begins.
 use mathlib.Core.Bool.{Bool, true, not, _&&_, and-eq-true-iff}
 use mathlib.Core.List.{List, [], _∷_}
 use mathlib.Core.Path.{_≡_, _∙_, refl}
@@ -38,12 +38,14 @@ pub refused-not : {A : Type 0} (n : ℕ) (q : Registers) → Refused n ≡ Ready
 refused-not n q e = let z : _≡_ {A = ℕ} 0 1 = cc in absurd (omega arith)
 
 module _ (r parameters m s : List ℕ) (q : Registers) (sound : recordNumber r ≡ 0) where
-  no-number : loadNumber r parameters m s ≡ 0 → (leb (length parameters) (areasOf r .globals) ≡ true) × (sizesTaken (areasOf r) m s ≡ true)
+  no-number : loadNumber r parameters m s ≡ 0 → (leb (length parameters) (areasOf r .globals) ≡ true) ×
+      (sizesTaken (areasOf r) m s ≡ true)
   unfolding loadNumber
   no-number e =
       let few : Bool = leb (length parameters) (areasOf r .globals) in
       let sizes : Bool = sizesTaken (areasOf r) m s in
-      and-eq-true-iff few sizes .0 (not-false (few && sizes) (cleared (8 when not (few && sizes) ∷ []) refl (rw (eq-eqb (recordNumber r) 0 sound) at e) .0))
+      and-eq-true-iff few sizes .0 (not-false (few && sizes) (cleared (8 when not (few && sizes) ∷ []) refl
+      (rw (eq-eqb (recordNumber r) 0 sound) at e) .0))
 
   load-taken : loadOf r parameters m s .answer ≡ Ready q → Taken r parameters m s q
   unfolding loadOf
@@ -61,7 +63,8 @@ module _ (r parameters m s : List ℕ) (q : Registers) (sound : recordNumber r �
         let T = load-taken ready in
         let A = areasOf r in
         let (areas, room, deep) = sizes-taken A m s (T .sizes) in
-        let size : length (loadedMemory r parameters (length m)) ≡ length m = loaded-length r parameters (length m) (T .few) areas in
+        let size : length (loadedMemory r parameters (length m)) ≡ length m = loaded-length r parameters (length m) (T .few)
+        areas in
         rw (T .start, T .memory) (record {
           areas = rw size areas;
           room = rw size room;

@@ -1,4 +1,5 @@
--- Where an effect goes within its procedure: to a way out, with the words that go taken off the share and words or a label put on it.
+-- Where an effect goes within its procedure: to a way out, with the words that go taken off the share and words or a label
+-- put on it.
 use mathlib.Core.List.{List, [], _∷_}
 use mathlib.Core.Option.{Option, none, some}
 use mathlib.Core.Path.{_≡_, refl, subst}
@@ -81,7 +82,8 @@ module _ {code : List ℕ} {c : Configuration} {l : List Slot} {out : List Way} 
       })
 
   -- Words that are popped, and words that come.
-  pub popped-go : (pops : ℕ) (f : List Slot → List Way) (T : Taken (popWords pops l) f out) (push : Push) (write : Write) (q : Registers)
+  pub popped-go : (pops : ℕ) (f : List Slot → List Way) (T : Taken (popWords pops l) f out) (push : Push) (write : Write)
+      (q : Registers)
       → Among (q .pc) (pushWords (pushes push) (T .rest)) (f (T .rest)) → Stays code c out Done (Go pops push write q)
   popped-go pops f T push write q a =
       words-go pops push write q (T .rest) (popped-words pops l (T .rest) (T .found)) (among-taken T (q .pc) _ a)

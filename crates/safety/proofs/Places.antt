@@ -1,5 +1,5 @@
--- What acceptance says of a place that is reached: every region has a map, a map has what is reached, and what a map has is a start, so
--- that an instruction of the code stands there, its ways out lie in the code, and a procedure that it calls is one.
+-- What acceptance says of a place that is reached: every region has a map, a map has what is reached, and what a map has is a
+-- start, so that an instruction of the code stands there, its ways out lie in the code, and a procedure that it calls is one.
 use mathlib.Core.Bool.{Bool, true, false}
 use mathlib.Core.List.{List, [], _∷_}
 use mathlib.Core.Option.{some}
@@ -40,7 +40,8 @@ pub record Checked (U : Subject) : Type 0 where
   pub in-order : codeNumber (U .code) (U .marks) ≡ 0
   pub maps : (p : ℕ) → p < entryCount (U .code) → (π : Map) × IsMap U p π
 
-pub checked : (r results w : List ℕ) → Bytes r → checkOf r results w .number ≡ 0 → (R : Ruled r results) → Checked (subject r results R)
+pub checked : (r results w : List ℕ) → Bytes r → checkOf r results w .number ≡ 0 → (R : Ruled r results)
+    → Checked (subject r results R)
 checked r results w b e R =
     let (enough, S, maps) = accepts-only r results w b e in
     let same : S .marks ≡ R .marks = same-marks (sym (S .is-cut) ∙ R .is-cut) in

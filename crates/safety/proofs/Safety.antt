@@ -1,5 +1,5 @@
--- Every configuration of a run of accepted code is safe: the invariant holds of the first and every step keeps it, and with it the header
--- and the constants.
+-- Every configuration of a run of accepted code is safe: the invariant holds of the first and every step keeps it, and with
+-- it the header and the constants.
 use mathlib.Core.List.{List, [], _∷_}
 use mathlib.Core.Path.{_≡_, _∙_, refl}
 use Prim.Native.Nat.{ℕ, _≤_, _<_}
@@ -73,7 +73,8 @@ module _ (r results w parameters m s : List ℕ) (q : Registers) (b : Bytes r) (
         placed = p .reached;
         height = p .height;
         labels = p .holds;
-        shown = shows-reached r results w b accepted R (running (c .calls)) (p .procedure) (registersOf c .pc) (p .slots) (p .reached);
+        shown = shows-reached r results w b accepted R (running (c .calls)) (p .procedure) (registersOf c .pc) (p .slots)
+            (p .reached);
         header = k .header;
         constants = k .constants;
         links = linked (c .state .memory) (framesStart (areasOf r)) (registersOf c .fp) (c .calls) (i .framed);

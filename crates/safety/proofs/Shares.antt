@@ -22,7 +22,8 @@ only-if true o x e = (refl, e)
 only-if false o x e = nothing x e
 
 -- Slots look at the words of their share alone.
-pub holds-kept : {code s : List ℕ} {bottom : ℕ} {l : List Slot} (s' : List ℕ) → ((i : ℕ) → i < bottom + length l → getD s' i 0 ≡ getD s i 0)
+pub holds-kept : {code s : List ℕ} {bottom : ℕ} {l : List Slot} (s' : List ℕ)
+    → ((i : ℕ) → i < bottom + length l → getD s' i 0 ≡ getD s i 0)
     → Holds code s bottom l → Holds code s' bottom l
 holds-kept s' k holds-none = holds-none
 holds-kept s' k (holds-word h) = holds-word (holds-kept s' (λ i b. k i (omega arith)) h)
@@ -30,7 +31,8 @@ holds-kept s' k (holds-label {bottom = bottom} {l = l} e h) =
     holds-label (k (bottom + length l) (omega arith) ∙ e) (holds-kept s' (λ i b. k i (omega arith)) h)
 
 -- Words that are put above a share leave it as it is.
-pub holds-below : {code s : List ℕ} {share : ℕ} {l : List Slot} (i : ℕ) (vs : List ℕ) → share + length l ≤ i → Holds code s share l
+pub holds-below : {code s : List ℕ} {share : ℕ} {l : List Slot} (i : ℕ) (vs : List ℕ) → share + length l ≤ i
+    → Holds code s share l
     → Holds code (sets s i vs) share l
 holds-below {s = s} i vs h = holds-kept (sets s i vs) (λ j b. sets-other s i vs j (λ low high. omega arith))
 
@@ -58,12 +60,14 @@ popped-words (suc n) (word ∷ l) rest e = popped-words n l rest e
 popped-words (suc n) (label origin ∷ l) rest e = nothing rest e
 
 -- Words may be anything.
-pub holds-words : {code s : List ℕ} {share : ℕ} {l : List Slot} (n : ℕ) → Holds code s share l → Holds code s share (pushWords n l)
+pub holds-words : {code s : List ℕ} {share : ℕ} {l : List Slot} (n : ℕ) → Holds code s share l
+    → Holds code s share (pushWords n l)
 holds-words zero h = h
 holds-words (suc n) h = holds-word (holds-words n h)
 
 -- The word of a label that is put on top.
-pub holds-made : {code s : List ℕ} {share : ℕ} {l : List Slot} (x origin : ℕ) → x ≡ labelWord code origin → share + length l < length s
+pub holds-made : {code s : List ℕ} {share : ℕ} {l : List Slot} (x origin : ℕ) → x ≡ labelWord code origin
+    → share + length l < length s
     → Holds code s share l → Holds code (sets s (share + length l) (x ∷ [])) share (label origin ∷ l)
 holds-made {s = s} {share} {l} x origin e room h =
     holds-label (getD-set-same s (share + length l) x 0 room ∙ e) (holds-below (share + length l) (x ∷ []) (omega arith) h)

@@ -1,5 +1,5 @@
--- What a step does to the share: each thing that an instruction can do goes to one of the ways out that the stack picture gives its
--- shape, with that way's slots on the share.
+-- What a step does to the share: each thing that an instruction can do goes to one of the ways out that the stack picture
+-- gives its shape, with that way's slots on the share.
 use mathlib.Core.Bool.{true, false, true≢false}
 use mathlib.Core.List.{List}
 use mathlib.Core.Option.{some}
@@ -77,4 +77,5 @@ pub slots-kept : FindsWords → SlotsKept
 slots-kept finds U A c i next p l out D fit height holds w inside call back =
     let S : Start (U .code) c l out = record { height = height; holds = holds; inside = inside } in
     good-steps U A c out (linkageOf (shapeOf i)) i next D (omega (arith, finds U p (registersOf c .pc) next (shapeOf i) l out w))
-    (acts-go U A c i next p l out D S (shapeOf i) _ refl w call back (acts (programIn U A) (finding (needed i) (c .state)) next i))
+    (acts-go U A c i next p l out D S (shapeOf i) _ refl w call back (acts (programIn U A) (finding (needed i) (c .state))
+    next i))

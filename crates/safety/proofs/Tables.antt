@@ -29,14 +29,17 @@ module _ (code : List ℕ) (at : ℕ) where
   in-table : (t : Table) (k n x : ℕ) → x < n → In (tableTarget code at t (k + x)) (tableFrom code at t k n)
   in-table t k zero x h = absurd (omega arith)
   in-table t k (suc n) zero h = let e : k + 0 ≡ k = omega arith in rw e in-first
-  in-table t k (suc n) (suc x) h = let e : k + suc x ≡ k + 1 + x = omega arith in rw e (in-later (in-table t (k + 1) n x (omega arith)))
+  in-table t k (suc n) (suc x) h =
+      let e : k + suc x ≡ k + 1 + x = omega arith in rw e (in-later (in-table t (k + 1) n x (omega arith)))
 
   -- SWITCH_X: the first range that holds the selector, or ELSE.
   in-found : (x k n : ℕ)
-      → In (placeAt at (orElse (searchFrom code at x k n) (elseDistance code at))) (elseTarget code at ∷ tableFrom code at Ranges k n)
+      → In (placeAt at (orElse (searchFrom code at x k n) (elseDistance code at)))
+      (elseTarget code at ∷ tableFrom code at Ranges k n)
   in-found x k zero = in-first
   in-found x k (suc n) =
-      either (λ (d : ℕ). In (placeAt at (orElse d (elseDistance code at))) (elseTarget code at ∷ tableFrom code at Ranges k (suc n)))
+      either (λ (d : ℕ). In (placeAt at (orElse d (elseDistance code at)))
+      (elseTarget code at ∷ tableFrom code at Ranges k (suc n)))
       (rangeHolds code at k x) _ _ (in-later in-first) (skip (in-found x (k + 1) n))
     where
       skip : {t u v : ℕ} {ts : List ℕ} → In t (u ∷ ts) → In t (u ∷ v ∷ ts)

@@ -1,5 +1,5 @@
--- Where decoded shapes come from. A loop, a switch and a procedure's beginning are made by rows of their own in the tables of codes,
--- none of which DOUBLE (F5) may stand before: the shape tells the first byte, and the first byte the row.
+-- Where decoded shapes come from. A loop, a switch and a procedure's beginning are made by rows of their own in the tables of
+-- codes, none of which DOUBLE (F5) may stand before: the shape tells the first byte, and the first byte the row.
 use mathlib.Core.Bool.{Bool, true, false, cond, false≢true, _&&_, _||_, and-eq-true-iff}
 use mathlib.Core.Path.{_≡_, refl, ap}
 use mathlib.Core.List.{List, [], _∷_}
@@ -58,7 +58,8 @@ all-pass f (entry k r ∷ rest) e =
 row-passes :
     (f : ℕ → Row → Bool) (code : ℕ) →
     f code unserved ≡ true →
-    every (λ k. f code) shortTable ≡ true → every f dataTable ≡ true → every f operationTable ≡ true → every f controlTable ≡ true →
+    every (λ k. f code) shortTable ≡ true → every f dataTable ≡ true → every f operationTable ≡ true
+    → every f controlTable ≡ true →
     f code (rowOf code) ≡ true
 row-passes f code u s d o c =
     row-every (Passes f) code u (all-pass (λ k. f code) shortTable s) (all-pass f dataTable d) (all-pass f operationTable o)
@@ -71,7 +72,8 @@ module _ (m : Mode) (code : List ℕ) (at : ℕ) where
   agrees first (row operands modes make) =
       cond (allows modes m) (begins (shapeOf (make m (operand operands code at) (operand2 operands code at))) first) true
 
-  agreed : (r : Row) (first : ℕ) → (lengthOf r m code at ≡ 0 → ⊥) → agrees first r ≡ true → begins (shapeOf (made r m code at)) first ≡ true
+  agreed : (r : Row) (first : ℕ) → (lengthOf r m code at ≡ 0 → ⊥) → agrees first r ≡ true
+      → begins (shapeOf (made r m code at)) first ≡ true
   agreed unserved first s e = absurd (s refl)
   agreed (row operands modes make) first s e = by (allows modes m) _ _ s e
     where
@@ -87,7 +89,8 @@ module _ (code : List ℕ) (limit at next : ℕ) (i : Instruction) (e : decodeAt
       by : Origin code limit at i next → begins (shapeOf i) (byteAt code at) ≡ true
       by (single f r) =
           let b = byteAt code at in
-          rw (← r .same) (agreed Normal code at (rowOf b) b (r .served) (row-passes (agrees Normal code at) b refl refl refl refl refl))
+          rw (← r .same) (agreed Normal code at (rowOf b) b (r .served)
+          (row-passes (agrees Normal code at) b refl refl refl refl refl))
       by (double f r) =
           let b = byteAt code (at + 1) in
           let test : ℕ → Row → Bool = λ k. agrees Double code (at + 1) 0xF5 in

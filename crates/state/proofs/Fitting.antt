@@ -40,7 +40,8 @@ five a b c d f e =
     (p .0, p .1, q .0, q .1, q .2)
 
 -- Sizes that load takes hold the data areas, and are at most the largest.
-pub sizes-taken : (A : Areas) (m s : List ℕ) → sizesTaken A m s ≡ true → (framesStart A ≤ length m) × (length m ≤ 16384) × (length s ≤ 1024)
+pub sizes-taken : (A : Areas) (m s : List ℕ) → sizesTaken A m s ≡ true
+    → (framesStart A ≤ length m) × (length m ≤ 16384) × (length s ≤ 1024)
 unfolding sizesTaken
 sizes-taken A m s h =
     let z = three (leb (framesStart A) (length m)) (leb (length m) 16384) (leb (length s) 1024) h in
@@ -64,7 +65,8 @@ module _ (A : Areas) (S : State) where
       let (areas, room, deep) = sizes-taken A m s (w .0) in
       let k = three (eqb (read m 0) 0) (eqb (read m 1) 0) (eqb (read m 2) (constantsStart A)) (w .1) in
       let r =
-      five (eqb (q .gp) 3) (leb (q .fp) (q .mp)) (leb (q .mp) (length m)) (leb (q .height) (length s)) (leb (q .calls) 64) (l .0) in
+      five (eqb (q .gp) 3) (leb (q .fp) (q .mp)) (leb (q .mp) (length m)) (leb (q .height) (length s)) (leb (q .calls) 64)
+      (l .0) in
       record {
         areas = areas;
         room = room;

@@ -1,5 +1,5 @@
--- What a step leaves: the state as it was, with an outcome that does not go on, or an effect carried out that there was room for. So
--- what holds of both holds of every step; by the cases of the definition.
+-- What a step leaves: the state as it was, with an outcome that does not go on, or an effect carried out that there was room
+-- for. So what holds of both holds of every step; by the cases of the definition.
 use mathlib.Core.List.{List}
 use mathlib.Core.Path.{_≡_, refl}
 use Prim.Native.Nat.{ℕ, _+_, _-_, _≤_}
@@ -27,7 +27,8 @@ use Rattle.step.specs.declared.Outcome.the-variants.{Went, Finished, Tra
 use Rattle.step.specs.Step.{After, after, applied, apply, perform, stepOf}
 
 -- Q holds of what a step leaves, where E holds of its effect.
-module _ (P : Program) (S : State) (Q : After → Type 0) (E : Effect → Type 0) (kept : (o : Outcome) → (o ≡ Went → ⊥) → Q (after o S))
+module _ (P : Program) (S : State) (Q : After → Type 0) (E : Effect → Type 0)
+    (kept : (o : Outcome) → (o ≡ Went → ⊥) → Q (after o S))
     (went : (pops : ℕ) (push : Push) (write : Write) (q : Registers) → E (Go pops push write q)
     → S .registers .height - pops + pushes push ≤ length (S .stack) → Q (after Went (applied S pops push write q))) where
   trapped : (n : ℕ) → Q (after (Trapped n) S)
@@ -40,7 +41,8 @@ module _ (P : Program) (S : State) (Q : After → Type 0) (E : Effect → Type 0
   apply-leaves (Go pops push write q) h =
       let height : ℕ = S .registers .height - pops + pushes push in
       by-test Q (ltb (length (S .stack)) height) _ _ (λ t. trapped 36)
-      (λ t. either Q (ltb (q .pc) (length (P .code))) _ _ (went pops push write q h (ltb-false (length (S .stack)) height t)) (trapped 21))
+      (λ t. either Q (ltb (q .pc) (length (P .code))) _ _ (went pops push write q h (ltb-false (length (S .stack)) height t))
+      (trapped 21))
 
   pub perform-leaves : (i : Instruction) (next : ℕ) → E (executed P S next i) → Q (perform P S (At i next))
   unfolding perform

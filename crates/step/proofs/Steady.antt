@@ -1,5 +1,5 @@
--- What an effect keeps of memory and frames in a state that fits: a store passed the protected test, a call adds a link, a return takes
--- one away.
+-- What an effect keeps of memory and frames in a state that fits: a store passed the protected test, a call adds a link, a
+-- return takes one away.
 use Prim.Native.Nat.{ℕ, suc, _+_, _-_, _≤_, _<_}
 use mathlib.Core.Path.{_≡_, _∙_, refl, sym}
 use mathlib.Core.Bool.{true, false, _&&_, _||_, true≢false}
@@ -70,7 +70,8 @@ module _ (A : Areas) (q : Registers) (m s : List ℕ) (F : Fitting A (state q m 
 
   pub sized-keeps : (pops : ℕ) (push : Push) (place mp : ℕ) → q .fp ≤ mp → mp ≤ length m
       → Keeps A q m (Go pops push NoWrite (sized q place mp))
-  sized-keeps pops push place mp l r = λ vs. intact-sized m place mp (intact-none m (framesStart A) (q .fp) (q .calls)) l r (λ a p. refl)
+  sized-keeps pops push place mp l r =
+      λ vs. intact-sized m place mp (intact-none m (framesStart A) (q .fp) (q .calls)) l r (λ a p. refl)
 
   pub moved-keeps : (pops : ℕ) (push : Push) (place : ℕ) → Keeps A q m (Go pops push NoWrite (moved q place))
   moved-keeps pops push place = sized-keeps pops push place (q .mp) (F .frame) (F .within)

@@ -18,7 +18,12 @@ returns-2 c =
     let if2 = c .before .if2 in
     let search-distance = c .before .before .search-distance in
     let enum-told2 = c .before .before .before .enum-told2 in
-    rw (enum-told2 .given .1, ← search-distance .ensures, eq-eqb (search-distance .result) 0 (if2 .taken), else-distance2 .ensures)
+    rw (
+      enum-told2 .given .1,
+      ← search-distance .ensures,
+      eq-eqb (search-distance .result) 0 (if2 .taken),
+      else-distance2 .ensures,
+    )
 
 returns-3 : tie.Need-returns-3
 returns-3 c =

@@ -3,7 +3,8 @@ use mathlib.Core.Path.{sym, _∙_}
 use borrow.Author.Needs.{needs}
 use borrow.Author.Tests.{not-true, not-false}
 use Rattle.load.proofs.load.Statement.{statement}
-use Rattle.load.proofs.Loading.{sound-header, load-refused, load-parameters, load-sizes, load-ready, load-globals, load-frames}
+use Rattle.load.proofs.Loading.{sound-header, load-refused, load-parameters}
+use Rattle.load.proofs.Loading.{load-sizes, load-ready, load-globals, load-frames}
 use Rattle.load.proofs.load.Tie as tie
 
 returns : tie.Need-returns
@@ -45,8 +46,18 @@ fill-requires c κs =
     let k = reading2 .given in
     let s = sym (read .ensures) ∙ k .1 in
     let t = sizes-taken in
-    let b = areas-in in
-    (sound-header (a .r .now) (k .0 .0) s .1, (load-globals (a .r .now) (a .parameters .now) (a .memory .now) (a .stack .now) (k .0 .0) s, (if1 .left, load-frames (a .r .now) (a .parameters .now) (a .memory .now) (a .stack .now) (k .0 .0) s (b .result) (t .result) (b .ensures) (t .ensures) (if1 .left) (not-false (t .result) (if2 .left)) .0)))
+    let b = areas-in in (
+      sound-header (a .r .now) (k .0 .0) s .1,
+      (
+        load-globals (a .r .now) (a .parameters .now) (a .memory .now) (a .stack .now)
+            (k .0 .0) s,
+        (
+          if1 .left,
+          load-frames (a .r .now) (a .parameters .now) (a .memory .now) (a .stack .now) (k .0 .0) s
+              (b .result) (t .result) (b .ensures) (t .ensures) (if1 .left) (not-false (t .result) (if2 .left)) .0,
+        ),
+      ),
+    )
 
 start-of-requires : tie.Need-start-of-requires
 start-of-requires c κs =
@@ -92,7 +103,8 @@ returns-4 c =
     let t = sizes-taken in
     let b = areas-in in
     rw (start-of .ensures, code-of .ensures, b .ensures, sound-header (a .r .now) (k .0 .0) s .1, fill .ensures)
-    (load-ready (a .r .now) (a .parameters .now) (a .memory .now) (a .stack .now) (k .0 .0) s (b .result) (t .result) (b .ensures) (t .ensures) (if1 .left) (not-false (t .result) (if2 .left)))
+    (load-ready (a .r .now) (a .parameters .now) (a .memory .now) (a .stack .now) (k .0 .0) s (b .result) (t .result)
+    (b .ensures) (t .ensures) (if1 .left) (not-false (t .result) (if2 .left)))
 
 pub load-spec : {M : Type 1} → statement M
 load-spec =

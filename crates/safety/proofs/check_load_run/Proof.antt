@@ -12,8 +12,11 @@ unfolding joinedOf
 returns c =
     let if1 = c .if1 in
     let check = c .before .before .before .check in
-    let a = c .before .before .before .before .before .before .before .before .before .before .before .args in
-    (rw (← check .ensures, ne-eqb (check .result) 0 (if1 .taken)), not-accepted (a .r .now) (a .results .now) (a .workspace .now) (check .ensures) (if1 .taken))
+    let a = c .before .before .before .before .before .before .before .before .before .before .before .args in (
+      rw (← check .ensures, ne-eqb (check .result) 0 (if1 .taken)),
+      not-accepted (a .r .now) (a .results .now)
+          (a .workspace .now) (check .ensures) (if1 .taken),
+    )
 
 returns-2 : tie.Need-returns-2
 unfolding joinedOf
@@ -23,8 +26,11 @@ returns-2 c =
     let earlier = c .before .before .before .before .before .before .before .before in
     let if1 = earlier .if1 in
     let check = earlier .before .before .before .check in
-    let a = earlier .before .before .before .before .before .before .before .before .before .before .before .args in
-    (rw (← check .ensures, eq-eqb (check .result) 0 (if1 .left), ← load .ensures, loaded .given .1), not-loaded (a .r .now) (a .parameters .now) (a .memory .now) (a .stack .now) (load .ensures) (loaded .given .1))
+    let a = earlier .before .before .before .before .before .before .before .before .before .before .before .args in (
+      rw (← check .ensures, eq-eqb (check .result) 0 (if1 .left), ← load .ensures, loaded .given .1),
+      not-loaded (a .r .now)
+          (a .parameters .now) (a .memory .now) (a .stack .now) (load .ensures) (loaded .given .1),
+    )
 
 returns-3 : tie.Need-returns-3
 unfolding joinedOf
@@ -38,8 +44,12 @@ returns-3 c =
     let check = first .before .before .before .check in
     let start = first .before .before .before .before .before .before .before .before .before .before in
     let shared-slice-known = start .shared-slice-known in
-    let a = start .before .args in
-    (rw (← check .ensures, eq-eqb (check .result) 0 (if1 .left), ← load .ensures, loaded2 .given .1, ← run .ensures), answered-well (a .r .now) (a .results .now) (a .workspace .now) (a .parameters .now) (a .budget) (a .memory .now) (a .stack .now) (λ k. let h = shared-slice-known .given k .fits in omega arith) (check .ensures) (if1 .left) (load .ensures) (loaded2 .given .1) (run .ensures))
+    let a = start .before .args in (
+      rw (← check .ensures, eq-eqb (check .result) 0 (if1 .left), ← load .ensures, loaded2 .given .1, ← run .ensures),
+      answered-well (a .r .now) (a .results .now) (a .workspace .now) (a .parameters .now) (a .budget) (a .memory .now)
+          (a .stack .now) (λ k. let h = shared-slice-known .given k .fits in omega arith) (check .ensures) (if1 .left)
+          (load .ensures) (loaded2 .given .1) (run .ensures),
+    )
 
 pub check-load-run-spec : {M : Type 1} → statement M
 check-load-run-spec =

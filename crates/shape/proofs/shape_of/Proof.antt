@@ -1,4 +1,5 @@
--- `shape_of` meets its contract: each arm gives the shape of its instruction. Answers stand in the order of the code, returns last.
+-- `shape_of` meets its contract: each arm gives the shape of its instruction. Answers stand in the order of the code, returns
+-- last.
 use native.Mathlib.Omega.{arith}
 use borrow.Author.Needs.{needs}
 use Rattle.shape.proofs.shape_of.Statement.{statement}

@@ -44,7 +44,8 @@ loop-again c =
     let a = args in
     let l = loop in
     rw (word-at .ensures)
-    (followed-next (a .memory .now) (a .start) (a .fp) (a .calls) (l .frame) (l .counter) (l .inv) (loop-test .taken) (omega (arith, word-at .ensures, if1 .left, if2 .left)))
+    (followed-next (a .memory .now) (a .start) (a .fp) (a .calls) (l .frame) (l .counter) (l .inv) (loop-test .taken)
+    (omega (arith, word-at .ensures, if1 .left, if2 .left)))
 
 returns-3 : tie.Need-returns-3 Inv-loop μ-loop
 returns-3 c =

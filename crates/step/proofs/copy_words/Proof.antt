@@ -22,8 +22,12 @@ loop-again : tie.Need-loop-again Inv-loop μ-loop
 loop-again c =
     let set-word = c .before .before .set-word in
     let loop = c .before .before .before .before .before .before .loop in
-    let a = c .before .before .before .before .before .before .before .before .before .args in
-    (loop .inv .0, omega (arith, loop .inv .0), set-word .ensures ∙ (rw (loop .inv .2) (sets-one-more (a .dst .now) (a .src .now) (loop .i) (omega (arith, loop .inv .0)))))
+    let a = c .before .before .before .before .before .before .before .before .before .args in (
+      loop .inv .0,
+      omega (arith, loop .inv .0),
+      set-word .ensures ∙ (rw (loop .inv .2)
+          (sets-one-more (a .dst .now) (a .src .now) (loop .i) (omega (arith, loop .inv .0)))),
+    )
 
 same-length : tie.Need-same-length Inv-loop μ-loop
 same-length c = rw (c .before .loop .inv .2, length-sets)

@@ -27,7 +27,8 @@ returns-3 c =
     let copy-words = c .before .before .copy-words in
     let a = c .before .before .before .before .before .before .before .before .before .before .args in
     rw (← part-rest (a .stack .now) (a .low) (a .n) (omega arith))
-    (sets-within (a .memory .now) (a .a) (take (length (a .stack .now) - a .low) (drop (a .low) (a .stack .now))) (copy-words .last .0) (omega arith) (copy-words .ensures))
+    (sets-within (a .memory .now) (a .a) (take (length (a .stack .now) - a .low) (drop (a .low) (a .stack .now)))
+    (copy-words .last .0) (omega arith) (copy-words .ensures))
 
 returns-4 : tie.Need-returns-4
 returns-4 c =
@@ -35,7 +36,8 @@ returns-4 c =
     let a = c .before .before .before .before .before .before .before .before .before .before .args in
     let e : a .low + a .n - a .low ≡ a .n = omega arith in
     rw (← e)
-    (sets-within (a .memory .now) (a .a) (take (a .low + a .n - a .low) (drop (a .low) (a .stack .now))) (copy-words2 .last .0) (omega arith) (copy-words2 .ensures))
+    (sets-within (a .memory .now) (a .a) (take (a .low + a .n - a .low) (drop (a .low) (a .stack .now)))
+    (copy-words2 .last .0) (omega arith) (copy-words2 .ensures))
 
 pub move-words-spec : {M : Type 1} → statement M
 move-words-spec =

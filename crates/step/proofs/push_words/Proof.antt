@@ -26,7 +26,8 @@ returns-4 c =
     let push2 = c .before .before .before .before .before .before .push2 in
     let a = c .before .before .before .before .before .before .before .before .before .args in
     rw (push2 .given .1, set-word2 .ensures)
-    (sym (set-out (set (a .stack .now) (a .low) (push2 .given .0 .0)) (suc (a .low)) (push2 .given .0 .1 .0) (omega (arith, if1 .left, ap length (set-word2 .ensures)))))
+    (sym (set-out (set (a .stack .now) (a .low) (push2 .given .0 .0)) (suc (a .low)) (push2 .given .0 .1 .0)
+    (omega (arith, if1 .left, ap length (set-word2 .ensures)))))
 
 pub push-words-spec : {M : Type 1} → statement M
 push-words-spec =

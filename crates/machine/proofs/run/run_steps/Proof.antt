@@ -10,7 +10,8 @@ use Rattle.machine.proofs.run.run_steps.Tie as tie
 
 abbrev Inv-loop : tie.InvT-loop
 Inv-loop code areas budget memory₀ stack₀ machine₀ steps₀ memory stack machine steps =
-    Running (program code areas) budget (state (machine₀ .registers) memory₀ stack₀) (state (machine .registers) memory stack) steps
+    Running (program code areas) budget (state (machine₀ .registers) memory₀ stack₀) (state (machine .registers) memory stack)
+    steps
 
 abbrev μ-loop : tie.MeasureT-loop
 μ-loop code areas budget memory₀ stack₀ machine₀ steps₀ memory stack machine steps = budget - steps

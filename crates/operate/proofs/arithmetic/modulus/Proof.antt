@@ -1,5 +1,5 @@
--- `operate::arithmetic::modulus` meets its contract: the remainder is the modulus where it is 0 or has the divisor's sign, and else
--- their sum is.
+-- `operate::arithmetic::modulus` meets its contract: the remainder is the modulus where it is 0 or has the divisor's sign,
+-- and else their sum is.
 use mathlib.Core.Path.{_≡_, _∙_, sym, ap}
 use mathlib.Core.Bool.{not}
 use lib.IntN.{ℤ}
@@ -26,7 +26,8 @@ settled : (c : tie.After-signed2) (z : ℤ)
     → z ≡ modZ (toZ w64 (ofZ w64 (c .signed2 .result))) (toZ w64 (ofZ w64 (c .before .signed .result)))
     → signedWord z ≡ signedValue Modulus (c .before .before .args .x) (c .before .before .args .y)
 settled c z =
-    value-is Modulus (c .before .before .fits .x) (c .signed2 .ensures) (c .before .before .fits .y) (c .before .signed .ensures) z
+    value-is Modulus (c .before .before .fits .x) (c .signed2 .ensures) (c .before .before .fits .y)
+    (c .before .signed .ensures) z
     (ne-eqb (c .before .before .args .y) 0 (c .before .before .pre))
 
 rem-rest : tie.Need-rem-rest

@@ -1,5 +1,5 @@
--- `operate::arithmetic::unsigned_value` meets its contract: a sum or a product is tested for 2^32, a difference for 0, and a quotient
--- or a remainder is no larger than x.
+-- `operate::arithmetic::unsigned_value` meets its contract: a sum or a product is tested for 2^32, a difference for 0, and a
+-- quotient or a remainder is no larger than x.
 use native.Mathlib.Nat.{div-le-self, mod-le}
 use borrow.Author.Needs.{needs}
 use borrow.Author.Tests.{eq-eqb, ne-eqb}

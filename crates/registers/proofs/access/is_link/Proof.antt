@@ -33,7 +33,8 @@ returns-2 c =
     let loop = c .before .before .before .loop in
     let a = c .before .before .before .before .before .args in
     sym
-    (walked-near (a .m .now) (a .start) (a .fp) (a .calls) (a .a) (loop .frame) (loop .counter) (loop .inv) (loop-test .taken) (if1 .left) (omega arith))
+    (walked-near (a .m .now) (a .start) (a .fp) (a .calls) (a .a) (loop .frame) (loop .counter) (loop .inv) (loop-test .taken)
+    (if1 .left) (omega arith))
 
 loop-again : tie.Need-loop-again Inv-loop μ-loop
 loop-again c =
@@ -42,7 +43,8 @@ loop-again c =
     let loop = c .before .before .before .before .loop in
     let a = c .before .before .before .before .before .before .args in
     rw (word-at .ensures)
-    (walked-next (a .m .now) (a .start) (a .fp) (a .calls) (a .a) (loop .frame) (loop .counter) (loop .inv) (loop-test .taken) (omega arith))
+    (walked-next (a .m .now) (a .start) (a .fp) (a .calls) (a .a) (loop .frame) (loop .counter) (loop .inv) (loop-test .taken)
+    (omega arith))
 
 returns-3 : tie.Need-returns-3 Inv-loop μ-loop
 returns-3 c =

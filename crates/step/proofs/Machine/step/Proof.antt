@@ -22,7 +22,8 @@ within c =
     let a = decode .before .before .before .before .before .before .args in
     ends (a .code .now) (length (a .code .now)) (a .self .registers .pc) (sym (decode .decode .ensures) ∙ c .decoded .given .1) .1
 
-fitted : (c : tie.Start) → Fitting (c .args .areas) (state (c .args .self .registers) (c .args .memory .now) (c .args .stack .now))
+fitted : (c : tie.Start) → Fitting (c .args .areas) (state (c .args .self .registers) (c .args .memory .now)
+    (c .args .stack .now))
 fitted c = fitting (c .args .areas) (state (c .args .self .registers) (c .args .memory .now) (c .args .stack .now)) (c .pre .1)
 
 returns : tie.Need-returns
@@ -44,7 +45,8 @@ returns c =
 
 cast-execute : tie.Need-cast-execute
 cast-execute c =
-    let pre = c .before .before .before .before .before .before .before .before .before .before .before .before .before .before .pre in
+    let pre = c .before .before .before .before .before .before .before .before .before .before .before .before .before
+    .before .pre in
     record { fits = omega (arith, pre .0, within (c .before .before .before .before .before .before)) }
 
 execute-requires : tie.Need-execute-requires
