@@ -25,7 +25,7 @@ pub data Outcome : Type 0 where
   ended : ℕ → ℕ → ℕ → List ℕ → List ℕ → Outcome
 
 pub record Row : Type 0 where
-  pub given : Case
+  pub start : Case
   pub number : ℕ
   pub outcome : Outcome
 
@@ -62,7 +62,7 @@ checked c = checkOf (recordFor c) (0 ∷ []) (replicate (4 * length (c .code)) 0
 row : List ℕ → List ℕ → ℕ → ℕ → Outcome → Row
 row code parameters globals number outcome =
     record {
-      given = record { code = code; parameters = parameters; globals = globals };
+      start = record { code = code; parameters = parameters; globals = globals };
       number = number;
       outcome = outcome;
     }
@@ -91,5 +91,5 @@ table =
 -- Each case of the table has the number and the outcome that stand beside it.
 abbrev pub Stands : Type 0
 Stands =
-    (map (λ r. checked (r .given)) table ≡ map (λ r. r .number) table)
-    × (map (λ r. played (r .given)) table ≡ map (λ r. r .outcome) table)
+    (map (λ r. checked (r .start)) table ≡ map (λ r. r .number) table)
+    × (map (λ r. played (r .start)) table ≡ map (λ r. r .outcome) table)

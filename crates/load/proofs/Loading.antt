@@ -139,13 +139,13 @@ module _ (r ps m s : List ℕ) where
   number-taken true none e = rw (eq-eqb (recordNumber r) 0 none, e)
   number-taken false none e = rw (eq-eqb (recordNumber r) 0 none, e)
 
-  given : (n : ℕ) → loadNumber r ps m s ≡ n → (n ≡ 0 → ⊥) → loading (Refused n) m ≡ loadOf r ps m s
+  refuses : (n : ℕ) → loadNumber r ps m s ≡ n → (n ≡ 0 → ⊥) → loading (Refused n) m ≡ loadOf r ps m s
   unfolding loadOf
-  given n e some = rw (e, ne-eqb n 0 some)
+  refuses n e some = rw (e, ne-eqb n 0 some)
 
-  none-given : loadNumber r ps m s ≡ 0 → loading (Ready (startOf (programOf r))) (loadedMemory r ps (length m)) ≡ loadOf r ps m s
+  loads : loadNumber r ps m s ≡ 0 → loading (Ready (startOf (programOf r))) (loadedMemory r ps (length m)) ≡ loadOf r ps m s
   unfolding loadOf
-  none-given e = rw (eq-eqb (loadNumber r ps m s) 0 e)
+  loads e = rw (eq-eqb (loadNumber r ps m s) 0 e)
 
   -- A refused load leaves memory.
   pub refused-memory : (n : ℕ) → loadOf r ps m s .answer ≡ Refused n → loadOf r ps m s .memory ≡ m
@@ -156,7 +156,7 @@ module _ (r ps m s : List ℕ) where
   pub load-refused : (n : ℕ) → readingOf r ≡ NotRead n → loading (Refused n) m ≡ loadOf r ps m s
   load-refused n e =
       let k : (recordNumber r ≡ 0 → ⊥) × (n ≡ recordNumber r) = refused-number r n e in
-      given n (number-refused (k .0) ∙ sym (k .1)) (λ z. k .0 (sym (k .1) ∙ z))
+      refuses n (number-refused (k .0) ∙ sym (k .1)) (λ z. k .0 (sym (k .1) ∙ z))
 
   module _ (h : Header) (sound : readingOf r ≡ Sound h) where
     none : recordNumber r ≡ 0
@@ -167,7 +167,7 @@ module _ (r ps m s : List ℕ) where
 
     pub load-parameters : h .globals < length ps → loading (Refused 8) m ≡ loadOf r ps m s
     load-parameters l =
-        given 8
+        refuses 8
         (number-taken false none (rw (← sound-header r h sound .1, lt-leb (length ps) (h .globals) l)))
         (λ z. omega arith)
 
@@ -182,7 +182,7 @@ module _ (r ps m s : List ℕ) where
           (rw (areas, sound-header r h sound .1) at (k .0), omega (arith, k .0, k .1))
 
       pub load-sizes : t ≡ false → loading (Refused 8) m ≡ loadOf r ps m s
-      load-sizes f = given 8 (number-taken false none (taken ∙ f)) (λ z. omega arith)
+      load-sizes f = refuses 8 (number-taken false none (taken ∙ f)) (λ z. omega arith)
 
       pub load-ready : t ≡ true → loading (Ready (startOf (programOf r))) (loadedMemory r ps (length m)) ≡ loadOf r ps m s
-      load-ready f = none-given (number-taken true none (taken ∙ f))
+      load-ready f = loads (number-taken true none (taken ∙ f))

@@ -126,8 +126,8 @@ module _ (r : List ℕ) (none : sizeNumber r ≡ 0) where
   unfolding droppedWords
   dropped-stored places =
       let first = wordPlaces (versionsAt (headerOf r)) (lost r) in
-      let gone = series-length (λ (i : ℕ). i) 4 (versionsAt (headerOf r)) (lost r) in
+      let words = series-length (λ (i : ℕ). i) 4 (versionsAt (headerOf r)) (lost r) in
       rw
       (sets-behind (sets places 0 first) (lost r) (lost r + 2 * (headerOf r .sources / 2 - length (kept r)))
       (droppedPairs r (headerOf r)) (odd r) (omega (arith, m .counted)))
-      (sets-behind places 0 (lost r) first (droppedPairs r (headerOf r) ++ odd r) (omega (arith, gone)))
+      (sets-behind places 0 (lost r) first (droppedPairs r (headerOf r) ++ odd r) (omega (arith, words)))

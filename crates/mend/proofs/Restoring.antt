@@ -104,8 +104,8 @@ module _ (r : List ℕ) (none : sizeNumber r ≡ 0) where
       rw (sound-as (mendedRecord r) (newHeader r), versions-place r none, all)
       (sound-alike (h .versions) (sym (sound-as r h) ∙ e) (old-issue all))
   version-with false e =
-      let gone : left r ≡ 0 = rw e in
-      rw (sound-as (mendedRecord r) (newHeader r), gone)
+      let none : left r ≡ 0 = rw e in
+      rw (sound-as (mendedRecord r) (newHeader r), none)
 
   source-sound : sourceSound (mendedRecord r) (newHeader r) ≡ true
   unfolding sourceSound sourceOffsets keptPairs

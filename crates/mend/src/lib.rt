@@ -151,14 +151,14 @@ fn write_places(r: &[u8], h: Header, versions: u32, pairs: u32, places: &mut [u3
     requires { ⌜ pairs ≡ length (keptPairs (now r) h) ⌝ }
     ensures { λ _. ⌜ now (places .exit) ≡ sets (now (places .entry)) 0 (droppedWords (now (r .entry))) ⌝ }
 {
-    let gone = h.versions - versions;
+    let lost = h.versions - versions;
     let table = header::sources_at(h);
     let whole = h.sources / 2;
-    list_words(places, 0, header::versions_at(h), gone);
-    list_pairs(places, gone as usize, r, h);
+    list_words(places, 0, header::versions_at(h), lost);
+    list_pairs(places, lost as usize, r, h);
     list_words(
         places,
-        (gone + 2 * (whole - pairs)) as usize,
+        (lost + 2 * (whole - pairs)) as usize,
         table + 8 * (whole as usize),
         h.sources % 2,
     );

@@ -27,10 +27,10 @@ unfolding ranPage
 ran f w₀ ps m₀ s₀ out₀ e g h j p = rw (← e, ← g, ← h, ← j, ← p) refl
 
 -- As many parameters as the run file gives are the first of those read.
-pub given-parameters : (f : List ℕ) {arr : List ℕ} (n : ℕ) {k : ℕ} → arr ≡ wordsFrom f (7 + resultsCount f) n → k ≡ parametersCount f → k ≤ n
+pub parameters-read : (f : List ℕ) {arr : List ℕ} (n : ℕ) {k : ℕ} → arr ≡ wordsFrom f (7 + resultsCount f) n → k ≡ parametersCount f → k ≤ n
     → take k arr ≡ parametersOf f
 unfolding parametersOf
-given-parameters f n {k} e g h =
+parameters-read f n {k} e g h =
     rw (e) (series-part (wordAt f) 4 (7 + resultsCount f) k n h ∙ ap (λ (i : ℕ). wordsFrom f (7 + resultsCount f) i) g)
 
 pub count-small : (f : List ℕ) {k : ℕ} → k ≡ parametersCount f → Bytes f → k ≤ 255

@@ -80,8 +80,8 @@ module _ (U : Subject) (C : Checked U) where
       let n : ℕ = parametersIn (U .code) d in
       let T : Taken (popWords n l) (λ rest. next gets pushWords (resultsIn (U .results) d) rest ∷ []) out =
       taken (popWords n l) _ out w in
-      let gone = popped-words n l (T .rest) (T .found) in
-      let size = popped-size n l (T .rest) gone in
+      let left = popped-words n l (T .rest) (T .found) in
+      let size = popped-size n l (T .rest) left in
       let share : q .height - n ≡ shareOf calls + length (T .rest) = omega (arith, h, size) in
       record {
         procedure = p;
@@ -91,5 +91,5 @@ module _ (U : Subject) (C : Checked U) where
         holds = holds-words n holds-none;
         suspended =
             a-caller (T .rest) (goes (pushWords (resultsIn (U .results) d) (T .rest)) (among-taken T next _ here)) share
-            (holds-under n l (T .rest) gone holds) p S;
+            (holds-under n l (T .rest) left holds) p S;
       }

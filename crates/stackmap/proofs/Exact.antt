@@ -14,7 +14,7 @@ use Rattle.stackmap.specs.Walk.{State, blank, waiting, done, States, slo
 use Rattle.stackmap.specs.Theorems.{WellCut, mapIn, FindsMaps, RefutesMaps, FindsReached, HasReached}
 use Rattle.stackmap.proofs.Counts.{undone-most}
 use Rattle.stackmap.proofs.Reaching.{reached-in}
-use Rattle.stackmap.proofs.Placing.{owner, owned, in-given, in-told}
+use Rattle.stackmap.proofs.Placing.{owner, owned, in-map, in-told}
 use Rattle.stackmap.proofs.Handing.{Ends, broken, ends-map, ends-some}
 use Rattle.stackmap.proofs.Walking.{Good, Refuted, walking}
 use Rattle.stackmap.proofs.Entering.{first-entered, first-has}
@@ -45,16 +45,16 @@ pub final : (U : Subject) → WellCut U → (σ : States) → walkOf U ≡ some 
 final U S σ e = ends-some (subst (Ends (Refuted U) (Final U)) e (whole U S))
 
 -- What is given and does not wait is done.
-given-done : (s : State) (l : List Slot) → ((k : List Slot) → s ≡ waiting k → ⊥) → slotsIn s ≡ some l → s ≡ done l
-given-done blank l h e = cc
-given-done (waiting k) l h e = absurd (h k refl)
-given-done (done k) l h e = cc
+slots-done : (s : State) (l : List Slot) → ((k : List Slot) → s ≡ waiting k → ⊥) → slotsIn s ≡ some l → s ≡ done l
+slots-done blank l h e = cc
+slots-done (waiting k) l h e = absurd (h k refl)
+slots-done (done k) l h e = cc
 
 pub finds-maps : FindsMaps
 finds-maps U S σ e p h =
     let F = final U S σ e in
     record {
-      first = in-given U p σ (entryAt (U .code) p) (firstSlots U p) (S .entries p h) (F .entries p h);
+      first = in-map U p σ (entryAt (U .code) p) (firstSlots U p) (S .entries p h) (F .entries p h);
       obeys = λ at l g.
           let t = in-told U p σ at l g in
           obeyed F at l (t .0) (t .1);
@@ -64,7 +64,7 @@ finds-maps U S σ e p h =
         → Obeys U p (mapIn U p σ) at l
     obeyed F at l s g =
         let same : owner U at ≡ p = owned U p at s in
-        let P = F .good .passed at l (given-done (σ at) l (F .idle at) g) in
+        let P = F .good .passed at l (slots-done (σ at) l (F .idle at) g) in
         record {
           start = s;
           short = F .good .sane at l g .short;

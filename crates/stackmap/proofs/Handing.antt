@@ -11,7 +11,7 @@ use borrow.Author.Tests.{leb-true, le-leb}
 use Rattle.layout.specs.Cut.{updated, startsIn}
 use Rattle.stackmap.specs.Slots.{Slot, sameSlots}
 use Rattle.stackmap.specs.Ways.{Subject, Way, _gets_}
-use Rattle.stackmap.specs.StackMap.{Map, GivesEach, given-all, given-one, IsMap, Among, here, there, Reached}
+use Rattle.stackmap.specs.StackMap.{Map, GivesEach, gives-none, gives-one, IsMap, Among, here, there, Reached}
 use Rattle.stackmap.specs.Walk.{State, blank, waiting, done, States, mapOf, taken, thenHand, handedAll}
 use Rattle.stackmap.specs.Theorems.{mapIn}
 use Rattle.layout.proofs.Updates.{updated-here}
@@ -19,7 +19,7 @@ use Rattle.stackmap.proofs.Comparing.{slots-equal, slots-same}
 use Rattle.stackmap.proofs.Counts.{Stays}
 use Rattle.stackmap.proofs.Reaching.{reached-in}
 use Rattle.stackmap.proofs.Placing.{AllPlaced, placed, placed-reached, placed-update, Later, later-self}
-use Rattle.stackmap.proofs.Placing.{later-later, blank-later, waiting-early, in-given, gives-later}
+use Rattle.stackmap.proofs.Placing.{later-later, blank-later, waiting-early, in-map, gives-later}
 
 -- A computation with failure: what it tells when it breaks, and of where it ends.
 pub data Ends (Bad : Type 0) (Good : States → Type 0) : Option States → Type 0 where
@@ -52,7 +52,7 @@ pub record Handed (U : Subject) (p : ℕ) (ws : List Way) (σ τ : States) : Typ
 module _ (U : Subject) (p : ℕ) (σ : States) (P : AllPlaced U σ) (t : ℕ) (l : List Slot) (r : Reached U p t l) where
   module _ (h : startsIn (U .marks) p t ≡ true) where
     had : mapOf σ t ≡ some l → Handed U p (t gets l ∷ []) σ σ
-    had e = record { sane = P; later = later-self σ; early = λ at k d. d; gives = given-one (in-given U p σ t l h e) given-all }
+    had e = record { sane = P; later = later-self σ; early = λ at k d. d; gives = gives-one (in-map U p σ t l h e) gives-none }
 
     took : length l ≤ 255 → σ t ≡ blank → Handed U p (t gets l ∷ []) σ (updated σ t (waiting l))
     took s e =
@@ -60,7 +60,7 @@ module _ (U : Subject) (p : ℕ) (σ : States) (P : AllPlaced U σ) (t : ℕ) (l
           sane = placed-update U σ t l P (placed U p t l h s r);
           later = blank-later σ t l e;
           early = waiting-early σ t l;
-          gives = given-one (in-given U p (updated σ t (waiting l)) t l h (rw (updated-here σ t (waiting l)))) given-all;
+          gives = gives-one (in-map U p (updated σ t (waiting l)) t l h (rw (updated-here σ t (waiting l)))) gives-none;
         }
 
     met : (k : List Slot) → mapOf σ t ≡ some k → (b : Bool) → sameSlots k l ≡ b
@@ -87,7 +87,7 @@ module _ (U : Subject) (p : ℕ) (σ : States) (P : AllPlaced U σ) (t : ℕ) (l
       true≢false (rw (o .start, le-leb (length l) 255 (o .short)) at e)
 
 gives-first : {π : Map} {w : Way} {ws : List Way} → GivesEach π (w ∷ []) → GivesEach π ws → GivesEach π (w ∷ ws)
-gives-first (given-one e g) h = given-one e h
+gives-first (gives-one e g) h = gives-one e h
 
 -- One way, and the others after it.
 joined : (U : Subject) (p : ℕ) (w : Way) (ws : List Way) (σ τ υ : States) → Handed U p (w ∷ []) σ τ → Handed U p ws τ υ
@@ -103,7 +103,7 @@ joined U p w ws σ τ υ H K =
 pub handing : (U : Subject) (p : ℕ) (ws : List Way) (σ : States) → AllPlaced U σ
     → ((t : ℕ) (l : List Slot) → Among t l ws → Reached U p t l)
     → Ends (NoMap U p) (Handed U p ws σ) (handedAll U p ws σ)
-handing U p [] σ P R = went (record { sane = P; later = later-self σ; early = λ at l e. e; gives = given-all })
+handing U p [] σ P R = went (record { sane = P; later = later-self σ; early = λ at l e. e; gives = gives-none })
 handing U p (t gets l ∷ ws) σ P R =
     ends-then (handedAll U p ws) (one U p σ P t l (R t l here) (startsIn (U .marks) p t && leb (length l) 255) refl)
     (λ τ H. ends-map (λ b. b) (λ υ K. joined U p (t gets l) ws σ τ υ H K)

@@ -11,7 +11,7 @@ use borrow.Author.Tests.{eqb-true}
 use Rattle.layout.specs.Cut.{updated, startsIn}
 use Rattle.stackmap.specs.Slots.{Slot}
 use Rattle.stackmap.specs.Ways.{Subject, Way}
-use Rattle.stackmap.specs.StackMap.{Map, GivesEach, given-all, given-one, Reached}
+use Rattle.stackmap.specs.StackMap.{Map, GivesEach, gives-none, gives-one, Reached}
 use Rattle.stackmap.specs.Walk.{State, blank, waiting, done, States, slotsIn, mapOf}
 use Rattle.stackmap.specs.Theorems.{mapIn}
 use Rattle.layout.proofs.Updates.{Change, changed, spared, change}
@@ -101,9 +101,9 @@ waiting-early σ t l at k e = by (change σ t (waiting l) at)
     by (spared s q) = sym q ∙ e
 
 -- What lies in procedure p's region.
-pub in-given : (U : Subject) (p : ℕ) (σ : States) (at : ℕ) (l : List Slot) → startsIn (U .marks) p at ≡ true → mapOf σ at ≡ some l
+pub in-map : (U : Subject) (p : ℕ) (σ : States) (at : ℕ) (l : List Slot) → startsIn (U .marks) p at ≡ true → mapOf σ at ≡ some l
     → mapIn U p σ at ≡ some l
-in-given U p σ at l h e = rw h e
+in-map U p σ at l h e = rw h e
 
 pub in-told : (U : Subject) (p : ℕ) (σ : States) (at : ℕ) (l : List Slot) → mapIn U p σ at ≡ some l
     → (startsIn (U .marks) p at ≡ true) × (mapOf σ at ≡ some l)
@@ -120,6 +120,6 @@ only false f e = e
 
 pub gives-later : (U : Subject) (p : ℕ) (σ τ : States) {ws : List Way} → Later σ τ → GivesEach (mapIn U p σ) ws
     → GivesEach (mapIn U p τ) ws
-gives-later U p σ τ L given-all = given-all
-gives-later U p σ τ L (given-one {t} {l} e g) =
-    given-one (only (startsIn (U .marks) p t) (L .kept t l) e) (gives-later U p σ τ L g)
+gives-later U p σ τ L gives-none = gives-none
+gives-later U p σ τ L (gives-one {t} {l} e g) =
+    gives-one (only (startsIn (U .marks) p t) (L .kept t l) e) (gives-later U p σ τ L g)

@@ -5,11 +5,11 @@ use mathlib.Core.Path.{_≡_, subst}
 use Prim.Native.Nat.{ℕ}
 use Rattle.stackmap.specs.Slots.{Slot}
 use Rattle.stackmap.specs.Ways.{Subject, Way}
-use Rattle.stackmap.specs.StackMap.{Map, GivesEach, given-one, IsMap, Among, here, there, Reached, entered, stepped}
+use Rattle.stackmap.specs.StackMap.{Map, GivesEach, gives-one, IsMap, Among, here, there, Reached, entered, stepped}
 
 gives-among : {π : Map} {t : ℕ} {l : List Slot} {ws : List Way} → GivesEach π ws → Among t l ws → π t ≡ some l
-gives-among (given-one e g) here = e
-gives-among (given-one e g) (there a) = gives-among g a
+gives-among (gives-one e g) here = e
+gives-among (gives-one e g) (there a) = gives-among g a
 
 pub reached-in : (U : Subject) (p : ℕ) (π : Map) → IsMap U p π → (at : ℕ) (l : List Slot) → Reached U p at l → π at ≡ some l
 reached-in U p π h at l entered = h .first

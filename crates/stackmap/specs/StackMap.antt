@@ -29,8 +29,8 @@ Map = ℕ → Option (List Slot)
 
 -- "gives every successor exactly that list".
 pub data GivesEach (π : Map) : List Way → Type 0 where
-  given-all : GivesEach π []
-  given-one : {t : ℕ} {l : List Slot} {ws : List Way} → π t ≡ some l → GivesEach π ws → GivesEach π (t gets l ∷ ws)
+  gives-none : GivesEach π []
+  gives-one : {t : ℕ} {l : List Slot} {ws : List Way} → π t ≡ some l → GivesEach π ws → GivesEach π (t gets l ∷ ws)
 
 -- What a map has at an offset is as it must be: a start of the region, at most 255 slots, and its ways out given.
 pub record Obeys (U : Subject) (p : ℕ) (π : Map) (at : ℕ) (l : List Slot) : Type 0 where

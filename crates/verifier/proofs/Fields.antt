@@ -9,7 +9,7 @@ use Rattle.layout.specs.Workspace.{marksIn}
 use Rattle.layout.proofs.Updates.{Spares, spares-then, spares-set}
 use Rattle.stackmap.specs.Slots.{Slot, topOrigin}
 use Rattle.stackmap.specs.Walk.{State, waiting}
-use Rattle.verifier.specs.Handing.{given}
+use Rattle.verifier.specs.Handing.{withList}
 use Rattle.verifier.proofs.Coherence.{Shown}
 
 -- v is w but for the first three halfwords of offset t.
@@ -19,9 +19,9 @@ Within t = Spares (λ (i : ℕ). 4 * t ≤ i → i < 4 * t + 3 → ⊥)
 pub within-set : (t : ℕ) (w : List ℕ) (i x : ℕ) → 4 * t ≤ i → i < 4 * t + 3 → Within t w (set w i x)
 within-set t w i x low high = spares-set w i x λ j out e. out (omega arith) (omega arith)
 
-pub within-given : (t : ℕ) (w : List ℕ) (height origin : ℕ) → Within t w (given w t height origin)
-unfolding given
-within-given t w height origin =
+pub within-list : (t : ℕ) (w : List ℕ) (height origin : ℕ) → Within t w (withList w t height origin)
+unfolding withList
+within-list t w height origin =
     spares-then (within-set t w (4 * t) (height + 1) (omega arith) (omega arith))
     (spares-then (within-set t (set w (4 * t) (height + 1)) (4 * t + 1) origin (omega arith) (omega arith))
     (within-set t (set (set w (4 * t) (height + 1)) (4 * t + 1) origin) (4 * t + 2) 1 (omega arith) (omega arith)))
@@ -34,9 +34,9 @@ module _ (t : ℕ) (w : List ℕ) (l : List Slot) (room : 4 * t + 4 ≤ length w
   abbrev second : List ℕ
   second = set first (4 * t + 1) (topOrigin l)
 
-  pub given-shown : Shown (given w t (length l) (topOrigin l)) t (waiting l)
-  unfolding given
-  given-shown =
+  pub list-shown : Shown (withList w t (length l) (topOrigin l)) t (waiting l)
+  unfolding withList
+  list-shown =
       record {
         height =
             getD-set-other second (4 * t + 2) (4 * t) 1 0 (λ e. omega arith)

@@ -23,12 +23,12 @@ use Rattle.stackmap.proofs.Placing.{Grows, grows-change}
 use Rattle.compact_ways.specs.declared.Ways.{Ways}
 use Rattle.compact_ways.specs.Ways.{way}
 use Rattle.verifier.specs.declared.hand.Handed.the-variants.{Stuck, From}
-use Rattle.verifier.specs.Handing.{Handing, handing, given, least, takenTop}
+use Rattle.verifier.specs.Handing.{Handing, handing, withList, least, takenTop}
 use Rattle.verifier.specs.Handing.{handedTop, thenHanding, handedTwo, handedTargets, handedWays}
 use Rattle.verifier.proofs.Coherence.{Coherent, Shown, topOf, compactOf, Stands, broken, ended}
 use Rattle.verifier.proofs.Coherence.{one, two, many, AllCoherent, no-way, a-way}
 use Rattle.verifier.proofs.Pairs.{pair-determines, coherent-grows}
-use Rattle.verifier.proofs.Fields.{within-given, given-shown}
+use Rattle.verifier.proofs.Fields.{within-list, list-shown}
 use Rattle.verifier.proofs.Keeping.{Sim, sim-change, all-grow}
 
 -- Both broke, or both went on and are still alike.
@@ -87,11 +87,11 @@ module _ (U : Subject) (S : WellCut U) (p : ℕ) where
     module _ (h : t < length (U .code)) where
       -- A blank offset takes the list.
       took : σ t ≡ blank
-          → Parallel U w σ (handing (From (least t from)) (given w t (length k) (topOrigin k))) (some (updated σ t (waiting k)))
+          → Parallel U w σ (handing (From (least t from)) (withList w t (length k) (topOrigin k))) (some (updated σ t (waiting k)))
       took b =
-          both-go (within-given t w (length k) (topOrigin k) .long) (grows-change σ t (waiting k) k refl none-yet)
-          (sim-change t (waiting k) k (least t from) X h (within-given t w (length k) (topOrigin k))
-          (given-shown t w k (omega (arith, X .held .room))) refl none-yet c (λ at l b e. still at l b e (change σ t (waiting k) at)))
+          both-go (within-list t w (length k) (topOrigin k) .long) (grows-change σ t (waiting k) k refl none-yet)
+          (sim-change t (waiting k) k (least t from) X h (within-list t w (length k) (topOrigin k))
+          (list-shown t w k (omega (arith, X .held .room))) refl none-yet c (λ at l b e. still at l b e (change σ t (waiting k) at)))
         where
           none-yet : (l : List Slot) → mapOf σ t ≡ some l → l ≡ k
           none-yet l e = cc

@@ -16,10 +16,10 @@ use Rattle.stackmap.specs.Theorems.{WellCut}
 use Rattle.stackmap.proofs.Entering.{entering}
 use Rattle.stackmap.proofs.Pushing.{words-height, pushed-origin}
 use Rattle.stackmap.proofs.Placing.{told-change}
-use Rattle.verifier.specs.Handing.{given, entryGiven, entriesGiven}
+use Rattle.verifier.specs.Handing.{withList, withEntry, withEntries}
 use Rattle.verifier.proofs.Coherence.{Coherent, on-nothing, Shown}
 use Rattle.verifier.proofs.Passing.{pushed}
-use Rattle.verifier.proofs.Fields.{Within, within-given, given-shown}
+use Rattle.verifier.proofs.Fields.{Within, within-list, list-shown}
 use Rattle.verifier.proofs.Keeping.{Held, held-change, Sim}
 
 -- Only lists that are coherent with any map have been given.
@@ -30,38 +30,38 @@ record Fresh (U : Subject) (start w : List ℕ) (σ : States) : Type 0 where
 
 -- An offset is given n words.
 module _ (U : Subject) (start w : List ℕ) (σ : States) (F : Fresh U start w σ) (t n : ℕ) (h : t < length (U .code)) where
-  here : Within t w (given w t n 0)
-  here = within-given t w n 0
+  here : Within t w (withList w t n 0)
+  here = within-list t w n 0
 
-  words-shown : Shown (given w t n 0) t (waiting (pushWords n []))
+  words-shown : Shown (withList w t n 0) t (waiting (pushWords n []))
   words-shown =
-      rw (words-height n, pushed-origin n []) at (given-shown t w (pushWords n []) (omega (arith, F .held .room)))
+      rw (words-height n, pushed-origin n []) at (list-shown t w (pushWords n []) (omega (arith, F .held .room)))
 
-  words-given : Fresh U start (given w t n 0) (updated σ t (waiting (pushWords n [])))
-  words-given =
+  words-wait : Fresh U start (withList w t n 0) (updated σ t (waiting (pushWords n [])))
+  words-wait =
       record {
         kept = here .long ∙ F .kept;
-        held = held-change U w (given w t n 0) σ t (waiting (pushWords n [])) (pushWords n []) here h refl (F .held) words-shown;
+        held = held-change U w (withList w t n 0) σ t (waiting (pushWords n [])) (pushWords n []) here h refl (F .held) words-shown;
         free = told-change σ t (waiting (pushWords n [])) (pushWords n []) refl
             (λ (at : ℕ) (l : List Slot). (π : Map) → Coherent (U .code) π l) (λ π. pushed n [] on-nothing) (F .free);
       }
 
 module _ (U : Subject) (S : WellCut U) (start : List ℕ) where
   enter-one : (p : ℕ) (w : List ℕ) (σ : States) → p < entryCount (U .code) → Fresh U start w σ
-      → Fresh U start (entryGiven (U .code) p w) (entering U p σ)
-  unfolding entryGiven
+      → Fresh U start (withEntry (U .code) p w) (entering U p σ)
+  unfolding withEntry
   enter-one p w σ b F =
-      words-given U start w σ F (entryAt (U .code) p) (parametersIn (U .code) p)
+      words-wait U start w σ F (entryAt (U .code) p) (parametersIn (U .code) p)
       (S .within p (entryAt (U .code) p) (S .entries p b))
 
   enter-all : (n p : ℕ) (w : List ℕ) (σ : States) → p + n ≤ entryCount (U .code) → Fresh U start w σ
-      → Fresh U start (entriesGiven (U .code) p n w) (entriesWait U p n σ)
+      → Fresh U start (withEntries (U .code) p n w) (entriesWait U p n σ)
   enter-all zero p w σ b F = enter-one 0 w σ (S .counted) F
   enter-all (suc n) p w σ b F =
-      enter-all n (p + 1) (entryGiven (U .code) p w) (entering U p σ) (omega arith) (enter-one p w σ (omega arith) F)
+      enter-all n (p + 1) (withEntry (U .code) p w) (entering U p σ) (omega arith) (enter-one p w σ (omega arith) F)
 
 abbrev pub firstSpace : List ℕ → List ℕ → List ℕ
-firstSpace code w = entriesGiven code 1 (entryCount code - 1) w
+firstSpace code w = withEntries code 1 (entryCount code - 1) w
 
 pub start-alike : (U : Subject) (w : List ℕ) → WellCut U → 4 * length (U .code) ≤ length w
     → ((at : ℕ) → at < length (U .code) → Shown w at blank) → ((at : ℕ) → marksIn w (length (U .code)) at ≡ U .marks at)

@@ -18,7 +18,7 @@ use Rattle.compact.specs.declared.top.Top.{Top}
 use Rattle.compact_ways.specs.Ways.{way}
 use Rattle.verifier.specs.declared.hand.Handed.{Handed}
 use Rattle.verifier.specs.declared.hand.Handed.the-variants.{From}
-use Rattle.verifier.specs.Handing.{handing, thenHanding, handedTop, handedTargets, visitedTop, firstWaiting, walking, thenWalk, walkTop, entryGiven, entriesGiven}
+use Rattle.verifier.specs.Handing.{handing, thenHanding, handedTop, handedTargets, visitedTop, firstWaiting, walking, thenWalk, walkTop, withEntry, withEntries}
 
 -- A place outside of the code has mark 0, which is no start's.
 pub start-near : (w : List ℕ) (size p place : ℕ) → startsIn (marksIn w size) p place ≡ true → place < size
@@ -81,19 +81,19 @@ module _ {code results before w : List ℕ} {from k : ℕ} (r : Walked code resu
 
 -- The entries of the procedures from 1 and before p wait.
 pub record Entered (code before w : List ℕ) (p : ℕ) : Type 0 where
-  pub rest : entriesGiven code p (entryCount code - p) w ≡ entriesGiven code 1 (entryCount code - 1) before
+  pub rest : withEntries code p (entryCount code - p) w ≡ withEntries code 1 (entryCount code - 1) before
   pub kept : length w ≡ length before
 
 pub entered-start : {code w : List ℕ} → Entered code w w 1
 entered-start = record { rest = refl; kept = refl }
 
 module _ {code before w : List ℕ} {p : ℕ} (r : Entered code before w p) where
-  pub entered-last : entryCount code ≤ p → entryGiven code 0 w ≡ entriesGiven code 1 (entryCount code - 1) before
+  pub entered-last : entryCount code ≤ p → withEntry code 0 w ≡ withEntries code 1 (entryCount code - 1) before
   entered-last h = rw (sub-eq-zero-of-le h) at (r .rest)
 
   module _ (h : p < entryCount code) where
-    entered-turn : entriesGiven code (p + 1) (entryCount code - (p + 1)) (entryGiven code p w) ≡ entriesGiven code 1 (entryCount code - 1) before
+    entered-turn : withEntries code (p + 1) (entryCount code - (p + 1)) (withEntry code p w) ≡ withEntries code 1 (entryCount code - 1) before
     entered-turn = rw (one-left p (entryCount code) h) at (r .rest)
 
-    pub entered-next : {w′ : List ℕ} → w′ ≡ entryGiven code p w → length w′ ≡ length w → Entered code before w′ (p + 1)
+    pub entered-next : {w′ : List ℕ} → w′ ≡ withEntry code p w → length w′ ≡ length w → Entered code before w′ (p + 1)
     entered-next e l = record { rest = rw e entered-turn; kept = l ∙ r .kept }

@@ -32,8 +32,8 @@ abbrev pub handing : Handed → List ℕ → Handing
 handing a w = record { answer = a; workspace = w }
 
 -- An offset is given its list and waits.
-unfoldable pub given : List ℕ → ℕ → ℕ → ℕ → List ℕ
-given w t height origin = set (set (set w (4 * t) (height + 1)) (4 * t + 1) origin) (4 * t + 2) 1
+unfoldable pub withList : List ℕ → ℕ → ℕ → ℕ → List ℕ
+withList w t height origin = set (set (set w (4 * t) (height + 1)) (4 * t + 1) origin) (4 * t + 2) 1
 
 abbrev pub least : ℕ → ℕ → ℕ
 least a b = cond (ltb a b) a b
@@ -41,7 +41,7 @@ least a b = cond (ltb a b) a b
 unfoldable pub takenTop : List ℕ → Way → ℕ → Handing
 takenTop w a from =
     cond (eqb (getD w (4 * a .place) 0) 0)
-    (handing (From (least (a .place) from)) (given w (a .place) (a .height) (a .origin)))
+    (handing (From (least (a .place) from)) (withList w (a .place) (a .height) (a .origin)))
     (cond (eqb (getD w (4 * a .place) 0) (a .height + 1) && eqb (getD w (4 * a .place + 1) 0) (a .origin)) (handing (From from) w)
     (handing Stuck w))
 
@@ -112,12 +112,12 @@ walkTop code results (suc n) from w =
     visitFirst code results (walkTop code results n) (firstWaiting w from (length code - from)) w
 
 -- The entries wait.
-unfoldable pub entryGiven : List ℕ → ℕ → List ℕ → List ℕ
-entryGiven code p w = given w (entryAt code p) (parametersIn code p) 0
+unfoldable pub withEntry : List ℕ → ℕ → List ℕ → List ℕ
+withEntry code p w = withList w (entryAt code p) (parametersIn code p) 0
 
-abbrev pub entriesGiven : List ℕ → ℕ → ℕ → List ℕ → List ℕ
-entriesGiven code p zero w = entryGiven code 0 w
-entriesGiven code p (suc n) w = entriesGiven code (p + 1) n (entryGiven code p w)
+abbrev pub withEntries : List ℕ → ℕ → ℕ → List ℕ → List ℕ
+withEntries code p zero w = withEntry code 0 w
+withEntries code p (suc n) w = withEntries code (p + 1) n (withEntry code p w)
 
 unfoldable pub walkedTop : List ℕ → List ℕ → List ℕ → Walking
-walkedTop code results w = walkTop code results (length code) 0 (entriesGiven code 1 (entryCount code - 1) w)
+walkedTop code results w = walkTop code results (length code) 0 (withEntries code 1 (entryCount code - 1) w)

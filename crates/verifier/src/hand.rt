@@ -3,7 +3,7 @@ ghost use mathlib.Core.Path.{_≡_};
 ghost use Prim.Native.Nat.{_≤_, _<_};
 ghost use lib.ListN.{length};
 ghost use Rattle.successors.specs.Successors.{tableSize, tableFrom, switchTargets};
-ghost use Rattle.verifier.specs.Handing.{handing, given, takenTop, handedTop, handedTwo, handedTargets, handedWays};
+ghost use Rattle.verifier.specs.Handing.{handing, withList, takenTop, handedTop, handedTwo, handedTargets, handedWays};
 use compact::top::Top;
 use compact_ways::Way;
 use compact_ways::Ways;
@@ -20,7 +20,7 @@ pub enum Handed {
 pub fn give(w: &mut [u16], place: usize, height: usize, origin: u16)
     requires { ⌜ place < 65536 ⌝ }
     requires { ⌜ height ≤ 255 ⌝ }
-    ensures { λ _. ⌜ now (w .exit) ≡ given (now (w .entry)) place height origin ⌝ }
+    ensures { λ _. ⌜ now (w .exit) ≡ withList (now (w .entry)) place height origin ⌝ }
 {
     workspace::set_half(w, 4 * place, (height + 1) as u16);
     workspace::set_half(w, 4 * place + 1, origin);

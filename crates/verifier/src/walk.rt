@@ -3,7 +3,7 @@ ghost use mathlib.Core.Path.{_≡_};
 ghost use Prim.Native.Nat.{_≤_, _<_, _-_};
 ghost use lib.ListN.{length};
 ghost use Rattle.entries.specs.Entries.{entryCount};
-ghost use Rattle.verifier.specs.Handing.{handing, visitedTop, firstWaiting, walking, walkTop, entryGiven, entriesGiven, walkedTop};
+ghost use Rattle.verifier.specs.Handing.{handing, visitedTop, firstWaiting, walking, walkTop, withEntry, withEntries, walkedTop};
 use crate::hand;
 use crate::hand::Handed;
 use compact::top::Top;
@@ -81,14 +81,14 @@ fn walk(code: &[u8], results: &[u8], w: &mut [u16]) -> bool
 
 // A procedure's entry is given its parameter words and waits.
 fn give_entry(code: &[u8], w: &mut [u16], p: u32)
-    ensures { λ _. ⌜ now (w .exit) ≡ entryGiven (now (code .entry)) p (now (w .entry)) ⌝ }
+    ensures { λ _. ⌜ now (w .exit) ≡ withEntry (now (code .entry)) p (now (w .entry)) ⌝ }
 {
     let parameters = compact_ways::callee_parameters(code, p) as usize;
     hand::give(w, entries::entry_at(code, p) as usize, parameters, 0);
 }
 
 fn give_entries(code: &[u8], w: &mut [u16])
-    ensures { λ _. ⌜ now (w .exit) ≡ entriesGiven (now (code .entry)) 1 (entryCount (now (code .entry)) - 1) (now (w .entry)) ⌝ }
+    ensures { λ _. ⌜ now (w .exit) ≡ withEntries (now (code .entry)) 1 (entryCount (now (code .entry)) - 1) (now (w .entry)) ⌝ }
 {
     let count = entries::entry_count(code);
     for p in 1..count {

@@ -10,36 +10,36 @@ use borrow.Author.Tests.{leb-true, ne-eqb}
 use Rattle.words.specs.Refusal.{Test, _when_, refusal}
 use Rattle.words.proofs.Tests.{either}
 
--- None of the tests is given.
+-- None of the tests holds.
 abbrev pub Clear : List Test → Type 0
 Clear [] = Unit {0}
-Clear (n when given ∷ rest) = (given ≡ false) × Clear rest
+Clear (n when holds ∷ rest) = (holds ≡ false) × Clear rest
 
 -- Every number is at least 1; every number is at most k.
 abbrev pub positive : List Test → Bool
 positive [] = true
-positive (n when given ∷ rest) = leb 1 n && positive rest
+positive (n when holds ∷ rest) = leb 1 n && positive rest
 
 abbrev pub within : ℕ → List Test → Bool
 within k [] = true
-within k (n when given ∷ rest) = leb n k && within k rest
+within k (n when holds ∷ rest) = leb n k && within k rest
 
-pass : (n : ℕ) (given : Bool) (rest : ℕ) → 1 ≤ n → cond given n rest ≡ 0 → (given ≡ false) × (rest ≡ 0)
+pass : (n : ℕ) (holds : Bool) (rest : ℕ) → 1 ≤ n → cond holds n rest ≡ 0 → (holds ≡ false) × (rest ≡ 0)
 pass n true rest h e = absurd (omega arith)
 pass n false rest h e = (refl, e)
 
 pub cleared : (tests : List Test) → positive tests ≡ true → refusal tests ≡ 0 → Clear tests
 cleared [] p e = tt
-cleared (n when given ∷ rest) p e =
+cleared (n when holds ∷ rest) p e =
     let q = and-eq-true-iff (leb 1 n) (positive rest) .0 p in
-    let a = pass n given (refusal rest) (leb-true 1 n (q .0)) e in
+    let a = pass n holds (refusal rest) (leb-true 1 n (q .0)) e in
     (a .0, cleared rest (q .1) (a .1))
 
 pub most : (k : ℕ) (tests : List Test) → within k tests ≡ true → refusal tests ≤ k
 most k [] w = zero-le
-most k (n when given ∷ rest) w =
+most k (n when holds ∷ rest) w =
     let q = and-eq-true-iff (leb n k) (within k rest) .0 w in
-    either (λ (i : ℕ). i ≤ k) given n (refusal rest) (leb-true n k (q .0)) (most k rest (q .1))
+    either (λ (i : ℕ). i ≤ k) holds n (refusal rest) (leb-true n k (q .0)) (most k rest (q .1))
 
 pub refusal-append : (tests more : List Test) → positive tests ≡ true →
     refusal (tests ++ more) ≡ cond (eqb (refusal tests) 0) (refusal more) (refusal tests)

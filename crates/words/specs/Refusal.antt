@@ -8,7 +8,7 @@ pub data Test : Type 0 where
   _when_ : ℕ → Bool → Test
 
 infix 70 _when_
--- The first number given of tests in rising order; 0 where none is.
+-- The first number given, of tests in rising order; 0 where none is.
 abbrev pub refusal : List Test → ℕ
 refusal [] = 0
-refusal (n when given ∷ rest) = cond given n (refusal rest)
+refusal (n when holds ∷ rest) = cond holds n (refusal rest)

@@ -17,7 +17,7 @@ use Rattle.mend.proofs.copy_pairs.Tie as tie
 
 abbrev Inv-loop : tie.InvT-loop
 Inv-loop out₀ to r h at₀ least₀ next₀ counter₀ end out at least next counter =
-    Passed (λ kept gone. Copied r out₀ to kept out next) r h at₀ end at least counter
+    Passed (λ kept dropped. Copied r out₀ to kept out next) r h at₀ end at least counter
 
 abbrev μ-loop : tie.MeasureT-loop
 μ-loop out₀ to r h at₀ least₀ next₀ counter₀ end out at least next counter = end - counter
@@ -72,9 +72,9 @@ loop-again c =
     let test = sym (asked .is-kept .ensures) in
     ⊎-elim
     (λ w. passed-kept inv some word (test ∙ w .0 .taken) (w .6)
-    (λ kept gone e. one-pair-copied (head .loop .at) e (there turn) (w .5 ∙ w .2 .ensures) (w .7)))
+    (λ kept dropped e. one-pair-copied (head .loop .at) e (there turn) (w .5 ∙ w .2 .ensures) (w .7)))
     (λ w. passed-dropped inv some word (test ∙ w .0 .left) (w .2)
-    (λ kept gone e. record { stores = w .1 ∙ e .stores; ends = w .3 ∙ e .ends }))
+    (λ kept dropped e. record { stores = w .1 ∙ e .stores; ends = w .3 ∙ e .ends }))
     (c .if1 .came)
 
 -- All pairs are passed.

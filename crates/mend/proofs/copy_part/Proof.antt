@@ -36,9 +36,9 @@ loop-again c =
 
 -- Nothing is left.
 stored : (c : tie.After-loop Inv-loop μ-loop) →
-    let given = c .before .before in
-    let a = given .before .before .before .args in
-    c .before .loop .out ≡ sets (a .out .now) (a .to) (given .part .result .now)
+    let earlier = c .before .before in
+    let a = earlier .before .before .before .args in
+    c .before .loop .out ≡ sets (a .out .now) (a .to) (earlier .part .result .now)
 stored c =
     let head = c .before in
     sym (head .loop .inv .2 ∙ rw (drop-of-length-le (head .before .part .result .now) {i = head .loop .i} (c .loop-test .left)))

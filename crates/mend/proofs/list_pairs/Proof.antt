@@ -17,7 +17,7 @@ use Rattle.mend.proofs.list_pairs.Tie as tie
 
 abbrev Inv-loop : tie.InvT-loop
 Inv-loop places₀ to r h at₀ least₀ next₀ counter₀ end places at least next counter =
-    Passed (λ kept gone. (places ≡ sets places₀ to gone) × (next ≡ to + length gone)) r h at₀ end at least counter
+    Passed (λ kept dropped. (places ≡ sets places₀ to dropped) × (next ≡ to + length dropped)) r h at₀ end at least counter
 
 abbrev μ-loop : tie.MeasureT-loop
 μ-loop places₀ to r h at₀ least₀ next₀ counter₀ end places at least next counter = end - counter
@@ -62,11 +62,11 @@ loop-again c =
     let word = read .word-at .ensures in
     let test = sym (asked .is-kept .ensures) in
     ⊎-elim
-    (λ w. passed-kept inv some word (test ∙ w .0 .taken) (w .2) (λ kept gone e. (w .1 ∙ e .0, w .3 ∙ e .1)))
+    (λ w. passed-kept inv some word (test ∙ w .0 .taken) (w .2) (λ kept dropped e. (w .1 ∙ e .0, w .3 ∙ e .1)))
     (λ w. passed-dropped inv some word (test ∙ w .0 .left) (w .6)
-    (λ kept gone e. (
-      w .5 ∙ (w .2 .ensures ∙ rw (e .0) (sets-behind (a .places .now) (a .to) (head .loop .next) gone pair (e .1))),
-      rw (length-append gone pair) (omega (arith, w .7, e .1)),
+    (λ kept dropped e. (
+      w .5 ∙ (w .2 .ensures ∙ rw (e .0) (sets-behind (a .places .now) (a .to) (head .loop .next) dropped pair (e .1))),
+      rw (length-append dropped pair) (omega (arith, w .7, e .1)),
     )))
     (c .if1 .came)
 

@@ -15,7 +15,7 @@ use Rattle.mend.proofs.pairs_kept.Tie as tie
 
 abbrev Inv-loop : tie.InvT-loop
 Inv-loop r h at₀ least₀ kept₀ counter₀ end at least kept counter =
-    Passed (λ passed gone. kept ≡ length passed) r h at₀ end at least counter
+    Passed (λ passed dropped. kept ≡ length passed) r h at₀ end at least counter
 
 abbrev μ-loop : tie.MeasureT-loop
 μ-loop r h at₀ least₀ kept₀ counter₀ end at least kept counter = end - counter
@@ -46,8 +46,8 @@ loop-again c =
     let test = sym (asked .is-kept .ensures) in
     ⊎-elim
     (λ w. passed-kept inv some word (test ∙ w .0 .taken) (w .1)
-    (λ kept gone e. omega (arith, e, w .2, length-append kept (turn .before .loop .at ∷ []))))
-    (λ w. passed-dropped inv some word (test ∙ w .0 .left) (w .1) (λ kept gone e. w .2 ∙ e))
+    (λ kept dropped e. omega (arith, e, w .2, length-append kept (turn .before .loop .at ∷ []))))
+    (λ w. passed-dropped inv some word (test ∙ w .0 .left) (w .1) (λ kept dropped e. w .2 ∙ e))
     (c .if1 .came)
 
 returns : tie.Need-returns Inv-loop μ-loop

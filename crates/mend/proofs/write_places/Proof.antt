@@ -17,8 +17,8 @@ known c =
     let m = measures (a .r .now) (a .h) (c .pre .0) (c .pre .1 .0) in
     (m, omega (arith, c .pre .1 .1 .0, m .versions), omega (arith, c .pre .1 .1 .1, m .counted))
 
-sub-gone : tie.Need-sub-gone
-sub-gone c = known (c .before .before .before) .1
+sub-lost : tie.Need-sub-lost
+sub-lost c = known (c .before .before .before) .1
 
 list-words-requires : tie.Need-list-words-requires
 list-words-requires c κs =
@@ -89,6 +89,6 @@ returns c =
 pub write-places-spec : {M : Type 1} → statement M
 write-places-spec =
     tie.close
-    (tie.spec sub-gone (λ c κs. search needs) (λ c κs. search needs) list-words-requires (λ c. search needs)
+    (tie.spec sub-lost (λ c κs. search needs) (λ c κs. search needs) list-words-requires (λ c. search needs)
     list-pairs-requires sub-list-words (λ c. search needs) add-list-words (λ c. search needs) (λ c. search needs)
     (λ c. search needs) add-list-words-2 list-words-requires-2 (λ c. search needs) returns)

@@ -1,5 +1,5 @@
 -- `run_page` meets its contract: the lent parts are as long as the run file says, and what comes back stands before the rest.
-use Rattle.report.proofs.Reporting.{given-parameters, count-small, widens}
+use Rattle.report.proofs.Reporting.{parameters-read, count-small, widens}
 use lib.ListN.{length-take}
 use native.Mathlib.Omega.{arith}
 use borrow.Author.Needs.{needs}
@@ -70,7 +70,7 @@ returns c =
     let args = start .before .args in
     let a = count-small (args .f .now) (parameters-count .ensures) (λ i. shared-slice-known .given i .fits) in
     widens (args .f .now) (args .workspace .now) (args .memory .now) (args .stack .now) (args .out .now)
-    (given-parameters (args .f .now) 255 (read-parameters .ensures) (parameters-count .ensures) a) (memory-words .ensures)
+    (parameters-read (args .f .now) 255 (read-parameters .ensures) (parameters-count .ensures) a) (memory-words .ensures)
     (stack-words .ensures) (run-and-print .ensures)
 
 pub run-page-spec : {M : Type 1} → statement M

@@ -22,10 +22,10 @@ first c = read-fits (c .before .before .fits .x) (c .signed2 .ensures)
 second : (c : tie.After-signed2) → SFits w32 (toZ w64 (ofZ w64 (c .before .signed .result)))
 second c = read-fits (c .before .before .fits .y) (c .before .signed .ensures)
 
-settled : (c : tie.After-signed2) (z : ℤ)
+divided : (c : tie.After-signed2) (z : ℤ)
     → z ≡ modZ (toZ w64 (ofZ w64 (c .signed2 .result))) (toZ w64 (ofZ w64 (c .before .signed .result)))
     → signedWord z ≡ signedValue Modulus (c .before .before .args .x) (c .before .before .args .y)
-settled c z =
+divided c z =
     value-is Modulus (c .before .before .fits .x) (c .signed2 .ensures) (c .before .before .fits .y)
     (c .before .signed .ensures) z
     (ne-eqb (c .before .before .args .y) 0 (c .before .before .pre))
@@ -39,11 +39,11 @@ rem-rest c = (
 
 returns : tie.Need-returns
 returns c = let d : tie.After-signed2 = c .before .before in
-    c .signed-word .ensures ∙ settled d _ (rest-zero (first d) (second d) (c .before .if1 .taken))
+    c .signed-word .ensures ∙ divided d _ (rest-zero (first d) (second d) (c .before .if1 .taken))
 
 returns-2 : tie.Need-returns-2
 returns-2 c = let d : tie.After-signed2 = c .before .before .before .before in
-    c .signed-word2 .ensures ∙ settled d _
+    c .signed-word2 .ensures ∙ divided d _
     (rest-same (first d) (second d) (c .before .before .if2 .taken ∙ sym (c .before .if3 .taken)))
 
 add-signed-word : tie.Need-add-signed-word
@@ -51,7 +51,7 @@ add-signed-word c = sum-fits (first (c .before .before .before)) (second (c .bef
 
 returns-3 : tie.Need-returns-3
 returns-3 c = let d : tie.After-signed2 = c .before .before .before .before in
-    c .signed-word3 .ensures ∙ settled d _
+    c .signed-word3 .ensures ∙ divided d _
     (rest-other (first d) (second d) (c .before .before .before .if1 .left)
     (c .before .before .if2 .taken ∙ sym (ap not (c .before .if3 .left))))
 
@@ -60,13 +60,13 @@ add-signed-word-2 c = sum-fits (first (c .before .before .before)) (second (c .b
 
 returns-4 : tie.Need-returns-4
 returns-4 c = let d : tie.After-signed2 = c .before .before .before .before in
-    c .signed-word4 .ensures ∙ settled d _
+    c .signed-word4 .ensures ∙ divided d _
     (rest-other (first d) (second d) (c .before .before .before .if1 .left)
     (c .before .before .if2 .left ∙ sym (ap not (c .before .if4 .taken))))
 
 returns-5 : tie.Need-returns-5
 returns-5 c = let d : tie.After-signed2 = c .before .before .before .before in
-    c .signed-word5 .ensures ∙ settled d _
+    c .signed-word5 .ensures ∙ divided d _
     (rest-same (first d) (second d) (c .before .before .if2 .left ∙ sym (c .before .if4 .left)))
 
 pub modulus-spec : {M : Type 1} → statement M

@@ -1,11 +1,11 @@
 -- `hand::give` meets its contract: three stores.
 use borrow.Author.Needs.{needs}
 use Rattle.verifier.proofs.hand.give.Statement.{statement}
-use Rattle.verifier.specs.Handing.{given}
+use Rattle.verifier.specs.Handing.{withList}
 use Rattle.verifier.proofs.hand.give.Tie as tie
 
 returns : tie.Need-returns
-unfolding given
+unfolding withList
 returns c =
     let set-half3 = c .before .before .set-half3 in
     let set-half2 = c .before .before .before .before .before .before .set-half2 in

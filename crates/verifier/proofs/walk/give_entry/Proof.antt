@@ -2,7 +2,7 @@
 use native.Mathlib.Omega.{arith}
 use borrow.Author.Needs.{needs}
 use Rattle.verifier.proofs.walk.give_entry.Statement.{statement}
-use Rattle.verifier.specs.Handing.{entryGiven}
+use Rattle.verifier.specs.Handing.{withEntry}
 use Rattle.stackmap.proofs.Entering.{parameters-few}
 use Rattle.verifier.proofs.walk.give_entry.Tie as tie
 
@@ -15,7 +15,7 @@ give-requires c κs =
     (omega (arith, entry-at .ok), rw (callee-parameters .ensures) (parameters-few (a .code .now) (λ k. omega (arith, shared-slice-known .given k)) (a .p)))
 
 returns : tie.Need-returns
-unfolding entryGiven
+unfolding withEntry
 returns c =
     let give = c .before .before .give in
     let entry-at = c .before .before .before .entry-at in
