@@ -1,12 +1,13 @@
 #!/usr/bin/env python3
 """Writes the example run files, byte by byte.
 
-    examples/make.py            writes page-eleven.run, page-twelve.run and those of the tape beside this script
+    examples/make.py            writes the run files beside this script
     examples/make.py --check    compares them with what it would write, and changes nothing
 
-Both pages have the same record. It takes two catalogue positions as parameters, stores their separation and divides by it. On page
-eleven the positions differ; on page twelve a star is listed twice. page-twelve-damaged.run is page twelve from a tape that has damaged
-both tables of the record, page-twelve-mended.run the same without what request K12 (02) drops of it.
+Pages eleven and twelve have the same record. It takes two catalogue positions as parameters, stores their separation and divides
+by it. On page eleven the positions differ; on page twelve a star is listed twice. page-twelve-damaged.run is page twelve from a tape
+that has damaged both tables of the record, page-twelve-mended.run the same without what request K12 (02) drops of it.
+page-azimuths.run has a loop that runs to the last number there is (request K3).
 """
 
 import sys
@@ -30,11 +31,28 @@ CODE = bytes([
     0xE9,              # 12  RTN         line 13: end
 ])
 
+AZIMUTHS = bytes([
+    0x00, 0x02,                    #  0  entry of procedure 0
+    0x8E, 0x02,                    #  2  LOAD_A_G.b 2    line 21: for azimuth from first to 2,147,483,647 by step
+    0x20,                          #  4  LOAD_G.0
+    0x84, 0x7F, 0xFF, 0xFF, 0xFF,  #  5  LOAD_C.w
+    0x21,                          # 10  LOAD_G.1
+    0xE0, 0x00, 0x08,              # 11  ITER            past the loop to offset 19
+    0x23,                          # 14  LOAD_G.3        line 22: turns := turns + 1
+    0x01,                          # 15  LOAD_C.1
+    0xA0,                          # 16  ADD_I
+    0x53,                          # 17  STOR_G.3
+    0xE1,                          # 18  NEXT            line 23: next azimuth
+    0xE9,                          # 19  RTN             line 24: end
+])
+
 VERSION = b" 3/-"  # one word: issue 3, revision -
 
 SOURCE_PAIRS = [(2, 11), (6, 12), (12, 13)]  # offset in the code, source line
 
-GLOBALS = 4  # first position, second position, separation, figure
+AZIMUTH_PAIRS = [(2, 21), (14, 22), (18, 23), (19, 24)]
+
+GLOBALS = 4  # first position, second position, separation, figure; or first azimuth, step, azimuth, turns
 
 DAMAGED_VERSION = b"!3/-"  # a bit of the first byte has turned, so that it is neither a digit nor a space
 
@@ -53,42 +71,43 @@ def pairs(source):
     return [number for pair in source for number in pair]
 
 
-def record(version, source):
-    """A record with these bytes in the version table and these words in the source table."""
+def record(code, version, source):
+    """A record with this code, these bytes in the version table and these words in the source table."""
     source = b"".join(map(word, source))
     header = [
         word(0),                  # import list, in words
-        word(len(CODE)),          # code, in bytes
+        word(len(code)),          # code, in bytes
         word(GLOBALS),            # globals, in words; they have no part in the record
         word(0),                  # constants, in words
         word(0),                  # relocation, in words
         word(len(version) // 4),  # version table, in words
         word(len(source) // 4),   # source table, in words: two for each pair
     ]
-    return b"".join(header) + CODE + version + source
+    return b"".join(header) + code + version + source
 
 
-def run_file(first, second, version=VERSION, source=pairs(SOURCE_PAIRS)):
+def run_file(first, second, code=CODE, version=VERSION, source=pairs(SOURCE_PAIRS)):
     return b"".join([
         b"TRK",        # every run file begins so
         halfword(1),   # version of the run file's format
         bytes([1]),    # results list: one procedure ..
         bytes([0]),    # .. and it leaves no result words
         bytes([2]),    # two parameters, which fill the first globals
-        word(first),   # first catalogue position
-        word(second),  # second catalogue position
+        word(first),   # first catalogue position, or azimuth
+        word(second),  # second catalogue position, or the step
         word(100),     # budget, in steps
         halfword(64),  # memory, in words
         halfword(16),  # stack, in words
-        record(version, source),
+        record(code, version, source),
     ])
 
 
 PAGES = {
     "page-eleven.run": run_file(7216, 7196),
     "page-twelve.run": run_file(7216, 7216),
-    "page-twelve-damaged.run": run_file(7216, 7216, DAMAGED_VERSION, DAMAGED_SOURCE),
-    "page-twelve-mended.run": run_file(7216, 7216, b"", MENDED_SOURCE),
+    "page-twelve-damaged.run": run_file(7216, 7216, version=DAMAGED_VERSION, source=DAMAGED_SOURCE),
+    "page-twelve-mended.run": run_file(7216, 7216, version=b"", source=MENDED_SOURCE),
+    "page-azimuths.run": run_file(2147483644, 1, code=AZIMUTHS, source=pairs(AZIMUTH_PAIRS)),
 }
 
 

@@ -47,12 +47,6 @@ pub fn negate(x: u32) -> Result<u32, Stop> {
     signed((x as i32).checked_neg())
 }
 
-/// A signed sum, as NEXT forms it.
-#[inline(always)]
-pub fn signed_sum(x: u32, y: u32) -> Result<u32, Stop> {
-    binary(Operator::AddI, x, y)
-}
-
 #[inline(always)]
 fn signed(result: Option<i32>) -> Result<u32, Stop> {
     result.map(|value| value as u32).ok_or(Stop::DoesNotFit)

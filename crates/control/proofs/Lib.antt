@@ -1,2 +1,3 @@
--- Laws about the sign of a step, and about the frame of an active call.
+-- Laws about the sign of a step, about the frame of an active call, and about NEXT at the end of the range.
 pub mod Laws
+pub mod Loops

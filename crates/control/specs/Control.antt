@@ -52,7 +52,7 @@ iterEffect A q m next d a f l s =
     cond (beyond (toZ w32 s) (toZ w32 f) (toZ w32 l)) (Go 4 NoPush NoWrite (moved q (placeAt (q .pc) d)))
     (ifStorable A q m a Normal (Go 0 (PushOne next) (WriteOne a f) (moved q next)))
 
--- NEXT's sum: MEMORY(A) + S. 01: "NEXT's sum traps likewise".
+-- NEXT's sum: MEMORY(A) + S.
 unfoldable pub nextSum : List ℕ → ℕ → ℕ → Value
 nextSum m a s = signedValue Add (read m a) s
 
@@ -62,13 +62,15 @@ roundEffect q next a l s label x =
     cond (beyond (toZ w32 s) (toZ w32 x) (toZ w32 l)) (Go 5 NoPush (WriteOne a x) (moved q next))
     (Go 0 NoPush (WriteOne a x) (moved q label))
 
-abbrev pub sumEffect : (A : Areas) (q : Registers) (m : List ℕ) (next address last step label : ℕ) → Value → Effect
-sumEffect A q m next a l s label (Word x) = cond (protects A q m a) (trap 33) (roundEffect q next a l s label x)
-sumEffect A q m next a l s label (Trap n) = trap n
+-- 02, K3: "Where the sum in NEXT leaves the signed range, the loop is left as if the sum had passed the last value, five words go,
+-- and the variable keeps its value."
+abbrev pub sumEffect : (q : Registers) (next address last step label : ℕ) → Value → Effect
+sumEffect q next a l s label (Word x) = roundEffect q next a l s label x
+sumEffect q next a l s label (Trap n) = Go 5 NoPush NoWrite (moved q next)
 
--- NEXT [ adr, first, last, step, label ]. 01: "NEXT tests live, then the sum, then protected."
+-- NEXT [ adr, first, last, step, label ]. 02, K3: "The address must still be live and unprotected." So 32, 33, then the sum.
 unfoldable pub nextEffect : (A : Areas) (q : Registers) (m : List ℕ) (next address last step label : ℕ) → Effect
-nextEffect A q m next a l s label = cond (live q a 1) (sumEffect A q m next a l s label (nextSum m a s)) (trap 32)
+nextEffect A q m next a l s label = ifStorable A q m a Normal (sumEffect q next a l s label (nextSum m a s))
 
 -- SWITCH: if X < 0 or X > n then PC := PC + E. As a word, a negative X is above every n. SWITCH_X: the range that holds X, or E.
 abbrev pub switchDistance : (code : List ℕ) (at : ℕ) → Table → (n x : ℕ) → ℕ

@@ -5,7 +5,7 @@ ghost use Prim.Native.Nat.{_≤_};
 ghost use lib.ListN.{length};
 ghost use mir.Syntax.{w32};
 ghost use mir.Val.{toZ};
-ghost use Rattle.control.specs.Control.{jumpEffect, jumpCEffect, jumpTFEffect, beyond, iterEffect, roundEffect, nextSum};
+ghost use Rattle.control.specs.Control.{jumpEffect, jumpCEffect, jumpTFEffect, beyond, iterEffect, roundEffect, sumEffect, nextSum};
 ghost use Rattle.control.specs.Control.{nextEffect, switchDistance, switchEffect, callEffect, enterEffect, rtnEffect};
 ghost use Rattle.registers.specs.Memory.{chained};
 ghost use Rattle.registers.specs.Program.{framesStart};
@@ -114,6 +114,24 @@ fn round_effect(q: Registers, next: u32, a: u32, last: u32, step: u32, label: u3
     Effect::Go(0, Push::NoPush, Write::WriteOne(a, x), q.moved(label))
 }
 
+// NEXT, with what its sum is: outside the signed range it leaves the loop, and the variable keeps its value.
+fn sum_effect(
+    q: Registers,
+    next: u32,
+    a: u32,
+    last: u32,
+    step: u32,
+    label: u32,
+    sum: Value,
+) -> Effect
+    ensures { λ e. ⌜ e ≡ sumEffect q next a last step label sum ⌝ }
+{
+    match sum {
+        Value::Word(x) => round_effect(q, next, a, last, step, label, x),
+        Value::Trap(_) => jump_to(q, 5, next),
+    }
+}
+
 // NEXT.
 pub fn next_effect(
     areas: Areas,
@@ -131,16 +149,10 @@ pub fn next_effect(
     if !access::is_live(q, a as usize, 1) {
         return Effect::Trap(32);
     }
-    let sum = next_sum(m, a, step);
-    match sum {
-        Value::Word(x) => {
-            if access::is_protected(areas, q, m, a as usize) {
-                return Effect::Trap(33);
-            }
-            round_effect(q, next, a, last, step, label, x)
-        }
-        Value::Trap(n) => Effect::Trap(n),
+    if access::is_protected(areas, q, m, a as usize) {
+        return Effect::Trap(33);
     }
+    sum_effect(q, next, a, last, step, label, next_sum(m, a, step))
 }
 
 // The loop variable with the step added.

@@ -1,6 +1,6 @@
--- What `execute` can give, by the shape of the instruction: one constructor for each kind of effect, with the tests that it
--- passed as premises. The instructions and their tests are taken apart once, in `acts`; what holds of every step goes by
--- these constructors.
+-- What `execute` can give, by the shape of the instruction: one constructor for each kind of effect, with the passed tests that
+-- later proofs need as premises. The instructions and their tests are taken apart once, in `acts`; what holds of every step goes
+-- by these constructors.
 use mathlib.Core.Bool.{Bool, true, false, cond}
 use mathlib.Core.List.{List}
 use mathlib.Core.Path.{_≡_, refl}
@@ -25,7 +25,7 @@ use Rattle.operate.specs.Traps.{DataTrap}
 use Rattle.operate.specs.Operation.{operationValue}
 use Rattle.operate.specs.declared.Value.{Value}
 use Rattle.operate.specs.declared.Value.the-variants.{Word, Trap as Stop}
-use Rattle.operate.proofs.Traps.{data-number, Valued, a-trap, signed-valued, operation-valued}
+use Rattle.operate.proofs.Traps.{data-number, Valued, a-trap, operation-valued}
 use Rattle.shape.specs.Counts.{wordsIn, operands, popped}
 use Rattle.shape.specs.declared.Shape.{Shape}
 use Rattle.shape.specs.declared.Shape.the-variants as shape
@@ -39,7 +39,7 @@ use Rattle.effect.specs.declared.effect.Write.the-variants.{NoWrite, WriteOne, 
 use Rattle.registers.specs.declared.Registers.{Registers}
 use Rattle.registers.specs.Program.{Program}
 use Rattle.registers.specs.State.{State}
-use Rattle.registers.specs.Memory.{read, live, protects}
+use Rattle.registers.specs.Memory.{live, protects}
 use Rattle.registers.specs.Changes.{moved, sized, called, returned}
 use Rattle.effect.specs.Data.{pushes, baseOf, loaded, protectsAny, stored, ifStorable, valueEffect}
 use Rattle.effect.specs.Data.{loadEffect, loadAddressEffect, storeEffect, allocEffect, freeEffect}
@@ -69,6 +69,7 @@ pub data Acts (P : Program) (S : State) (next : ℕ) : Shape → Effect → Type
       → Acts P S next (shape.Iter d) (Go 0 (PushOne next) (WriteOne a x) (moved (S .registers) next))
   leaves-loop : (a x : ℕ) → protects (P .areas) (S .registers) (S .memory) a ≡ false
       → Acts P S next shape.Next (Go 5 NoPush (WriteOne a x) (moved (S .registers) next))
+  leaves-by-sum : Acts P S next shape.Next (Go 5 NoPush NoWrite (moved (S .registers) next))
   repeats-loop : (a x : ℕ) → protects (P .areas) (S .registers) (S .memory) a ≡ false
       → Acts P S next shape.Next (Go 0 NoPush (WriteOne a x) (moved (S .registers) (word S 4)))
   switches : {t : Table} {n : ℕ} (x : ℕ)
@@ -121,12 +122,10 @@ module _ (P : Program) (S : State) (next : ℕ) where
       tested (shape.JumpTF d) (ltb b 2) _ 34 (data-number 34 refl refl)
       (λ l. by-test (Is (shape.JumpTF d)) (eqb b truth) _ _ (λ e. keeps-boolean) (λ e. pops-boolean))
 
-  sum-acts : (a l s : ℕ) (v : Value) → Valued v → Is shape.Next (sumEffect (P .areas) q m next a l s (word S 4) v)
-  sum-acts a l s (Word x) h =
-      guarded shape.Next (protects (P .areas) q m a) _ 33 (data-number 33 refl refl)
-      (λ p. by-test (Is shape.Next) (beyond (toZ w32 s) (toZ w32 x) (toZ w32 l)) _ _ (λ e. leaves-loop a x p)
-      (λ e. repeats-loop a x p))
-  sum-acts a l s (Stop n) (a-trap d) = traps d
+  sum-acts : (a l s : ℕ) (v : Value) → protects (P .areas) q m a ≡ false → Is shape.Next (sumEffect q next a l s (word S 4) v)
+  sum-acts a l s (Word x) p =
+      by-test (Is shape.Next) (beyond (toZ w32 s) (toZ w32 x) (toZ w32 l)) _ _ (λ e. leaves-loop a x p) (λ e. repeats-loop a x p)
+  sum-acts a l s (Stop n) p = leaves-by-sum
 
   call-acts : (p : ℕ) → Is (shape.Call p) (callEffect (P .code) q m next p)
   unfolding callEffect
@@ -164,9 +163,7 @@ module _ (P : Program) (S : State) (next : ℕ) where
   acts (Iter d) =
       by-test (Is (shape.Iter d)) (beyond (toZ w32 (word S 3)) (toZ w32 (word S 1)) (toZ w32 (word S 2))) _ _ (λ e. skips-loop)
       (λ e. storable-acts (shape.Iter d) (word S 0) Normal _ (enters-loop (word S 0) (word S 1)))
-  acts Next =
-      tested shape.Next (live q (word S 0) 1) _ 32 (data-number 32 refl refl)
-      (λ l. sum-acts (word S 0) (word S 2) (word S 3) _ (signed-valued _ (read m (word S 0)) (word S 3)))
+  acts Next = storable-acts shape.Next (word S 0) Normal _ (sum-acts (word S 0) (word S 2) (word S 3) (nextSum m (word S 0) (word S 3)))
   acts (Switch n) = switches (word S 0)
   acts (SwitchX n) = switches (word S 0)
   acts Leave = leaves-switch

@@ -19,8 +19,8 @@ use Rattle.registers.specs.State.{State}
 use Rattle.registers.specs.Memory.{savedFp}
 use Rattle.registers.specs.Changes.{sized}
 use Rattle.execute.proofs.Acts.{Acts, traps, passes, resizes, stores, drops, jumps, branches, keeps-boolean, pops-boolean}
-use Rattle.execute.proofs.Acts.{skips-loop, enters-loop, leaves-loop, repeats-loop, switches, leaves-switch, no-callee, calls}
-use Rattle.execute.proofs.Acts.{enters, finishes, returns}
+use Rattle.execute.proofs.Acts.{skips-loop, enters-loop, leaves-loop, leaves-by-sum, repeats-loop, switches}
+use Rattle.execute.proofs.Acts.{leaves-switch, no-callee, calls, enters, finishes, returns}
 
 -- An effect traps or finishes; or at most k words go, and P holds of its write and its registers.
 pub data Does (k : ℕ) (P : Write → Registers → Type 0) : Effect → Type 0 where
@@ -75,6 +75,7 @@ module _ (P : Program) (S : State) (next : ℕ) where
   acts-do skips-loop = still _ _ (omega arith)
   acts-do (enters-loop a x p) = still _ _ (omega arith)
   acts-do (leaves-loop a x p) = still _ _ (omega arith)
+  acts-do leaves-by-sum = still _ _ (omega arith)
   acts-do (repeats-loop a x p) = still _ _ (omega arith)
   acts-do (switches x) = still _ _ (omega arith)
   acts-do leaves-switch = still _ _ (omega arith)

@@ -21,8 +21,8 @@ use Rattle.registers.specs.Memory.{read}
 use Rattle.registers.specs.Changes.{called, returned}
 use Rattle.execute.specs.Execute.{finding}
 use Rattle.execute.proofs.Acts.{Acts, acts, traps, passes, resizes, stores, drops, jumps, branches, keeps-boolean, pops-boolean}
-use Rattle.execute.proofs.Acts.{skips-loop, enters-loop, leaves-loop, repeats-loop, switches, leaves-switch, no-callee, calls}
-use Rattle.execute.proofs.Acts.{enters, finishes, returns}
+use Rattle.execute.proofs.Acts.{skips-loop, enters-loop, leaves-loop, leaves-by-sum, repeats-loop, switches}
+use Rattle.execute.proofs.Acts.{leaves-switch, no-callee, calls, enters, finishes, returns}
 use Rattle.stackmap.specs.Slots.{Slot}
 use Rattle.stackmap.specs.Ways.{Subject, Way, ways}
 use Rattle.safety.specs.Active.{Configuration}
@@ -58,6 +58,7 @@ module _ (U : Subject) (A : Areas) (c : Configuration) (i : Instruction) (next p
   acts-go s e is w call back (skips-loop {d = d}) = iter-goes S next d w .0
   acts-go s e is w call back (enters-loop {d = d} a x n) = iter-goes S next d w .1 _ (iter-word U c i next D is)
   acts-go s e is w call back (leaves-loop a x n) = next-goes next _ l S w .0
+  acts-go s e is w call back leaves-by-sum = next-goes next _ l S w .0
   acts-go s e is w call back (repeats-loop a x n) = next-goes next _ l S w .1
   acts-go s e is w call back (switches {t = t} {n = n} x) =
       switch-goes S t n _ _ (switch-word U c i next D is) (in-targets (U .code) (registersOf c .pc) t n x) w

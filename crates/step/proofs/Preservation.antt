@@ -23,8 +23,8 @@ use Rattle.registers.specs.Memory.{read, protects}
 use Rattle.registers.specs.Changes.{moved}
 use Rattle.execute.specs.Execute.{topWords, finding}
 use Rattle.execute.proofs.Acts.{Acts, acts, traps, passes, resizes, stores, drops, jumps, branches, keeps-boolean, pops-boolean}
-use Rattle.execute.proofs.Acts.{skips-loop, enters-loop, leaves-loop, repeats-loop, switches, leaves-switch, no-callee, calls}
-use Rattle.execute.proofs.Acts.{enters, finishes, returns}
+use Rattle.execute.proofs.Acts.{skips-loop, enters-loop, leaves-loop, leaves-by-sum, repeats-loop, switches}
+use Rattle.execute.proofs.Acts.{leaves-switch, no-callee, calls, enters, finishes, returns}
 use Rattle.state.specs.Fits.{fits}
 use Rattle.state.proofs.Fitting.{Fitting, fitting, fitted}
 use Rattle.step.specs.declared.Outcome.the-variants.{Went}
@@ -55,6 +55,7 @@ module _ (P : Program) (q : Registers) (m s ws : List ℕ) (next : ℕ) (F : Fit
   acts-keep skips-loop = on _
   acts-keep (enters-loop a x p) = put a x _ p
   acts-keep (leaves-loop a x p) = put a x _ p
+  acts-keep leaves-by-sum = on _
   acts-keep (repeats-loop a x p) = put a x _ p
   acts-keep (switches x) = on _
   acts-keep leaves-switch = on _

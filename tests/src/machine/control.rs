@@ -3,7 +3,6 @@
 use super::step::{Machine, Step};
 use super::stop::Stop;
 use super::MOST_CALLS;
-use crate::arithmetic::signed_sum;
 use crate::instruction::Width;
 
 impl Machine<'_> {
@@ -22,15 +21,18 @@ impl Machine<'_> {
         Ok(())
     }
 
-    /// NEXT tests live, then the sum, then protected.
+    /// NEXT: address, first, last, step, label. Where the sum leaves the signed range the loop is left, and nothing is stored (02, K3).
     #[inline(always)]
     pub(super) fn next(&mut self, next: i32) -> Step<()> {
         let low = self.without(5)?;
         let [address, _, last, step] = self.words_at(low);
         let label = self.stack[low as usize + 4];
         let to = self.live(Some(address), Width::One)?;
-        let sum = signed_sum(self.memory[to], step)?;
         self.unprotected(address)?;
+        let Some(sum) = (self.memory[to] as i32).checked_add(step as i32) else {
+            return self.go(next, low);
+        };
+        let sum = sum as u32;
         if passed(step, sum, last) {
             self.go(next, low)?;
         } else {
