@@ -24,6 +24,7 @@ impl FromStr for Case {
             "line" => Case::Line { record, offset: tokens.number()? },
             "span" => Case::Span { record, offset: tokens.number()? },
             "mend" => Case::Mend { record, out: tokens.bytes()?, places: tokens.words()? },
+            "report" => Case::Report { file: record },
             _ => return Err(format!("unknown verb {verb}")),
         };
         match tokens.0.next() {
@@ -35,8 +36,12 @@ impl FromStr for Case {
 
 impl Display for Case {
     fn fmt(&self, f: &mut Formatter) -> fmt::Result {
+        if let Case::Report { file } = self {
+            return write!(f, "report {}", Hex(file));
+        }
         write!(f, "{} {} ", self.verb(), Hex(self.record()))?;
         match self {
+            Case::Report { .. } => Ok(()),
             Case::Check { results, workspace, .. } => {
                 write!(f, "{} {}", Hex(results), List(workspace))
             }
@@ -71,6 +76,7 @@ impl Display for Answer {
             Answer::Mend { number, counts, out, places } => {
                 write!(f, "mend {number} {} {} {}", Numbers(counts), Hex(out), List(places))
             }
+            Answer::Report(page) => write!(f, "report {}", Hex(page)),
         }
     }
 }
@@ -178,6 +184,7 @@ mod tests {
             "span - 4294967295",
             "mend 0b eeee 3 2*777 0",
             "mend - - 0",
+            "report 54524b",
         ];
         for line in lines {
             assert_eq!(line.parse::<Case>().map(|case| case.to_string()).as_deref(), Ok(line));

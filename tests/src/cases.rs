@@ -3,6 +3,7 @@
 
 use crate::interface::{Interface, MEND_COUNTS, OUTCOME_WORDS, SPAN_WORDS, STATE_WORDS};
 use crate::record::Span;
+use crate::report::{RunFile, LARGEST_RUN_FILE};
 
 pub type State = [u32; STATE_WORDS];
 pub type Outcome = [u32; OUTCOME_WORDS];
@@ -15,6 +16,7 @@ pub enum Case {
     Line { record: Vec<u8>, offset: u32 },
     Span { record: Vec<u8>, offset: u32 },
     Mend { record: Vec<u8>, out: Vec<u8>, places: Vec<u32> },
+    Report { file: Vec<u8> },
 }
 
 /// What a machine keeps between runs.
@@ -52,6 +54,8 @@ pub enum Answer {
         out: Vec<u8>,
         places: Vec<u32>,
     },
+    /// The page.
+    Report(Vec<u8>),
 }
 
 impl Case {
@@ -63,6 +67,7 @@ impl Case {
             Case::Line { .. } => "line",
             Case::Span { .. } => "span",
             Case::Mend { .. } => "mend",
+            Case::Report { .. } => "report",
         }
     }
 
@@ -74,6 +79,8 @@ impl Case {
             | Case::Line { record, .. }
             | Case::Span { record, .. }
             | Case::Mend { record, .. } => record,
+            // A file that is none has no record.
+            Case::Report { file } => RunFile::read(file).map_or(&[], |file| file.record),
         }
     }
 
@@ -135,8 +142,17 @@ impl Case {
                 };
                 Answer::Mend { number, counts, out, places }
             }
+            Case::Report { file } => Answer::Report(page(file, library)),
         }
     }
+}
+
+/// The page of a run file, in a buffer that is longer than any.
+pub fn page(file: &[u8], library: &Interface) -> Vec<u8> {
+    let mut page = vec![0; 4 * LARGEST_RUN_FILE];
+    let written = (library.report)(file, &mut page);
+    page.truncate(written);
+    page
 }
 
 impl Answer {
@@ -149,7 +165,10 @@ impl Answer {
             Answer::Run { ended: Err(number), .. }
             | Answer::Line(Err(number))
             | Answer::Span(Err(number)) => number,
-            Answer::Run { ended: Ok(_), .. } | Answer::Line(Ok(_)) | Answer::Span(Ok(_)) => 0,
+            Answer::Run { ended: Ok(_), .. }
+            | Answer::Line(Ok(_))
+            | Answer::Span(Ok(_))
+            | Answer::Report(_) => 0,
         }
     }
 }

@@ -1,9 +1,9 @@
 //! The papers' worked cases and the stored vectors (call cases and pages), held to an
 //! implementation.
 
-use crate::cases::Case;
+use crate::cases::{page, Case};
 use crate::interface::Interface;
-use crate::report::{RunFile, LARGEST_RUN_FILE};
+use crate::report::RunFile;
 use crate::worked_cases;
 use std::collections::BTreeMap;
 use std::fs;
@@ -13,8 +13,6 @@ use std::process::ExitCode;
 const AGREES: &str = "as in the papers";
 /// Differences that are printed in full.
 const SHOWN: usize = 5;
-/// Longer than any page.
-const PAGE_BYTES: usize = 4 * LARGEST_RUN_FILE;
 
 #[derive(Default)]
 struct Counts {
@@ -116,10 +114,8 @@ fn run_page(path: &Path, library: &Interface, findings: &mut Findings) -> Result
     let name = path.display().to_string();
     let file = fs::read(path).map_err(|error| format!("{name}: {error}"))?;
     let expected = read_text(&path.with_extension("out"))?;
-    let mut out = vec![0; PAGE_BYTES];
-    let written = (library.report)(&file, &mut out);
-    let found = String::from_utf8_lossy(&out[..written]);
-    findings.note("page", &name, &expected, &found);
+    let page = page(&file, library);
+    findings.note("page", &name, &expected, &String::from_utf8_lossy(&page));
     if let Some(file) = RunFile::read(&file) {
         note_record(file.record, &expected, &name, library, findings);
     }
@@ -146,7 +142,7 @@ fn record_number(answer: &str) -> Option<&str> {
     let words: Vec<&str> = answer.split_whitespace().collect();
     let number = match words[..] {
         ["mend", number @ ("1" | "2" | "3"), ..] => number,
-        ["mend", ..] => return None,
+        ["mend" | "report", ..] => return None,
         ["run" | "line" | "span", "refused", number, ..] | ["check" | "load", number, ..] => number,
         _ => "0",
     };

@@ -37,8 +37,7 @@ joinedOf r results w parameters budget m s =
     let l = loadOf r parameters m s in
     cond (eqb (c .number) 0) (thenLoad r budget (c .workspace) s (l .answer) (l .memory)) (joined (Refused (c .number)) (c .workspace) m s)
 
--- The check's numbers are 1 to 15 and the load's are among them; a run of accepted code is never refused and ends properly: "never in
--- one of the four code traps".
+-- A refusal is one of the check's or the load's, which are 1 to 15; a run ends properly: "never in one of the four code traps".
 abbrev pub ProperAnswer : Answer → Type 0
 ProperAnswer (Refused n) = (1 ≤ n) × (n ≤ 15)
 ProperAnswer (Ended e) = Proper (e .ending)
