@@ -62,8 +62,8 @@ roundEffect q next a l s label x =
     cond (beyond (toZ w32 s) (toZ w32 x) (toZ w32 l)) (Go 5 NoPush (WriteOne a x) (moved q next))
     (Go 0 NoPush (WriteOne a x) (moved q label))
 
--- 02, K3: "Where the sum in NEXT leaves the signed range, the loop is left as if the sum had passed the last value, five words go,
--- and the variable keeps its value."
+-- 02, K3: "Where the sum in NEXT leaves the signed range, the loop is left as if the sum had passed the last value, five words
+-- go, and the variable keeps its value."
 abbrev pub sumEffect : (q : Registers) (next address last step label : ℕ) → Value → Effect
 sumEffect q next a l s label (Word x) = roundEffect q next a l s label x
 sumEffect q next a l s label (Trap n) = Go 5 NoPush NoWrite (moved q next)

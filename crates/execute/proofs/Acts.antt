@@ -163,7 +163,9 @@ module _ (P : Program) (S : State) (next : ℕ) where
   acts (Iter d) =
       by-test (Is (shape.Iter d)) (beyond (toZ w32 (word S 3)) (toZ w32 (word S 1)) (toZ w32 (word S 2))) _ _ (λ e. skips-loop)
       (λ e. storable-acts (shape.Iter d) (word S 0) Normal _ (enters-loop (word S 0) (word S 1)))
-  acts Next = storable-acts shape.Next (word S 0) Normal _ (sum-acts (word S 0) (word S 2) (word S 3) (nextSum m (word S 0) (word S 3)))
+  acts Next =
+      storable-acts shape.Next (word S 0) Normal _
+      (sum-acts (word S 0) (word S 2) (word S 3) (nextSum m (word S 0) (word S 3)))
   acts (Switch n) = switches (word S 0)
   acts (SwitchX n) = switches (word S 0)
   acts Leave = leaves-switch

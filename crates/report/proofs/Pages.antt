@@ -9,7 +9,8 @@ use Rattle.source.specs.Source.{lineAt}
 use Rattle.header.specs.declared.Header.{Header}
 use Rattle.machine.specs.declared.run.Ended.{Ended as Ending}
 use Rattle.machine.specs.Run.{endNumber}
-use Rattle.text.specs.Text.{decimal, checkText, endText, atText, lineText, stepsText, newline, wordsText, listLine, numbered, checkLine, endLine, Wrote}
+use Rattle.text.specs.Text.{decimal, checkText, endText, atText, lineText, stepsText, newline, wordsText, listLine, numbered}
+use Rattle.text.specs.Text.{checkLine, endLine, Wrote}
 use Rattle.text.proofs.Writing.{wrote-then, decimal-short, words-short}
 use Rattle.report.specs.Report.{endedText}
 

@@ -14,7 +14,8 @@ use Rattle.safety.specs.Joined.{joined, joinedOf}
 use Rattle.verifier.specs.Check.{checkOf}
 use Rattle.workspace.specs.Checking.{checking}
 use Rattle.text.specs.Text.{checkLine}
-use Rattle.run_file.specs.RunFile.{resultsCount, parametersCount, recordAt, named, resultsOf, parametersOf, budgetOf, memoryWords, stackWords, recordOf, wellFormed}
+use Rattle.run_file.specs.RunFile.{resultsCount, parametersCount, recordAt, named, resultsOf, parametersOf, budgetOf, memoryWords}
+use Rattle.run_file.specs.RunFile.{stackWords, recordOf, wellFormed}
 use Rattle.words.proofs.Series.{series-part}
 use Rattle.report.specs.Report.{answerText, output, printed}
 use Rattle.report.specs.Buffers.{ranPage, partPage, pageOf, orEight, Leaving, leaving, delivered, reportOf}

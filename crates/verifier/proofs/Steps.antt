@@ -18,7 +18,8 @@ use Rattle.compact.specs.declared.top.Top.{Top}
 use Rattle.compact_ways.specs.Ways.{way}
 use Rattle.verifier.specs.declared.hand.Handed.{Handed}
 use Rattle.verifier.specs.declared.hand.Handed.the-variants.{From}
-use Rattle.verifier.specs.Handing.{handing, thenHanding, handedTop, handedTargets, visitedTop, firstWaiting, walking, thenWalk, walkTop, withEntry, withEntries}
+use Rattle.verifier.specs.Handing.{handing, thenHanding, handedTop, handedTargets, visitedTop, firstWaiting, walking}
+use Rattle.verifier.specs.Handing.{thenWalk, walkTop, withEntry, withEntries}
 
 -- A place outside of the code has mark 0, which is no start's.
 pub start-near : (w : List ℕ) (size p place : ℕ) → startsIn (marksIn w size) p place ≡ true → place < size

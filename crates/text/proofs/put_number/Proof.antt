@@ -5,7 +5,8 @@ use native.Mathlib.Omega.{arith}
 use borrow.Author.Needs.{needs}
 use Rattle.text.proofs.put_number.Statement.{statement}
 use Rattle.text.specs.Text.{digits as digitsOf, decimal}
-use Rattle.text.proofs.Writing.{Left, left-start, left-next, left-over, left-length, wrote-one, digits-one, width-bounds, power-positive}
+use Rattle.text.proofs.Writing.{Left, left-start, left-next, left-over, left-length, wrote-one, digits-one, width-bounds}
+use Rattle.text.proofs.Writing.{power-positive}
 use Rattle.text.proofs.put_number.Tie as tie
 
 abbrev Inv-loop : tie.InvT-loop
