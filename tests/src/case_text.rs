@@ -36,21 +36,19 @@ impl FromStr for Case {
 
 impl Display for Case {
     fn fmt(&self, f: &mut Formatter) -> fmt::Result {
-        if let Case::Report { file } = self {
-            return write!(f, "report {}", Hex(file));
-        }
-        write!(f, "{} {} ", self.verb(), Hex(self.record()))?;
+        let bytes = if let Case::Report { file } = self { file } else { self.record() };
+        write!(f, "{} {}", self.verb(), Hex(bytes))?;
         match self {
-            Case::Report { .. } => Ok(()),
             Case::Check { results, workspace, .. } => {
-                write!(f, "{} {}", Hex(results), List(workspace))
+                write!(f, " {} {}", Hex(results), List(workspace))
             }
             Case::Load { parameters, memory, stack, .. } => {
-                write!(f, "{} {} {}", List(parameters), List(memory), List(stack))
+                write!(f, " {} {} {}", List(parameters), List(memory), List(stack))
             }
-            Case::Run { budget, machine, .. } => write!(f, "{budget} {machine}"),
-            Case::Line { offset, .. } | Case::Span { offset, .. } => write!(f, "{offset}"),
-            Case::Mend { out, places, .. } => write!(f, "{} {}", Hex(out), List(places)),
+            Case::Run { budget, machine, .. } => write!(f, " {budget} {machine}"),
+            Case::Line { offset, .. } | Case::Span { offset, .. } => write!(f, " {offset}"),
+            Case::Mend { out, places, .. } => write!(f, " {} {}", Hex(out), List(places)),
+            Case::Report { .. } => Ok(()),
         }
     }
 }

@@ -79,7 +79,7 @@ impl Case {
             | Case::Line { record, .. }
             | Case::Span { record, .. }
             | Case::Mend { record, .. } => record,
-            // A file that is none has no record.
+            // A malformed run file has no record.
             Case::Report { file } => RunFile::read(file).map_or(&[], |file| file.record),
         }
     }
@@ -156,7 +156,7 @@ pub fn page(file: &[u8], library: &Interface) -> Vec<u8> {
 }
 
 impl Answer {
-    /// The refusal of 1 to 24, or 0.
+    /// The refusal of 1 to 24, or 0; also 0 for a page, which has it in its text.
     pub fn number(&self) -> u32 {
         match *self {
             Answer::Check { number, .. }

@@ -1,6 +1,6 @@
 //! What the comparing programs share: arguments, counting of what arose, and the verdict.
 
-use crate::cases::{Answer, Case};
+use crate::cases::{Answer, Case, Words};
 use crate::interface::{Interface, REFERENCE};
 use crate::listing::listing;
 use crate::random::Random;
@@ -146,6 +146,11 @@ fn rare(tally: &Tally, expected: &[Expected]) -> Vec<String> {
         }
     }
     lines
+}
+
+/// Tells whether a step was a NEXT that left its loop by a sum outside the range: five words fewer, and nothing stored (02, K3).
+pub fn left_by_its_sum(opcode: Option<u32>, before: &Words, after: &Words) -> bool {
+    opcode == Some(0xe1) && before.state[4] == after.state[4] + 5 && before.memory == after.memory
 }
 
 /// The answer that a library and the reference agree on, or the case and both answers.

@@ -26,7 +26,7 @@ pub data Outcome : Type 0 where
   ended : ℕ → ℕ → ℕ → List ℕ → List ℕ → Outcome
 
 pub record Row : Type 0 where
-  pub start : Case
+  pub input : Case
   pub number : ℕ
   pub outcome : Outcome
 
@@ -63,7 +63,7 @@ checked c = checkOf (recordFor c) (0 ∷ []) (replicate (4 * length (c .code)) 0
 row : List ℕ → List ℕ → ℕ → ℕ → Outcome → Row
 row code parameters globals number outcome =
     record {
-      start = record { code = code; parameters = parameters; globals = globals };
+      input = record { code = code; parameters = parameters; globals = globals };
       number = number;
       outcome = outcome;
     }
@@ -96,5 +96,5 @@ table =
 -- Each case of the table has the number and the outcome that stand beside it.
 abbrev pub Stands : Type 0
 Stands =
-    (map (λ r. checked (r .start)) table ≡ map (λ r. r .number) table)
-    × (map (λ r. played (r .start)) table ≡ map (λ r. r .outcome) table)
+    (map (λ r. checked (r .input)) table ≡ map (λ r. r .number) table)
+    × (map (λ r. played (r .input)) table ≡ map (λ r. r .outcome) table)

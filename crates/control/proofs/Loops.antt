@@ -27,17 +27,17 @@ pub leaves-at-range-end : LeavesAtRangeEnd
 unfolding nextEffect nextSum signedValue signedWord
 leaves-at-range-end A q m next a l s label is-live free out = rw (is-live, free, out)
 
--- No trap but with 32 or 33.
-abbrev Else31 : Effect → Type 0
-Else31 (Trap n) = n ≡ 31 → ⊥
-Else31 Finish = Unit {0}
-Else31 (Go pops push write q) = Unit {0}
+-- No trap with 31.
+abbrev Not31 : Effect → Type 0
+Not31 (Trap n) = n ≡ 31 → ⊥
+Not31 Finish = Unit {0}
+Not31 (Go pops push write q) = Unit {0}
 
-by-value : (f : Value → Effect) → ((x : ℕ) → Else31 (f (Word x))) → ((n : ℕ) → Else31 (f (Stop n))) → (v : Value) → Else31 (f v)
+by-value : (f : Value → Effect) → ((x : ℕ) → Not31 (f (Word x))) → ((n : ℕ) → Not31 (f (Stop n))) → (v : Value) → Not31 (f v)
 by-value f w s (Word x) = w x
 by-value f w s (Stop n) = s n
 
-never-31 : (e : Effect) → Else31 e → e ≡ Trap 31 → ⊥
+never-31 : (e : Effect) → Not31 e → e ≡ Trap 31 → ⊥
 never-31 (Trap n) h e = let n31 : n ≡ 31 = cc in h n31
 never-31 Finish h e = let z : _≡_ {A = ℕ} 0 1 = cc in absurd (omega (arith, z))
 never-31 (Go pops push write q) h e = let z : _≡_ {A = ℕ} 0 1 = cc in absurd (omega (arith, z))
@@ -47,10 +47,10 @@ unfolding nextEffect
 never-traps-31 A q m next a l s label e =
     let sum =
     by-value (sumEffect q next a l s label)
-    (λ x. by-test Else31 (beyond (toZ w32 s) (toZ w32 x) (toZ w32 l)) _ _ (λ h. tt) (λ h. tt)) (λ n. tt) (nextSum m a s) in
+    (λ x. by-test Not31 (beyond (toZ w32 s) (toZ w32 x) (toZ w32 l)) _ _ (λ h. tt) (λ h. tt)) (λ n. tt) (nextSum m a s) in
     never-31 (nextEffect A q m next a l s label)
-    (by-test Else31 (live q a 1) _ (Trap 32)
-    (λ h. by-test Else31 (protects A q m a) (Trap 33) _ (λ k z. omega (arith, z)) (λ k. sum)) (λ h z. omega (arith, z)))
+    (by-test Not31 (live q a 1) _ (Trap 32)
+    (λ h. by-test Not31 (protects A q m a) (Trap 33) _ (λ k z. omega (arith, z)) (λ k. sum)) (λ h z. omega (arith, z)))
     e
 
 plus-zero : (z : ℤ) → z +ℤ pos 0 ≡ z

@@ -52,7 +52,7 @@ iterEffect A q m next d a f l s =
     cond (beyond (toZ w32 s) (toZ w32 f) (toZ w32 l)) (Go 4 NoPush NoWrite (moved q (placeAt (q .pc) d)))
     (ifStorable A q m a Normal (Go 0 (PushOne next) (WriteOne a f) (moved q next)))
 
--- NEXT's sum: MEMORY(A) + S.
+-- NEXT's sum: MEMORY(A) + S, signed. `Trap` says here that it leaves the range; NEXT does not trap for it.
 unfoldable pub nextSum : List ℕ → ℕ → ℕ → Value
 nextSum m a s = signedValue Add (read m a) s
 

@@ -1,5 +1,5 @@
 -- NEXT at the end of the range. 02, K3: "Where the sum in NEXT leaves the signed range, the loop is left as if the sum had passed
--- the last value, five words go, and the variable keeps its value. The address must still be live and unprotected."
+-- the last value, five words go, and the variable keeps its value."
 use mathlib.Core.Bool.{true, false}
 use mathlib.Core.List.{List}
 use mathlib.Core.Path.{_≡_}

@@ -104,7 +104,7 @@ pub fn iter_effect(
     )
 }
 
-// NEXT, with the sum.
+// NEXT with a sum in the range: it is stored, and then the loop is left or goes round.
 fn round_effect(q: Registers, next: u32, a: u32, last: u32, step: u32, label: u32, x: u32) -> Effect
     ensures { λ e. ⌜ e ≡ roundEffect q next a last step label x ⌝ }
 {
@@ -114,7 +114,7 @@ fn round_effect(q: Registers, next: u32, a: u32, last: u32, step: u32, label: u3
     Effect::Go(0, Push::NoPush, Write::WriteOne(a, x), q.moved(label))
 }
 
-// NEXT, with what its sum is: outside the signed range it leaves the loop, and the variable keeps its value.
+// NEXT with its sum: one outside the signed range (`Trap`) leaves the loop, and the variable keeps its value.
 fn sum_effect(
     q: Registers,
     next: u32,

@@ -7,7 +7,7 @@ use conformance::generate::damage::damage;
 use conformance::generate::program::{self, Program};
 use conformance::generate::record::Parts;
 use conformance::generate::{instructions, record, state};
-use conformance::harness::{self, agree, Expected, Tally};
+use conformance::harness::{self, agree, left_by_its_sum, Expected, Tally};
 use conformance::instruction::{decode, Instruction};
 use conformance::interface::{Interface, REFERENCE};
 use conformance::random::{Random, EDGES};
@@ -24,6 +24,7 @@ fn main() -> std::process::ExitCode {
         Expected::new("run refused", 1..=7, 100),
         Expected::new("run refused", 24..=24, 100),
         Expected { kind: "opcode done", numbers: instructions::served(), least: 5 },
+        Expected::new("left by its sum", 0..=0, 50),
     ];
     if let Err(difference) = arithmetic_edges() {
         println!("different:\n{difference}");
@@ -138,6 +139,7 @@ fn run_on(
     for _ in 0..random.within(1..=most) {
         let budget = random.pick(&[0, 1, 1, 2, 3, 10, 60, 300]);
         let first = opcode_at(&record, machine.state[0]);
+        let before = machine.clone();
         let case = Case::Run { record: record.clone(), budget, machine };
         let Answer::Run { ended, machine: after } = agree(&case, &PROVED)? else { return Ok(()) };
         match ended {
@@ -146,6 +148,9 @@ fn run_on(
                 tally.add("steps", 0, u64::from(steps));
                 if let (Some(opcode), 1..) = (first, steps) {
                     tally.note("opcode done", opcode);
+                }
+                if steps == 1 && left_by_its_sum(first, &before, &after) {
+                    tally.note("left by its sum", 0);
                 }
             }
             Err(number) => {

@@ -58,9 +58,24 @@ impl Body<'_> {
             (0..3).for_each(|_| self.value(1));
             return;
         }
+        if self.random.percent(10) {
+            return self.bounds_at_range_end();
+        }
         let first = self.random.below(7) as i32 - 3;
         let step = self.random.pick(&[1, 1, 1, 2, 3, -1, -1, -2, 0]);
         let last = first + step * self.random.below(5) as i32 - self.random.below(2) as i32;
+        for bound in [first, last, step] {
+            self.constant(bound as u32);
+        }
+    }
+
+    /// Bounds of a loop that ends where its sum leaves the signed range, or just before.
+    fn bounds_at_range_end(&mut self) {
+        let step = self.random.pick(&[1, 1, 2, 3, -1, -1, -2, -3]);
+        let end = if step > 0 { i32::MAX } else { i32::MIN };
+        let first =
+            end - step * self.random.below(4) as i32 - step.signum() * self.random.below(3) as i32;
+        let last = end - step.signum() * self.random.below(2) as i32;
         for bound in [first, last, step] {
             self.constant(bound as u32);
         }

@@ -70,7 +70,7 @@ pub fn fitting(random: &mut Random, record: &Record) -> Words {
 }
 
 /// Puts operands of ITER and NEXT on top of the stack, where there is room: address, first, last,
-/// step and, for NEXT, label. The sum of variable and step is likely to leave the range.
+/// step and, for NEXT, label. Half of NEXT's variables lie at the end of the range that the step leads to.
 pub fn loop_operands(random: &mut Random, record: &Record, words: &mut Words, label: bool) {
     let height = words.state[4] as usize;
     let count = if label { 5 } else { 4 };
@@ -88,6 +88,11 @@ pub fn loop_operands(random: &mut Random, record: &Record, words: &mut Words, la
         pool.code_offset(random),
     ];
     words.stack[height - count..height].copy_from_slice(&operands[..count]);
+    let [address, _, _, step, _] = operands;
+    if label && random.percent(50) && (3..mp).contains(&(address as usize)) {
+        let end = if (step as i32) < 0 { i32::MIN } else { i32::MAX };
+        words.memory[address as usize] = end as u32;
+    }
 }
 
 /// Words that mean something to a state.

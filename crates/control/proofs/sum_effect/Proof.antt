@@ -1,4 +1,4 @@
--- `control::sum_effect` meets its contract: the sum goes on, or its loop is left.
+-- `control::sum_effect` meets its contract: a sum in the range goes on to `round_effect`, else the loop is left.
 use borrow.Author.Needs.{needs}
 use Rattle.control.proofs.sum_effect.Statement.{statement}
 use Rattle.control.proofs.sum_effect.Tie as tie
