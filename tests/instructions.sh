@@ -12,7 +12,7 @@ counted() {
 }
 
 printf '%-14s %10s %10s %7s\n' 'a step' proved reference ratio
-for workload in arithmetic calls stores outer-stores switches two-words for-loops; do
+for workload in arithmetic calls stores outer-stores switches two-words for-loops booleans sets mix; do
     for side in proved reference; do
         a=$(counted "$side" "$workload" "$short")
         b=$(counted "$side" "$workload" "$long")

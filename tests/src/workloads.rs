@@ -1,7 +1,13 @@
 //! Programs for timing: endless loops for the machine, full-size code for the check.
 
-use crate::generate::assembler::{Assembler, Branch};
+use crate::cases::{Answer, Case, Words};
+use crate::check::examine;
+use crate::generate::assembler::{Assembler, Branch, Range};
+use crate::generate::program;
 use crate::generate::record::{set_entry, Parts};
+use crate::interface::REFERENCE;
+use crate::random::Random;
+use crate::record::Record;
 
 pub struct Workload {
     pub name: &'static str,
@@ -42,7 +48,17 @@ fn assembled(code: Assembler) -> Vec<u8> {
 
 /// Endless loops.
 pub fn for_run() -> Vec<Workload> {
-    vec![arithmetic(), calls(), stores(), outer_stores(), switches(), two_words(), for_loops()]
+    vec![
+        arithmetic(),
+        calls(),
+        stores(),
+        outer_stores(),
+        switches(),
+        two_words(),
+        for_loops(),
+        booleans(),
+        sets(),
+    ]
 }
 
 /// g0 := (g0 * 3 + 7) mod 997; g1 := g0 < 500
@@ -117,6 +133,83 @@ fn for_loops() -> Workload {
         code.mark(exit);
     });
     workload("for loops", vec![(body, 0)])
+}
+
+/// g0 := (g0 + 1) mod 8; g1 := g0 < 3 or g0 >= 6; if g1 and not g0 = 2 then g2 := g0; a switch over ranges of g0
+fn booleans() -> Workload {
+    let body = repeated(|code| {
+        code.bytes(&[0x20, 0x01, 0xa0, 0x08, 0xa5, 0x50]);
+        let (either, both, skip) = (code.label(), code.label(), code.label());
+        code.bytes(&[0x20, 0x03, 0xc0]);
+        code.branch(Branch::JumpT, either, false);
+        code.bytes(&[0x20, 0x06, 0xc3]);
+        code.mark(either);
+        code.bytes(&[0x51, 0x21]);
+        code.branch(Branch::JumpF, both, false);
+        code.bytes(&[0x20, 0x02, 0xbe, 0xd7]);
+        code.mark(both);
+        code.branch(Branch::JumpC, skip, false);
+        code.bytes(&[0x20, 0x52]);
+        code.mark(skip);
+        code.bytes(&[0x20]);
+        let (exit, otherwise) = (code.label(), code.label());
+        let branches = [code.label(), code.label(), code.label()];
+        let bounds = [(0, 1), (2, 4), (5, 6)];
+        let ranges = bounds.into_iter().zip(branches).map(|((lower, upper), branch)| Range {
+            lower,
+            upper,
+            to: Some(branch),
+        });
+        code.switch_x(exit, otherwise, ranges.collect());
+        for branch in branches.into_iter().chain([otherwise]) {
+            code.mark(branch);
+            code.bytes(&[0x01, 0x53, 0xe4]);
+        }
+        code.mark(exit);
+    });
+    workload("booleans", vec![(body, 0)])
+}
+
+/// Union, difference, intersection, both inclusions and TEST of one-word sets, and the negative of a number.
+fn sets() -> Workload {
+    let body = repeated(|code| {
+        code.bytes(&[0x20, 0x83, 0x0f, 0xf0, 0xb8, 0x82, 0x3c, 0xb9, 0x83, 0x7f, 0xff, 0xba, 0x50]);
+        code.bytes(&[0x20, 0x0c, 0xd0, 0x51, 0x20, 0x0c, 0xd1, 0x51, 0x05, 0x20, 0xd2, 0x51]);
+        code.bytes(&[0x22, 0x01, 0xa0, 0xa6, 0x52]);
+    });
+    workload("sets", vec![(body, 0)])
+}
+
+/// A program of the mix as it was loaded, and the steps that it then takes.
+pub struct Mixed {
+    pub record: Vec<u8>,
+    pub loaded: Words,
+    pub steps: u32,
+}
+
+/// A hundred accepted programs as the tests generate them, each with at least a hundred steps.
+pub fn mix() -> Vec<Mixed> {
+    let mut random = Random::new(1);
+    std::iter::from_fn(|| Some(mixed(&mut random))).flatten().take(100).collect()
+}
+
+fn mixed(random: &mut Random) -> Option<Mixed> {
+    let program = program::usual(random);
+    let record = program.parts.assemble();
+    let read = Record::read(&record).ok()?;
+    examine(&read, &program.results).ok()?;
+    let memory = vec![0; read.frames_at() as usize + 300];
+    let parameters = random.words(read.globals as usize);
+    let stack = vec![0; 200];
+    let case = Case::Load { record: record.clone(), parameters, memory, stack };
+    let Answer::Load { number: 0, machine: loaded } = case.answer(&REFERENCE) else { return None };
+    let case = Case::Run { record: record.clone(), budget: 1_000, machine: loaded.clone() };
+    match case.answer(&REFERENCE) {
+        Answer::Run { ended: Ok([_, _, steps]), .. } if steps >= 100 => {
+            Some(Mixed { record, loaded, steps })
+        }
+        _ => None,
+    }
 }
 
 /// Accepted code, each close to the largest size or to the most slots.

@@ -6,11 +6,12 @@
 //! The second form prints nothing but the count: it is for valgrind --tool=callgrind. SIDE is
 //! proved or reference; a workload's name is written with - for its spaces.
 
+use conformance::cases::Words;
 use conformance::check::STRIDE;
 use conformance::ffi::PROVED;
 use conformance::interface::{Interface, OUTCOME_WORDS, REFERENCE, STATE_WORDS};
 use conformance::record::Record;
-use conformance::workloads::{for_check, for_run, Workload};
+use conformance::workloads::{for_check, for_run, mix, Mixed, Workload};
 use std::hint::black_box;
 use std::process::ExitCode;
 use std::time::Instant;
@@ -19,6 +20,7 @@ use std::time::Instant;
 const ROUNDS: u32 = 7;
 const STEPS: u32 = 3_000_000;
 const CHECKS: u32 = 300;
+const MIX: &str = "mix";
 
 fn main() -> ExitCode {
     let arguments: Vec<String> = std::env::args().skip(1).collect();
@@ -40,36 +42,38 @@ fn main() -> ExitCode {
 fn all() -> Result<(), String> {
     println!("{:16} {:>12} {:>12} {:>7}", "run, ns a step", "proved", "reference", "ratio");
     for workload in for_run() {
-        compare(&workload, STEPS, run)?;
+        compare(workload.name, STEPS, |library, steps| run(library, &workload, steps))?;
     }
+    let programs = mix();
+    compare(MIX, STEPS, |library, steps| run_mix(library, &programs, steps))?;
     println!("{:16} {:>12} {:>12} {:>7}", "check, ns", "proved", "reference", "ratio");
     for workload in for_check() {
-        compare(&workload, CHECKS, check)?;
+        compare(workload.name, CHECKS, |library, times| check(library, &workload, times))?;
     }
     Ok(())
 }
 
-type Work = fn(&Interface, &Workload, u32) -> Result<(), String>;
+/// Work with an implementation, so many steps or times.
+type Work<'a> = &'a dyn Fn(&Interface, u32) -> Result<(), String>;
 
-fn compare(workload: &Workload, count: u32, work: Work) -> Result<(), String> {
+fn compare(
+    name: &str,
+    count: u32,
+    work: impl Fn(&Interface, u32) -> Result<(), String>,
+) -> Result<(), String> {
     let (mut proved, mut reference) = (f64::INFINITY, f64::INFINITY);
     for _ in 0..ROUNDS {
-        proved = proved.min(nanoseconds(&PROVED, workload, count, work)?);
-        reference = reference.min(nanoseconds(&REFERENCE, workload, count, work)?);
+        proved = proved.min(nanoseconds(&PROVED, count, &work)?);
+        reference = reference.min(nanoseconds(&REFERENCE, count, &work)?);
     }
     let ratio = proved / reference;
-    println!("{:16} {proved:>12.1} {reference:>12.1} {ratio:>7.2}", workload.name);
+    println!("{name:16} {proved:>12.1} {reference:>12.1} {ratio:>7.2}");
     Ok(())
 }
 
-fn nanoseconds(
-    library: &Interface,
-    workload: &Workload,
-    count: u32,
-    work: Work,
-) -> Result<f64, String> {
+fn nanoseconds(library: &Interface, count: u32, work: Work) -> Result<f64, String> {
     let start = Instant::now();
-    work(library, workload, count)?;
+    work(library, count)?;
     Ok(start.elapsed().as_secs_f64() * 1e9 / f64::from(count))
 }
 
@@ -81,7 +85,9 @@ fn one(side: &str, name: &str, count: &str) -> Result<(), String> {
     };
     let count = count.parse().map_err(|_| format!("{count} is no count"))?;
     let named = |workload: &Workload| workload.name.replace(' ', "-") == name;
-    if let Some(workload) = for_run().into_iter().find(named) {
+    if name == MIX {
+        run_mix(&library, &mix(), count)?;
+    } else if let Some(workload) = for_run().into_iter().find(named) {
         run(&library, &workload, count)?;
     } else if let Some(workload) = for_check().into_iter().find(named) {
         check(&library, &workload, count)?;
@@ -104,6 +110,25 @@ fn run(library: &Interface, workload: &Workload, steps: u32) -> Result<(), Strin
         (0, 0, [1, _, done]) if done == steps => Ok(()),
         _ => Err(format!("{}: load {loaded}, run {ran}, outcome {outcome:?}", workload.name)),
     }
+}
+
+/// Runs the programs of the mix in turn, each from where it was loaded, for `steps` steps in all.
+fn run_mix(library: &Interface, programs: &[Mixed], steps: u32) -> Result<(), String> {
+    let mut left = steps;
+    for Mixed { record, loaded, steps } in programs.iter().cycle() {
+        let mut machine = loaded.clone();
+        let (budget, mut outcome) = (left.min(*steps), [0; OUTCOME_WORDS]);
+        let Words { state, memory, stack } = &mut machine;
+        let ran = (library.run)(black_box(record), budget, memory, stack, state, &mut outcome);
+        if (ran, outcome[2]) != (0, budget) {
+            return Err(format!("{MIX}: run {ran}, outcome {outcome:?}"));
+        }
+        left -= budget;
+        if left == 0 {
+            break;
+        }
+    }
+    Ok(())
 }
 
 /// Checks the workload `times` times.
