@@ -1,4 +1,4 @@
--- 01's plates marked P, and a loop that runs to the last number (02, K3), as a table: code, parameters and globals, what the
+-- 01's plates marked P, and loops to both ends of the range (02, K3), as a table: code, parameters and globals, what the
 -- check answers, and what loading and running gives.
 -- "Globals as given, constants none; memory 64, stack 16, budget 1,000 unless named."
 use mathlib.Core.List.{List, [], _∷_, _++_, map}
@@ -90,7 +90,11 @@ table =
     ∷ row
     (0x00 ∷ 0x02 ∷ 0x8E ∷ 0x02 ∷ 0x20 ∷ 0x84 ∷ 0x7F ∷ 0xFF ∷ 0xFF ∷ 0xFF ∷ 0x21 ∷ 0xE0 ∷ 0x00 ∷ 0x08 ∷ 0x23 ∷ 0x01 ∷ 0xA0 ∷ 0x53
     ∷ 0xE1 ∷ 0xE9 ∷ [])
-    (2147483644 ∷ 1 ∷ []) 4 0 (ended 0 19 26 (2147483644 ∷ 1 ∷ 2147483647 ∷ 4 ∷ []) [])  -- 02, K3
+    (2147483644 ∷ 1 ∷ []) 4 0 (ended 0 19 26 (2147483644 ∷ 1 ∷ 2147483647 ∷ 4 ∷ []) [])  -- 02, K3: up
+    ∷ row
+    (0x00 ∷ 0x02 ∷ 0x8E ∷ 0x02 ∷ 0x20 ∷ 0x84 ∷ 0x80 ∷ 0x00 ∷ 0x00 ∷ 0x00 ∷ 0x21 ∷ 0xE0 ∷ 0x00 ∷ 0x08 ∷ 0x23 ∷ 0x01 ∷ 0xA0 ∷ 0x53
+    ∷ 0xE1 ∷ 0xE9 ∷ [])
+    (2147483650 ∷ 4294967295 ∷ []) 4 0 (ended 0 19 21 (2147483650 ∷ 4294967295 ∷ 2147483648 ∷ 3 ∷ []) [])  -- 02, K3: down
     ∷ []
 
 -- Each case of the table has the number and the outcome that stand beside it.

@@ -21,11 +21,15 @@ use Rattle.registers.specs.declared.Areas.{Areas}
 use Rattle.registers.specs.declared.Registers.{Registers}
 use Rattle.registers.specs.Memory.{read, live, protects}
 use Rattle.control.specs.Control.{beyond, nextSum, sumEffect, nextEffect}
-use Rattle.control.specs.Loops.{LeavesAtRangeEnd, NeverTraps31, ZeroGoesRound}
+use Rattle.control.specs.Loops.{LeavesAtRangeEnd, TestsAddress, NeverTraps31, ZeroGoesRound}
 
 pub leaves-at-range-end : LeavesAtRangeEnd
 unfolding nextEffect nextSum signedValue signedWord
 leaves-at-range-end A q m next a l s label is-live free out = rw (is-live, free, out)
+
+pub tests-address : TestsAddress
+unfolding nextEffect
+tests-address A q m next a l s label = (λ dead. rw dead, λ is-live kept. rw (is-live, kept))
 
 -- No trap with 31.
 abbrev Not31 : Effect → Type 0

@@ -24,6 +24,13 @@ LeavesAtRangeEnd =
     → isSigned (toZ w32 (read m a) +ℤ toZ w32 s) ≡ false
     → nextEffect A q m next a l s label ≡ Go 5 NoPush NoWrite (moved q next)
 
+-- "The address must still be live and unprotected": 32, then 33, whatever the sum is.
+abbrev pub TestsAddress : Type 0
+TestsAddress =
+    (A : Areas) (q : Registers) (m : List ℕ) (next a l s label : ℕ)
+    → (live q a 1 ≡ false → nextEffect A q m next a l s label ≡ Trap 32)
+    × (live q a 1 ≡ true → protects A q m a ≡ true → nextEffect A q m next a l s label ≡ Trap 33)
+
 -- "Refusals: NEXT no longer gives 31."
 abbrev pub NeverTraps31 : Type 0
 NeverTraps31 =
