@@ -63,10 +63,13 @@ def test_sentences(tests):
     for file, sentence in cases:
         status, out, err = tests.run("page", "-", input=file)
         tests.expect(sentence, err == f"icode: standard input: {sentence}\n", (status, out, err))
-    # ITER finds four words, NEXT five: LOAD_A_G.b 0, LOAD_C.w the last number, that again, LOAD_C.1, ITER, NEXT
+    # NEXT finds five words: LOAD_C.1, ALLOC, LOAD_C.1, LOAD_C.2, LOAD_C.1, ITER, then LOAD_C.1, FREE of the variable, NEXT
+    status, out, err = tests.run("page", "-", input=run([0x01, 0xD8, 0x01, 0x02, 0x01, 0xE0, 0, 6, 0x01, 0xD9, 0xE1, 0xE9]))
+    tests.expect("NEXT", "trap 32: not live at source line 12: NEXT found 5, 1, 2, 1 and 10\n" in err, (status, out, err))
+    # At the end of the range it leaves: LOAD_A_G.b 0, LOAD_C.w the last number, that again, LOAD_C.1, ITER, NEXT (02, K3)
     last = [0x84, 0x7F, 0xFF, 0xFF, 0xFF]
     status, out, err = tests.run("page", "-", input=run([0x8E, 0, *last, *last, 0x01, 0xE0, 0, 4, 0xE1, 0xE9]))
-    tests.expect("NEXT", "NEXT found 3, 2147483647, 2147483647, 1 and 18\n" in err, (status, out, err))
+    tests.expect("last NEXT", (status, out) == (0, "check 0\nend 0 at 19 line 12 steps 7\ns\ng 2147483647 0\n"), (status, out, err))
 
 
 def test_signed(tests):
