@@ -12,12 +12,14 @@ A batch is a file crates/CRATE/must-fail/BATCH.edit; `rt` applies all of it to a
 
   edit: NAME
   function: MODULE::FUNCTION      or   theorem: FILE.NAME, of proofs/FILE.antt
+  clause: NAME                    of the function's proof; only where the batch has other edits of this function
   file: src/lib.rt
   old: text that stands there once
   new: text in its place
 
 with one or more pairs of old and new. A batch changes the bodies of functions, or contracts, or definitions, and only one of these: what
-is changed in a contract or a definition may break more than the edit names. It breaks a function or a theorem once.
+is changed in a contract or a definition may break more than the edit names. It breaks a theorem once, and a function once or, where
+each of its edits names a clause of its own, once a clause.
 """
 
 import re
@@ -42,6 +44,7 @@ class Edit:
     name: str
     kind: str = ""  # function or theorem
     breaks: str = ""
+    clause: str = ""  # the clause of the function's proof that is refused; any, where none is named
     pairs: list = field(default_factory=list)  # (file, old, new)
 
 
@@ -69,6 +72,8 @@ def parse(crate, label, text):
             raise Fault(f"{crate}/{label}: a line before the first edit: {line}")
         elif word in ("function", "theorem"):
             edits[-1].kind, edits[-1].breaks = word, rest
+        elif word == "clause":
+            edits[-1].clause = rest
         elif word == "file":
             file = rest
         elif word == "old":
@@ -110,10 +115,14 @@ def functions(root=ROOT):
 
 
 def bodies(root=ROOT):
-    """Where the bodies of functions stand: (crate, file) -> (begin, end, function)."""
+    """Where the bodies of functions stand, with the tables that they name: (crate, file) -> (begin, end, function)."""
     found = {}
     for crate, name, _, file, begin, end in functions(root):
+        text = (root / "crates" / crate / file).read_text()
+        tables = re.finditer(r"^const (\w+): \[.*?\] = (\[.*?\]);$", text, re.M | re.S)
+        named = [table for table in tables if re.search(rf"\b{table.group(1)}\b", text[begin:end])]
         found.setdefault((crate, file), []).append((begin, end, name))
+        found[crate, file] += [(*table.span(2), name) for table in named]
     return found
 
 
@@ -161,8 +170,9 @@ def well_formed(batch, root, found):
     if len(changed) > 1:
         yield f"{batch.name}: it changes {' and '.join(sorted(changed))}: make a batch of each"
     for breaks, times in Counter(edit.breaks for edit in batch.edits).items():
-        if times > 1:
-            yield f"{batch.name}: {breaks} is broken {times} times in one batch"
+        clauses = {edit.clause for edit in batch.edits if edit.breaks == breaks and edit.clause}
+        if times > 1 and len(clauses) < times:
+            yield f"{batch.name}: {breaks} is broken {times} times in one batch, and not each time in a clause of its own"
 
 
 def edits_of_code(root=ROOT):
@@ -272,10 +282,11 @@ def refusal(edit, crate, log):
         own = [message for declared, message in errors_in(log, f"proofs/{file}.antt") if declared == name]
         verdict = "not proved"
     else:
-        own = [message for _, message in errors_in(log, f"proofs/{edit.breaks.replace('::', '/')}/Proof.antt")]
+        found = errors_in(log, f"proofs/{edit.breaks.replace('::', '/')}/Proof.antt")
+        own = [message for declared, message in found if edit.clause in ("", declared)]
         said = re.search(rf"^fn {re.escape(crate)}::{re.escape(edit.breaks)}: (.*)$", log, re.M)
         verdict = said.group(1) if said else "no verdict"
-        if verdict.startswith("no proof") and "`search` does not close" in verdict:
+        if verdict.startswith("no proof") and "`search` does not close" in verdict and not edit.clause:
             return ""
     if verdict.startswith("proved"):
         return "it is still proved"
@@ -311,7 +322,7 @@ def tell(results):
 
 def side_copy(crate, keep):
     """A copy of the repository, with what is proved, that has just the batches `keep` of one crate."""
-    side = Path(tempfile.mkdtemp(prefix="edits."))
+    side = Path(tempfile.mkdtemp(prefix=f"edits.{ROOT.name}.{crate}."))
     shutil.copy(ROOT / "crates.txt", side)
     shutil.copytree(ROOT / "crates", side / "crates", ignore=shutil.ignore_patterns("must-fail"))
     for part in ("rlib", "stamp", "obj", "bin", "log"):

@@ -98,6 +98,15 @@ class Before(unittest.TestCase):
         twice = BATCH + "\nedit: low_adds_9\nfunction: low\nfile: src/lib.rt\nold: x + 2\nnew: x + 9\n"
         self.assertIn("low is broken 2 times", self.faults(code_1=twice))
 
+    def test_function_broken_in_two_clauses(self):
+        second = "\nedit: low_adds_9\nfunction: low\nclause: returns-2\nfile: src/lib.rt\nold: + 8\nnew: + 9\n"
+        named = BATCH.replace("function: low\n", "function: low\nclause: returns\n")
+        promises = PROMISES.replace("low_adds_0", "low_adds_0, low_adds_9")
+        code = CODE.replace("x + 1", "x + 1 - 8 + 8")
+        self.assertEqual(self.faults(code=code, code_1=named + second, promises=promises), "")
+        self.assertIn("low is broken 2 times", self.faults(code=code, code_1=named + second.replace("returns-2", "returns")))
+        self.assertIn("low is broken 2 times", self.faults(code=code, code_1=BATCH + second))
+
     def test_code_and_definitions_in_one_batch(self):
         self.assertIn("it changes bodies and specs", self.faults(code_1=BATCH + "\n" + FALSE))
         contract = "\nedit: low_is_below\nfunction: hidden\nfile: src/lib.rt\nold: is above\nnew: is below\n"
@@ -106,6 +115,13 @@ class Before(unittest.TestCase):
     def test_edit_of_a_contract_does_not_count(self):
         contract = "edit: low_is_below\nfunction: low\nfile: src/lib.rt\nold: is above\nnew: is below\n"
         self.assertIn("low has 1 edits of its body", self.faults(code_1=contract))
+
+    def test_edit_of_a_table(self):
+        table = "const TABLE: [u32; 2] = [\n    7,\n    8,\n];\n\npub fn"
+        edit = BATCH.replace("old: x + 1\nnew: x + 2", "old:     8,\nnew:     9,")
+        named = CODE.replace("pub fn", table, 1).replace("x + 1", "x + 1 + TABLE[0] - 7")
+        self.assertEqual(self.faults(code=named, code_1=edit), "")
+        self.assertIn("low has 1 edits of its body", self.faults(code=CODE.replace("pub fn", table, 1), code_1=edit))
 
     def test_same_edit_twice(self):
         self.assertIn("low has 1 edits of its body", self.faults(code_2=AGAIN.replace("x + 0", "x + 2")))
@@ -147,6 +163,13 @@ class After(unittest.TestCase):
         self.assertEqual(self.wrong(UNCLOSED), "")
         self.assertEqual(self.wrong(CALLEE + REFUSED), "")
         self.assertEqual(self.wrong(FALSIFIED, FALSE, "definitions_1"), "")
+
+    def test_another_clause_is_refused(self):
+        named = BATCH.replace("function: low\n", "function: low\nclause: returns\n")
+        self.assertEqual(self.wrong(REFUSED, named), "")
+        other = named.replace("clause: returns", "clause: returns-2")
+        self.assertIn("no error of its own", self.wrong(REFUSED, other))
+        self.assertIn("no error of its own", self.wrong(UNCLOSED, named))
 
     def test_still_proved(self):
         self.assertIn("still proved", self.wrong("fn one::low: proved\nlogic=not-proved\n"))
