@@ -18,7 +18,7 @@
 
 /* The version of this interface: MAJOR is another one where a program that uses it may have to change, MINOR where something is added. */
 #define ICODE_VERSION_MAJOR 1
-#define ICODE_VERSION_MINOR 0
+#define ICODE_VERSION_MINOR 1
 
 /* The numbers handed back; docs/NUMBERS.md says which calls give which. 0 is no refusal. */
 enum icode_number {
@@ -186,6 +186,12 @@ uint32_t icode_bench_load(const uint8_t *record, size_t record_len, const uint32
 uint32_t icode_bench_run(const uint8_t *record, size_t record_len, uint32_t budget, uint32_t *memory, size_t memory_len,
                          uint32_t *stack, size_t stack_len, uint32_t *state, size_t state_len, uint32_t *outcome,
                          size_t outcome_len);
+
+/* For tests: the same, for every at_once. At most at_once steps go through the fast loop before each one that goes through the general
+ * step; with 0 all go through that. icode_bench_run sets no such limit. */
+uint32_t icode_bench_run_by(uint32_t at_once, const uint8_t *record, size_t record_len, uint32_t budget, uint32_t *memory,
+                            size_t memory_len, uint32_t *stack, size_t stack_len, uint32_t *state, size_t state_len,
+                            uint32_t *outcome, size_t outcome_len);
 
 #ifdef __cplusplus
 }

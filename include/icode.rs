@@ -68,6 +68,20 @@ extern "C" {
         outcome: *mut u32,
         outcome_len: usize,
     ) -> u32;
+    fn icode_bench_run_by(
+        at_once: u32,
+        record: *const u8,
+        record_len: usize,
+        budget: u32,
+        memory: *mut u32,
+        memory_len: usize,
+        stack: *mut u32,
+        stack_len: usize,
+        state: *mut u32,
+        state_len: usize,
+        outcome: *mut u32,
+        outcome_len: usize,
+    ) -> u32;
 }
 
 // SAFETY, for every call below: each pointer and length are those of one Rust slice, mutable
@@ -155,6 +169,33 @@ pub fn run(
 ) -> u32 {
     unsafe {
         icode_bench_run(
+            record.as_ptr(),
+            record.len(),
+            budget,
+            memory.as_mut_ptr(),
+            memory.len(),
+            stack.as_mut_ptr(),
+            stack.len(),
+            state.as_mut_ptr(),
+            state.len(),
+            outcome.as_mut_ptr(),
+            outcome.len(),
+        )
+    }
+}
+
+pub fn run_by(
+    at_once: u32,
+    record: &[u8],
+    budget: u32,
+    memory: &mut [u32],
+    stack: &mut [u32],
+    state: &mut [u32],
+    outcome: &mut [u32],
+) -> u32 {
+    unsafe {
+        icode_bench_run_by(
+            at_once,
             record.as_ptr(),
             record.len(),
             budget,

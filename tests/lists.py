@@ -1,7 +1,7 @@
 #!/usr/bin/env python3
 """lists.py: lists that stand in two places say the same. Prints what differs, and exits with 1 where anything does.
 
-  docs/OPCODES.md         what the program opcode_table prints, from the proved decoder
+  docs/OPCODES.md         what the program opcode_table prints, from the table of lengths, and the mnemonics beside its entries
   docs/NUMBERS.md         the names of include/icode.h, the messages of the console and of icode list
   docs/ARCHITECTURE.md    the crates of crates.txt, in its order and layers
   crates.txt              the crates that each crate's files name
@@ -41,12 +41,24 @@ def differences(what, one, other):
 
 
 def opcodes():
-    """Code, mnemonic, length and modes."""
+    """Code, mnemonic, length and marks, of all 256; an unserved code has no length, and the sheet no mnemonic for it."""
     written = {}
-    for code, mnemonic, _, length, modes, *_ in rows("docs/OPCODES.md"):
-        written[code.lower()] = f"{mnemonic} {length} {modes.strip('-')}".strip() if modes else "-"
+    for code, mnemonic, _, length, marks, *_ in rows("docs/OPCODES.md"):
+        unserved = (length, marks) == ("-", "unserved")
+        written[code] = "- unserved" if unserved else f"{mnemonic} {length} {marks}"
     printed = dict(line.split(" ", 1) for line in text("crates/opcode_table/stdout").splitlines())
+    if list(printed) != [f"{code:02X}" for code in range(256)]:
+        yield "crates/opcode_table/stdout: not the 256 codes in their order"
     yield from differences("docs/OPCODES.md / opcode_table", written, printed)
+
+
+def sheet():
+    """The codes and mnemonics that stand beside the entries of the table of lengths."""
+    written = {code: mnemonic.strip("-") for code, mnemonic, *_ in rows("docs/OPCODES.md")}
+    entries = re.findall(r"^ +0x\w+, // (\w\w)(?: (\S+))?$", text("crates/opcode/src/format.rt"), re.M)
+    if [code for code, _ in entries] != [f"{code:02X}" for code in range(256)]:
+        yield "crates/opcode/src/format.rt: not the 256 codes in their order"
+    yield from differences("docs/OPCODES.md / format.rt", written, dict(entries))
 
 
 def header_numbers():
@@ -192,7 +204,7 @@ def exports():
             yield f"{file}: {name} is {'not declared' if name in exported else 'not exported'}"
 
 
-CHECKS = (opcodes, numbers, architecture, dependencies, promises, internal, names_in_documents, exports)
+CHECKS = (opcodes, sheet, numbers, architecture, dependencies, promises, internal, names_in_documents, exports)
 
 
 def main():

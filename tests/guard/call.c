@@ -22,6 +22,7 @@ static const struct {
     [BENCH_DECODE] = {"icode_bench_decode", {CODE, DECODED, ROLES}},
     [BENCH_LOAD] = {"icode_bench_load", {RECORD, PARAMETERS, STILL_STACK, MEMORY, STATE, ROLES}},
     [BENCH_RUN] = {"icode_bench_run", {RECORD, MEMORY, STACK, STATE, OUTCOME, ROLES}},
+    [BENCH_RUN_BY] = {"icode_bench_run_by", {RECORD, MEMORY, STACK, STATE, OUTCOME, ROLES}},
 };
 
 static struct {
@@ -106,8 +107,10 @@ static uint64_t dispatch(const struct call *call)
         return icode_bench_decode(SLICE(CODE), call->limit, call->at, SLICE(DECODED));
     case BENCH_LOAD:
         return icode_bench_load(SLICE(RECORD), SLICE(PARAMETERS), SLICE(MEMORY), SLICE(STILL_STACK), SLICE(STATE));
-    default:
+    case BENCH_RUN:
         return icode_bench_run(SLICE(RECORD), call->budget, SLICE(MEMORY), SLICE(STACK), SLICE(STATE), SLICE(OUTCOME));
+    default:
+        return icode_bench_run_by(call->at_once, SLICE(RECORD), call->budget, SLICE(MEMORY), SLICE(STACK), SLICE(STATE), SLICE(OUTCOME));
     }
 }
 

@@ -4,7 +4,8 @@
 
 #include "lend.h"
 
-enum function { RECORD_NUMBER, LINE, LINE_SPAN, MEND, CHECK, REPORT, BENCH_DECODE, BENCH_LOAD, BENCH_RUN, FUNCTIONS };
+enum function { RECORD_NUMBER, LINE, LINE_SPAN, MEND, CHECK, REPORT, BENCH_DECODE, BENCH_LOAD, BENCH_RUN,
+                BENCH_RUN_BY, FUNCTIONS };
 
 /* Name ways to call wrongly, to see that the test fails then. */
 enum wrong { RIGHT, WRONG_SHORT_READ, WRONG_SHORT_WRITE, WRONG_CONST, WRONG_CONST_STACK, WRONG_AROUND, WRONG_PAST, WRONG_REFUSAL,
@@ -15,7 +16,8 @@ struct call {
     size_t len[ROLES];           /* elements lent, for the roles of the function */
     const void *contents[ROLES]; /* of what it may write, as lent */
     uint32_t offset;             /* of line and line_span */
-    uint32_t budget;             /* of run */
+    uint32_t budget;             /* of run and run_by */
+    uint32_t at_once;            /* of run_by */
     size_t limit, at;            /* of decode */
 };
 

@@ -24,7 +24,8 @@ static bool belongs(unsigned of, uint32_t number)
     case CHECK: return number <= ICODE_NO_PICTURE;
     case REPORT: return number <= ICODE_RUN_FILE_WRONG;
     case BENCH_DECODE: return number == 0 || number == ICODE_ROOM_WRONG || number == ICODE_CODE_UNSERVED || number == ICODE_CODE_PAST;
-    case BENCH_RUN: return number <= ICODE_ENTRIES_MALFORMED || number == ICODE_STATE_WRONG;
+    case BENCH_RUN:
+    case BENCH_RUN_BY: return number <= ICODE_ENTRIES_MALFORMED || number == ICODE_STATE_WRONG;
     default:
         return number <= ICODE_SPENT || (number >= ICODE_TRAP_UNSERVED && number <= ICODE_TRAP_CALLEE) || number >= ICODE_TRAP_ZERO_DIVISOR;
     }

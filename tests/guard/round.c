@@ -237,7 +237,7 @@ static void make_machine(struct machine *machine)
 /* Sets up a run, with a state that may be damaged before. */
 static struct call new_run(const struct input *input, struct machine *machine)
 {
-    struct call call = new_call(BENCH_RUN, input);
+    struct call call = new_call(once_in(3) ? BENCH_RUN_BY : BENCH_RUN, input);
     if (once_in(6)) {
         machine->state[random_below(ICODE_STATE_WORDS)] += random_below(9) - 4;
         machine->fits = machine->sound = false;
@@ -248,6 +248,7 @@ static struct call new_run(const struct input *input, struct machine *machine)
     call.contents[STACK] = machine->stack;
     call.contents[STATE] = machine->state;
     call.budget = random_below(once_in(3) ? BUDGET_MAX : 40);
+    call.at_once = once_in(2) ? 0 : random_below(5);
     if (once_in(10))
         call.len[OUTCOME] = some_len(OUTCOME, ICODE_OUTCOME_WORDS);
     return call;
@@ -274,7 +275,7 @@ static void try_run(const struct input *input, uint32_t number, struct machine *
     struct call call = new_run(input, machine);
     bool lengths = call.len[OUTCOME] == ICODE_OUTCOME_WORDS;
     uint32_t answer = (uint32_t)call_both(&call);
-    note_number(BENCH_RUN, answer);
+    note_number(call.function, answer);
     promise(&call, number != 0 ? answer == number : answer == 0 || answer == ICODE_STATE_WRONG, "a number out of place");
     promise(&call, answer != 0 || lengths, "a wrong length is taken");
     promise(&call, number != 0 || !machine->fits || !lengths || answer == 0, "a state of load or of run does not fit");

@@ -16,3 +16,19 @@ pub const PROVED: Interface = Interface {
     load: archive::load,
     run: archive::run,
 };
+
+/// The same with every step by the general step.
+pub const GENERAL: Interface = Interface {
+    run: |record, budget, memory, stack, state, outcome| {
+        archive::run_by(0, record, budget, memory, stack, state, outcome)
+    },
+    ..PROVED
+};
+
+/// The same with a general step after at most three by the fast loop.
+pub const MIXED: Interface = Interface {
+    run: |record, budget, memory, stack, state, outcome| {
+        archive::run_by(3, record, budget, memory, stack, state, outcome)
+    },
+    ..PROVED
+};

@@ -35,18 +35,19 @@ impl Sheet {
         })
     }
 
-    /// Adds a row: code, name, length, modes. One without a name is not served.
+    /// Adds a row: code, name, length, marks. One that is not served has no length.
     fn add(&mut self, row: &[&'static str]) {
-        let [code, name, length, modes @ ..] = row else { return };
+        let [code, name, length, marks @ ..] = row else { return };
         let Ok(code) = u8::from_str_radix(code, 16) else { return };
+        if marks.contains(&"prefix") {
+            self.prefix = (code, name);
+            return;
+        }
         // A switch has 9+2n or 7+10n.
         let (len, per_entry) = length.split_once('+').unwrap_or((length, "0n"));
-        match (len.parse(), per_entry.trim_end_matches('n').parse()) {
-            (Ok(len), Ok(len_per_entry)) => {
-                let double = modes.contains(&"double");
-                self.forms.push(Form { code, name, len, len_per_entry, double });
-            }
-            _ => self.prefix = (code, name),
+        if let (Ok(len), Ok(len_per_entry)) = (len.parse(), per_entry.trim_end_matches('n').parse()) {
+            let double = marks.contains(&"double");
+            self.forms.push(Form { code, name, len, len_per_entry, double });
         }
     }
 

@@ -60,7 +60,7 @@ pub fn jump_tf_effect(q: Registers, next: u32, truth: u32, distance: u32, b: u32
 }
 
 // Whether a loop value is past the last one, by the sign of the step.
-fn is_beyond(step: u32, x: u32, last: u32) -> bool
+pub fn is_beyond(step: u32, x: u32, last: u32) -> bool
     ensures { λ b. ⌜ b ≡ beyond (toZ w32 step) (toZ w32 x) (toZ w32 last) ⌝ }
 {
     if integer::below(0, step) {

@@ -5,6 +5,7 @@ ghost use mathlib.Core.Bool.{not, _&&_, _||_};
 ghost use lib.Dec.{eqb};
 ghost use Prim.Native.Nat.{_≤_, _<_, _-_};
 ghost use lib.ListN.{length};
+ghost use Rattle.opcode.specs.Sheet.{Sheet};
 ghost use Rattle.entries.specs.Entries.{entryAt, entryCount};
 ghost use Rattle.successors.specs.Successors.{tableSize, tableFrom, switchTargets};
 ghost use Rattle.switch_table.specs.Switch.{exitLabel};
@@ -194,14 +195,15 @@ fn fault_of(code: &[u8], w: &[u16], p: u32, at: usize, next: usize, shape: Shape
 }
 
 // The lowest number that the instruction of procedure `p` at an offset gives.
-fn fault_at(code: &[u8], w: &[u16], p: u32, at: usize) -> u32
+fn fault_at(formats: &[u16], code: &[u8], w: &[u16], p: u32, at: usize) -> u32
+    requires { ⌜ Sheet (now formats) ⌝ }
     requires { ⌜ length (now code) ≤ 65535 ⌝ }
     requires { ⌜ p < 65535 ⌝ }
     requires { ⌜ at < 65536 ⌝ }
     ensures { λ n. ⌜ n ≡ faultAt (now (code .entry)) (marksIn (now (w .entry)) (length (now (code .entry)))) p at ⌝ }
 {
     let limit = entries::region_end(code, p);
-    match opcode::decode(code, limit, at) {
+    match opcode::decode(formats, code, limit, at) {
         Decoded::Unserved => 0,
         Decoded::Past => 0,
         Decoded::At(i, next) => fault_of(code, w, p, at, next, shape::shape_of(i)),
@@ -221,7 +223,8 @@ fn lower_number(a: u32, b: u32) -> u32
 }
 
 // 0, or the lowest of 12 to 14 over every instruction cut.
-pub fn code_number(code: &[u8], w: &[u16]) -> u32
+pub fn code_number(formats: &[u16], code: &[u8], w: &[u16]) -> u32
+    requires { ⌜ Sheet (now formats) ⌝ }
     requires { ⌜ length (now code) ≤ 65535 ⌝ }
     ensures { λ n. ⌜ n ≡ codeNumber (now (code .entry)) (marksIn (now (w .entry)) (length (now (code .entry)))) ⌝ }
 {
@@ -229,7 +232,7 @@ pub fn code_number(code: &[u8], w: &[u16]) -> u32
     for at in 0..code.len() {
         let mark = marks::mark_at(w, code.len(), at);
         if mark != 0 {
-            lowest = lower_number(lowest, fault_at(code, w, (mark as u32) - 1, at));
+            lowest = lower_number(lowest, fault_at(formats, code, w, (mark as u32) - 1, at));
         }
     }
     lowest

@@ -70,8 +70,9 @@ pub extern "C" fn icode_bench_load(
     }
 }
 
-#[no_mangle]
-pub extern "C" fn icode_bench_run(
+// Runs with at most so many steps at once (machine's `run_by`), and writes the outcome and the state.
+fn bench_run(
+    at_once: u32,
     bytes: &[u8],
     budget: u32,
     memory: &mut [u32],
@@ -79,7 +80,9 @@ pub extern "C" fn icode_bench_run(
     state: &mut [u32],
     outcome: &mut [u32],
 ) -> u32
-    ensures { λ n. ⌜ ranAs n (now (memory .exit)) (now (stack .exit)) (now (state .exit)) (now (outcome .exit)) ≡ benchRun (now (bytes .entry)) budget (now (memory .entry)) (now (stack .entry)) (now (state .entry)) (now (outcome .entry)) ⌝ }
+    ensures { λ n. ⌜ ranAs n (now (memory .exit)) (now (stack .exit)) (now (state .exit)) (now (outcome .exit))
+        ≡ benchRun (now (bytes .entry)) budget (now (memory .entry)) (now (stack .entry))
+        (now (state .entry)) (now (outcome .entry)) ⌝ }
 {
     let number = record::record_number(bytes);
     if number != 0 {
@@ -92,7 +95,7 @@ pub extern "C" fn icode_bench_run(
         return 24;
     }
     let q = read_state(state);
-    let answer = machine::run::run(bytes, budget, q, memory, stack);
+    let answer = machine::run::run_by(at_once, bytes, budget, q, memory, stack);
     match answer {
         Answer::Refused(n) => n,
         Answer::Ended(e) => {
@@ -102,4 +105,37 @@ pub extern "C" fn icode_bench_run(
             0
         }
     }
+}
+
+#[no_mangle]
+pub extern "C" fn icode_bench_run(
+    bytes: &[u8],
+    budget: u32,
+    memory: &mut [u32],
+    stack: &mut [u32],
+    state: &mut [u32],
+    outcome: &mut [u32],
+) -> u32
+    ensures { λ n. ⌜ ranAs n (now (memory .exit)) (now (stack .exit)) (now (state .exit)) (now (outcome .exit))
+        ≡ benchRun (now (bytes .entry)) budget (now (memory .entry)) (now (stack .entry))
+        (now (state .entry)) (now (outcome .entry)) ⌝ }
+{
+    bench_run(0xFFFF_FFFF, bytes, budget, memory, stack, state, outcome)
+}
+
+#[no_mangle]
+pub extern "C" fn icode_bench_run_by(
+    at_once: u32,
+    bytes: &[u8],
+    budget: u32,
+    memory: &mut [u32],
+    stack: &mut [u32],
+    state: &mut [u32],
+    outcome: &mut [u32],
+) -> u32
+    ensures { λ n. ⌜ ranAs n (now (memory .exit)) (now (stack .exit)) (now (state .exit)) (now (outcome .exit))
+        ≡ benchRun (now (bytes .entry)) budget (now (memory .entry)) (now (stack .entry))
+        (now (state .entry)) (now (outcome .entry)) ⌝ }
+{
+    bench_run(at_once, bytes, budget, memory, stack, state, outcome)
 }

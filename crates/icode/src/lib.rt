@@ -106,7 +106,8 @@ pub extern "C" fn icode_bench_decode(code: &[u8], limit: usize, at: usize, out: 
     if out.len() != 5 {
         return 8;
     }
-    let decoded = opcode::decode(code, limit, at);
+    let formats = opcode::format::formats();
+    let decoded = opcode::decode(&formats, code, limit, at);
     match decoded {
         Decoded::Unserved => 10,
         Decoded::Past => 11,

@@ -4,14 +4,11 @@ ghost use lib.Signed.{leZ, ltZ};
 ghost use mir.Syntax.{w32};
 ghost use mir.Val.{toZ};
 
-// The signed number that a word holds.
+// The signed number that a word holds. Written so that it compiles to one sign extension.
 pub fn signed(word: u32) -> i64
     ensures { λ z. ⌜ z ≡ toZ w32 word ⌝ }
 {
-    if word < 0x8000_0000 {
-        return word as i64;
-    }
-    (word as i64) - 0x1_0000_0000
+    ((((word as u64) + 0x8000_0000) % 0x1_0000_0000) as i64) - 0x8000_0000
 }
 
 // x <= y, signed.

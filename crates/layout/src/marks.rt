@@ -2,6 +2,7 @@
 ghost use mathlib.Core.Path.{_≡_};
 ghost use Prim.Native.Nat.{_≤_, _<_};
 ghost use lib.ListN.{length};
+ghost use Rattle.opcode.specs.Sheet.{Sheet};
 ghost use Rattle.layout.specs.Cut.{startsIn};
 ghost use Rattle.layout.specs.Workspace.{marksIn, markRegion, markAll};
 ghost use Rattle.workspace.specs.Checking.{checking};
@@ -28,7 +29,8 @@ pub fn starts_in(w: &[u16], size: usize, p: u32, at: usize) -> bool
 }
 
 // Procedure `p`'s region is cut end to end: 0, or 10 or 11 for a bad instruction.
-fn cut_region(code: &[u8], p: u32, w: &mut [u16]) -> u32
+fn cut_region(formats: &[u16], code: &[u8], p: u32, w: &mut [u16]) -> u32
+    requires { ⌜ Sheet (now formats) ⌝ }
     requires { ⌜ length (now code) ≤ 65535 ⌝ }
     requires { ⌜ p < 65535 ⌝ }
     ensures { λ n. ⌜ checking n (now (w .exit)) ≡ markRegion (now (code .entry)) p (now (w .entry)) ⌝ }
@@ -39,7 +41,7 @@ fn cut_region(code: &[u8], p: u32, w: &mut [u16]) -> u32
         if limit <= at {
             return 0;
         }
-        match opcode::decode(code, limit, at) {
+        match opcode::decode(formats, code, limit, at) {
             Decoded::Unserved => {
                 return 10;
             }
@@ -56,16 +58,17 @@ fn cut_region(code: &[u8], p: u32, w: &mut [u16]) -> u32
 }
 
 // All regions, in the order 1, 2, .., 0.
-pub fn cut_all(code: &[u8], w: &mut [u16]) -> u32
+pub fn cut_all(formats: &[u16], code: &[u8], w: &mut [u16]) -> u32
+    requires { ⌜ Sheet (now formats) ⌝ }
     requires { ⌜ length (now code) ≤ 65535 ⌝ }
     ensures { λ n. ⌜ checking n (now (w .exit)) ≡ markAll (now (code .entry)) (now (w .entry)) ⌝ }
 {
     let count = entries::entry_count(code);
     for p in 1..count {
-        let number = cut_region(code, p, w);
+        let number = cut_region(formats, code, p, w);
         if number != 0 {
             return number;
         }
     }
-    cut_region(code, 0, w)
+    cut_region(formats, code, 0, w)
 }

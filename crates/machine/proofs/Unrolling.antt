@@ -1,5 +1,5 @@
 -- A run unrolled step by step: what is left of the budget, from where the steps have come, decides what the whole run answers.
-use Prim.Native.Nat.{ℕ, zero, _+_, _-_, _≤_, _<_}
+use Prim.Native.Nat.{ℕ, zero, suc, _+_, _-_, _≤_, _<_}
 use mathlib.Core.Path.{_≡_, _∙_, refl, sym}
 use mathlib.Core.Bool.{Bool, true, false}
 use mathlib.Core.List.{List}
@@ -20,50 +20,83 @@ use Rattle.state.specs.Fits.{fits}
 use Rattle.step.specs.declared.Outcome.the-variants.{Went, Finished, Trapped}
 use Rattle.step.specs.Step.{After, stepOf}
 use Rattle.step.proofs.Preservation.{Holds, step-holds}
+use Rattle.fast.specs.Fast.{Steps, none, more, Ahead}
 use Rattle.machine.specs.declared.run.Answer.the-variants.{Refused}
 use Rattle.machine.specs.declared.run.End.the-variants.{Finished as finish, Spent, Trapped as stop}
 use Rattle.machine.specs.Run.{Result, ended, proceed, runFrom, runNumber, runOf}
 
--- So many steps have come from S₀ to S.
-pub record Running (P : Program) (budget : ℕ) (S₀ S : State) (steps : ℕ) : Type 0 where
+-- So many steps have come from S₀, where `done` were made before, to S.
+pub record Running (P : Program) (budget done : ℕ) (S₀ S : State) (steps : ℕ) : Type 0 where
   pub count : steps ≤ budget
   pub fit : fits (P .areas) S ≡ true
-  pub same : runFrom P budget 0 S₀ ≡ runFrom P (budget - steps) steps S
+  pub same : runFrom P (budget - done) done S₀ ≡ runFrom P (budget - steps) steps S
   pub memory : length (S .memory) ≡ length (S₀ .memory)
   pub stack : length (S .stack) ≡ length (S₀ .stack)
 
-pub running-start : (P : Program) (budget : ℕ) (S : State) → fits (P .areas) S ≡ true → Running P budget S S 0
-running-start P budget S h =
-    let none : budget - 0 ≡ budget = omega arith in
-    record { count = omega arith; fit = h; same = rw none; memory = refl; stack = refl }
+pub running-start : (P : Program) (budget done : ℕ) (S : State) → done ≤ budget → fits (P .areas) S ≡ true
+    → Running P budget done S S done
+running-start P budget done S l h = record { count = l; fit = h; same = refl; memory = refl; stack = refl }
 
-module _ (P : Program) (budget : ℕ) (S₀ S : State) (steps : ℕ) (R : Running P budget S₀ S steps) where
-  pub spent : budget ≤ steps → ended Spent steps S ≡ runFrom P budget 0 S₀
+unrolled : (P : Program) (S : State) (left count : ℕ) {n : ℕ} {S' : State} → Steps P S n S'
+    → runFrom P (n + left) count S ≡ runFrom P left (n + count) S'
+unrolled P S left count none =
+    let a : 0 + left ≡ left = omega arith in
+    let b : 0 + count ≡ count = omega arith in
+    rw (a, b)
+unrolled P S left count (more {n} t e) =
+    let a : suc n + left ≡ n + suc left = omega arith in
+    let b : n + count + 1 ≡ suc n + count = omega arith in
+    rw a (unrolled P S (suc left) count t ∙ rw (e, b))
+
+-- What was done at once is steps of the run.
+pub ahead-same : (P : Program) (budget steps most left : ℕ) (S S' : State) → steps ≤ budget → most ≤ budget - steps
+    → Ahead P S most left S'
+    → runFrom P (budget - steps) steps S ≡ runFrom P (budget - (steps + (most - left))) (steps + (most - left)) S'
+ahead-same P budget steps most left S S' l k a =
+    let n = most - left in
+    let x : n + (budget - (steps + n)) ≡ budget - steps = omega (arith, a .most) in
+    let y : n + steps ≡ steps + n = omega arith in
+    rw y at (rw x at (unrolled P S (budget - (steps + n)) steps (a .steps)))
+
+pub first-same : (P : Program) (budget most left : ℕ) (S S' : State) → most ≤ budget → Ahead P S most left S'
+    → runFrom P (budget - (most - left)) (most - left) S' ≡ runFrom P budget 0 S
+first-same P budget most left S S' k a =
+    let x : budget - 0 ≡ budget = omega arith in
+    let y : 0 + (most - left) ≡ most - left = omega arith in
+    sym (rw y at (rw x at (ahead-same P budget 0 most left S S' (omega arith) (rw x k) a)))
+
+module _ (P : Program) (budget done : ℕ) (S₀ S : State) (steps : ℕ) (R : Running P budget done S₀ S steps) where
+  pub spent : budget ≤ steps → ended Spent steps S ≡ runFrom P (budget - done) done S₀
   spent h =
-      let none : budget - steps ≡ zero = omega arith in
-      sym (R .same ∙ rw none)
+      let none-left : budget - steps ≡ zero = omega arith in
+      sym (R .same ∙ rw none-left)
 
   module _ (a : After) (h : steps < budget) (e : a ≡ stepOf P S) where
-    turn : runFrom P budget 0 S₀ ≡ proceed (runFrom P (budget - (steps + 1)) (steps + 1)) steps (a .outcome) (a .state)
+    turn : runFrom P (budget - done) done S₀
+        ≡ proceed (runFrom P (budget - (steps + 1)) (steps + 1)) steps (a .outcome) (a .state)
     turn = R .same ∙ rw (one-left steps budget h, ← e)
 
-    pub finished : a .outcome ≡ Finished → ended finish (steps + 1) (a .state) ≡ runFrom P budget 0 S₀
+    pub finished : a .outcome ≡ Finished → ended finish (steps + 1) (a .state) ≡ runFrom P (budget - done) done S₀
     finished o = sym (turn ∙ rw o)
 
-    pub trapped : (n : ℕ) → a .outcome ≡ Trapped n → ended (stop n) steps (a .state) ≡ runFrom P budget 0 S₀
+    pub trapped : (n : ℕ) → a .outcome ≡ Trapped n → ended (stop n) steps (a .state) ≡ runFrom P (budget - done) done S₀
     trapped n o = sym (turn ∙ rw o)
 
-    pub went : a .outcome ≡ Went → length (a .state .memory) ≡ length (S .memory) → length (a .state .stack) ≡ length (S .stack)
-        → Running P budget S₀ (a .state) (steps + 1)
-    went o k l =
-        let H : Holds (P .areas) S a = rw e (step-holds P S (R .fit)) in
-        record {
+    pub still-fits : fits (P .areas) (a .state) ≡ true
+    still-fits = let H : Holds (P .areas) S a = rw e (step-holds P S (R .fit)) in H .fit
+
+    pub went : a .outcome ≡ Went → (most left : ℕ) (S' : State) → most ≤ budget - (steps + 1) → Ahead P (a .state) most left S'
+        → length (S' .memory) ≡ length (S .memory) → length (S' .stack) ≡ length (S .stack)
+        → Running P budget done S₀ S' (budget - (budget - (steps + 1) - (most - left)))
+    went o most left S' j b k l =
+        let e : budget - (budget - (steps + 1) - (most - left)) ≡ steps + 1 + (most - left) = omega (arith, b .most) in
+        rw e (record {
           count = omega arith;
-          fit = H .fit;
-          same = turn ∙ rw o;
+          fit = b .fit;
+          same = turn ∙ (rw o (ahead-same P budget (steps + 1) most left (a .state) S' (omega arith) j b));
           memory = k ∙ R .memory;
           stack = l ∙ R .stack;
-        }
+        })
 
 -- What run answers, by what reading the record and the test of the state gave.
 module _ (r : List ℕ) (budget : ℕ) (S : State) where

@@ -1,11 +1,11 @@
 -- How long an instruction is.
 use mathlib.Core.Bool.{cond}
 use mathlib.Core.List.{List}
-use Prim.Native.Nat.{ℕ, _+_, _*_}
+use Prim.Native.Nat.{ℕ, _+_}
 use lib.Dec.{eqb}
 use Rattle.words.specs.Bytes.{byteAt}
-use Rattle.operand.specs.Operand.{extent, fixedOf, eachOf}
-use Rattle.opcode.specs.Table.{Row, row, unserved, rowOf, Modes, normal, both, allows}
+use Rattle.operand.specs.Operand.{extent}
+use Rattle.opcode.specs.Table.{Row, row, unserved, rowOf, allows}
 use Rattle.opcode.specs.Codes.{doubleCode}
 use Rattle.opcode.specs.declared.instruction.Mode.{Mode}
 use Rattle.opcode.specs.declared.instruction.Mode.the-variants.{Normal, Double}
@@ -25,13 +25,3 @@ prefixed n = cond (eqb n 0) 0 (1 + n)
 unfoldable pub lengthAt : List ℕ → ℕ → ℕ
 lengthAt code at =
     cond (eqb (byteAt code at) doubleCode) (prefixed (lengthIn Double code (at + 1))) (lengthIn Normal code at)
-
--- A row's lengths in one number: the fixed bytes, 16 more where DOUBLE may stand before it, and 32 for each byte that one more
--- table entry takes; 0 where it is not served.
-abbrev pub doubleMark : Modes → ℕ
-doubleMark normal = 0
-doubleMark both = 16
-
-abbrev pub formatOf : Row → ℕ
-formatOf unserved = 0
-formatOf (row operands modes make) = fixedOf operands + doubleMark modes + 32 * eachOf operands

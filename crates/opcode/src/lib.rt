@@ -1,12 +1,13 @@
 // Instruction decoding: what stands at a place of the code, within a limit.
 ghost use mathlib.Core.Path.{_≡_};
 ghost use Prim.Native.Nat.{_<_};
+ghost use Rattle.opcode.specs.Sheet.{Sheet};
 ghost use Rattle.opcode.specs.Decode.{decodeIn, decodeAt};
 use crate::instruction::Instruction;
 use crate::instruction::Mode;
 
 mod build;
-mod format;
+pub mod format;
 pub mod instruction;
 pub mod length;
 
@@ -18,11 +19,12 @@ pub enum Decoded {
 }
 
 // The instruction whose code byte stands at `at`, in a mode.
-fn decode_in(mode: Mode, code: &[u8], limit: usize, at: usize) -> Decoded
+fn decode_in(formats: &[u16], mode: Mode, code: &[u8], limit: usize, at: usize) -> Decoded
+    requires { ⌜ Sheet (now formats) ⌝ }
     requires { ⌜ at < limit ⌝ }
     ensures { λ d. ⌜ d ≡ decodeIn mode (now (code .entry)) limit at ⌝ }
 {
-    let length = length::length_in(mode, code, at);
+    let length = length::length_in(formats, mode, code, at);
     if length == 0 {
         return Decoded::Unserved;
     }
@@ -32,17 +34,18 @@ fn decode_in(mode: Mode, code: &[u8], limit: usize, at: usize) -> Decoded
     Decoded::At(build::instruction_at(mode, code, at), at + length)
 }
 
-pub fn decode(code: &[u8], limit: usize, at: usize) -> Decoded
+pub fn decode(formats: &[u16], code: &[u8], limit: usize, at: usize) -> Decoded
+    requires { ⌜ Sheet (now formats) ⌝ }
     ensures { λ d. ⌜ d ≡ decodeAt (now (code .entry)) limit at ⌝ }
 {
     if limit <= at {
         return Decoded::Past;
     }
     if words::byte_at(code, at) != 0xF5 {
-        return decode_in(Mode::Normal, code, limit, at);
+        return decode_in(formats, Mode::Normal, code, limit, at);
     }
     if limit <= at + 1 {
         return Decoded::Past;
     }
-    decode_in(Mode::Double, code, limit, at + 1)
+    decode_in(formats, Mode::Double, code, limit, at + 1)
 }

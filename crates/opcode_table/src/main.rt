@@ -1,4 +1,5 @@
-// Prints the sheet of the 256 codes from the proved decoder: code, mnemonic, length in bytes, and the modes that it is served in.
+// Prints the sheet of the 256 codes, from the table that lengths are read from: code, mnemonic, length in bytes, marks.
+ghost use Rattle.opcode.specs.Sheet.{Sheet};
 use libc::STDOUT_FILENO;
 use opcode::Decoded;
 use opcode::instruction::Instruction;
@@ -49,51 +50,76 @@ fn write_mnemonic(code: u8, i: Instruction, length: usize) {
     }
 }
 
-// The length, and how it grows with the table of a switch: `some` is the code with a table of one.
-fn write_length(none: &[u8], some: &[u8]) {
-    let fixed = opcode::length::length_at(none, 0);
-    let one = opcode::length::length_at(some, 0);
+// The fixed bytes, and those that each entry of a switch's table adds.
+fn write_length(format: u16) {
     write(b" ");
-    write_number(fixed);
-    if fixed < one {
+    write_number((format % 16) as usize);
+    let each = format % 0x8000 / 32;
+    if 0 < each {
         write(b"+");
-        write_number(one - fixed);
+        write_number(each as usize);
         write(b"n");
     }
 }
 
-fn write_modes(double: &[u8]) {
+// A switch, and the modes that a code is served in.
+fn write_marks(format: u16) {
+    if 32 <= format {
+        write(b" switch");
+    }
     write(b" normal");
-    if 0 < opcode::length::length_at(double, 0) {
+    if format / 16 % 2 == 1 {
         write(b" double");
     }
 }
 
-fn write_row(code: u8) {
-    if code == 0xF5 {
-        write(b" DOUBLE prefix");
-        return;
-    }
-    let none = [code, 0, 0, 0, 0, 0, 0, 0, 0, 0];
-    let some = [code, 0, 1, 0, 0, 0, 0, 0, 0, 0];
-    let double = [0xF5, code, 0, 0, 0, 0, 0, 0, 0, 0];
-    let decoded = opcode::decode(&none, 10, 0);
+// The mnemonic is that of the instruction which the code and operands of zeros make.
+fn write_served(formats: &[u16], code: u8, format: u16)
+    requires { ⌜ Sheet (now formats) ⌝ }
+{
+    let bytes = [code, 0, 0, 0, 0, 0, 0, 0, 0, 0];
+    let decoded = opcode::decode(formats, &bytes, 10, 0);
     match decoded {
         Decoded::At(i, length) => {
             write(b" ");
             write_mnemonic(code, i, length);
-            write_length(&none, &some);
-            write_modes(&double);
+            write_length(format);
+            write_marks(format);
         }
         Decoded::Unserved => write(b" -"),
         Decoded::Past => write(b" past"),
     }
 }
 
+fn write_row(formats: &[u16], code: u8)
+    requires { ⌜ Sheet (now formats) ⌝ }
+{
+    let format = opcode::format::format_of(formats, code);
+    if format == 0 {
+        write(b" - unserved");
+        return;
+    }
+    if 0x8000 <= format {
+        write(b" DOUBLE");
+        write_length(format);
+        write(b" prefix");
+        return;
+    }
+    write_served(formats, code, format);
+}
+
+fn write_code(code: u8) {
+    let digits = b"0123456789ABCDEF";
+    let first = words::byte_at(digits, (code / 16) as usize);
+    let last = words::byte_at(digits, (code % 16) as usize);
+    write(&[first, last]);
+}
+
 fn main() {
+    let formats = opcode::format::formats();
     for code in 0..=255u8 {
-        io::print_hex(STDOUT_FILENO, code as u64, 2);
-        write_row(code);
+        write_code(code);
+        write_row(&formats, code);
         write(b"\n");
     }
 }

@@ -7,7 +7,7 @@ ghost use Rattle.operand.specs.Operand.{extended};
 ghost use Rattle.operand.specs.Distance.{placeAt};
 
 // The word that holds a signed byte.
-fn extend_byte(b: u8) -> u32
+pub fn extend_byte(b: u8) -> u32
     ensures { λ r. ⌜ r ≡ extended w8 b ⌝ }
 {
     if b < 128 {
@@ -17,7 +17,7 @@ fn extend_byte(b: u8) -> u32
 }
 
 // The word that holds a signed halfword.
-fn extend_halfword(h: u16) -> u32
+pub fn extend_halfword(h: u16) -> u32
     ensures { λ r. ⌜ r ≡ extended w16 h ⌝ }
 {
     if h < 32768 {

@@ -4,6 +4,7 @@ ghost use mathlib.Core.Bool.{true};
 ghost use Prim.Native.Nat.{_≤_, _-_};
 ghost use lib.ListN.{length, take, drop};
 ghost use lib.Seq.{sets};
+ghost use Rattle.opcode.specs.Sheet.{Sheet};
 ghost use Rattle.effect.specs.Data.{pushes};
 ghost use Rattle.registers.specs.Program.{program};
 ghost use Rattle.registers.specs.State.{state};
@@ -168,17 +169,19 @@ impl Machine {
     // One step; a trap leaves registers, memory and stack as they were.
     pub fn step(
         mut self,
+        formats: &[u16],
         code: &[u8],
         areas: Areas,
         memory: &mut [u32],
         stack: &mut [u32],
     ) -> Stepped
+        requires { ⌜ Sheet (now formats) ⌝ }
         requires { ⌜ length (now code) ≤ 4096 ⌝ }
         requires { ⌜ fits areas (state (self .registers) (now memory) (now stack)) ≡ true ⌝ }
         ensures { λ r. ⌜ left r (now (memory .exit)) (now (stack .exit)) ≡ stepOf (program (now (code .entry)) areas) (state (self .registers) (now (memory .entry)) (now (stack .entry))) ⌝ }
     {
         let q = self.registers;
-        let decoded = opcode::decode(code, code.len(), q.pc as usize);
+        let decoded = opcode::decode(formats, code, code.len(), q.pc as usize);
         match decoded {
             Decoded::Unserved => self.trapped(20),
             Decoded::Past => self.trapped(21),

@@ -3,6 +3,7 @@ ghost use mathlib.Core.Path.{_≡_};
 ghost use mathlib.Core.Bool.{true};
 ghost use Prim.Native.Nat.{_≤_, _<_, _*_};
 ghost use lib.ListN.{length};
+ghost use Rattle.opcode.specs.Sheet.{Sheet};
 ghost use Rattle.verifier.specs.Check.{allAtMost, resultsSound, listNumber, checkOf};
 ghost use Rattle.workspace.specs.Checking.{checking};
 ghost use Rattle.verifier.specs.Examine.{zeroed, unmarked, examinedTop};
@@ -68,22 +69,23 @@ fn clear_marks(w: &mut [u16], size: usize)
 }
 
 // The code of a sound record, with a workspace of just four halfwords for each byte.
-fn examine(code: &[u8], results: &[u8], w: &mut [u16]) -> u32
+fn examine(formats: &[u16], code: &[u8], results: &[u8], w: &mut [u16]) -> u32
+    requires { ⌜ Sheet (now formats) ⌝ }
     requires { ⌜ length (now code) ≤ 65535 ⌝ }
     ensures { λ n. ⌜ checking n (now (w .exit)) ≡ examinedTop (now (code .entry)) (now (results .entry)) (now (w .entry)) ⌝ }
 {
     clear(w);
-    let number = marks::cut_all(code, w);
+    let number = marks::cut_all(formats, code, w);
     if number != 0 {
         clear(w);
         return number;
     }
-    let fault = faults::code_number(code, w);
+    let fault = faults::code_number(formats, code, w);
     if fault != 0 {
         clear(w);
         return fault;
     }
-    if !walk::find_maps(code, results, w) {
+    if !walk::find_maps(formats, code, results, w) {
         clear(w);
         return 15;
     }
@@ -100,5 +102,6 @@ pub fn check(r: &[u8], results: &[u8], w: &mut [u16]) -> u32
         return number;
     }
     let code = header::code_of(r);
-    examine(code, results, &mut w[..4 * code.len()])
+    let formats = opcode::format::formats();
+    examine(&formats, code, results, &mut w[..4 * code.len()])
 }

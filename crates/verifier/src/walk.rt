@@ -2,6 +2,7 @@
 ghost use mathlib.Core.Path.{_≡_};
 ghost use Prim.Native.Nat.{_≤_, _<_, _-_};
 ghost use lib.ListN.{length};
+ghost use Rattle.opcode.specs.Sheet.{Sheet};
 ghost use Rattle.entries.specs.Entries.{entryCount};
 ghost use Rattle.verifier.specs.Handing.{handing, visitedTop, firstWaiting, walking, walkTop, withEntry, withEntries, walkedTop};
 use crate::hand;
@@ -20,13 +21,14 @@ fn held(shown: u16) -> u32
 }
 
 // The instruction at an offset passes its list on.
-fn visit(code: &[u8], results: &[u8], w: &mut [u16], at: usize) -> Handed
+fn visit(formats: &[u16], code: &[u8], results: &[u8], w: &mut [u16], at: usize) -> Handed
+    requires { ⌜ Sheet (now formats) ⌝ }
     requires { ⌜ length (now code) ≤ 65535 ⌝ }
     requires { ⌜ at < length (now code) ⌝ }
     ensures { λ a. ⌜ handing a (now (w .exit)) ≡ visitedTop (now (code .entry)) (now (results .entry)) at (now (w .entry)) ⌝ }
 {
     let p = held(workspace::half_at(w, 4 * at + 3));
-    match opcode::decode(code, entries::region_end(code, p), at) {
+    match opcode::decode(formats, code, entries::region_end(code, p), at) {
         Decoded::Unserved => Handed::Stuck,
         Decoded::Past => Handed::Stuck,
         Decoded::At(i, next) => {
@@ -57,7 +59,8 @@ fn next_waiting(w: &[u16], size: usize, from: usize) -> usize
     at
 }
 
-fn walk(code: &[u8], results: &[u8], w: &mut [u16]) -> bool
+fn walk(formats: &[u16], code: &[u8], results: &[u8], w: &mut [u16]) -> bool
+    requires { ⌜ Sheet (now formats) ⌝ }
     requires { ⌜ length (now code) ≤ 65535 ⌝ }
     ensures { λ b. ⌜ walking b (now (w .exit)) ≡ walkTop (now (code .entry)) (now (results .entry)) (length (now (code .entry))) 0 (now (w .entry)) ⌝ }
 {
@@ -67,7 +70,7 @@ fn walk(code: &[u8], results: &[u8], w: &mut [u16]) -> bool
         if code.len() <= at {
             return true;
         }
-        match visit(code, results, w, at) {
+        match visit(formats, code, results, w, at) {
             Handed::Stuck => {
                 return false;
             }
@@ -98,10 +101,11 @@ fn give_entries(code: &[u8], w: &mut [u16])
 }
 
 // Whether every region has a stack map; the workspace then holds the least ones.
-pub fn find_maps(code: &[u8], results: &[u8], w: &mut [u16]) -> bool
+pub fn find_maps(formats: &[u16], code: &[u8], results: &[u8], w: &mut [u16]) -> bool
+    requires { ⌜ Sheet (now formats) ⌝ }
     requires { ⌜ length (now code) ≤ 65535 ⌝ }
     ensures { λ b. ⌜ walking b (now (w .exit)) ≡ walkedTop (now (code .entry)) (now (results .entry)) (now (w .entry)) ⌝ }
 {
     give_entries(code, w);
-    walk(code, results, w)
+    walk(formats, code, results, w)
 }

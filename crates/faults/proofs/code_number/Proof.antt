@@ -11,19 +11,19 @@ use Rattle.faults.proofs.Lowest.{numberTo, number-start, number-marked,
 use Rattle.faults.proofs.code_number.Tie as tie
 
 abbrev Inv-loop : tie.InvT-loop
-Inv-loop code w lowest₀ at₀ at-end lowest at = (at ≤ length code) × (lowest ≡ numberTo code (marksIn w (length code)) at)
+Inv-loop formats code w lowest₀ at₀ at-end lowest at = (at ≤ length code) × (lowest ≡ numberTo code (marksIn w (length code)) at)
 
 abbrev μ-loop : tie.MeasureT-loop
-μ-loop code w lowest₀ at₀ at-end lowest at = length code - at
+μ-loop formats code w lowest₀ at₀ at-end lowest at = length code - at
 
 loop-holds : tie.Need-loop-holds Inv-loop μ-loop
 loop-holds c =
-    let a = c .before .before .args in
+    let a = c .before .before .before .args in
     (omega arith, number-start (a .code .now) (marksIn (a .w .now) (length (a .code .now))))
 
 loop-again : tie.Need-loop-again Inv-loop μ-loop
 loop-again c =
-    let a = c .before .before .before .before .before .before .args in
+    let a = c .before .before .before .before .before .before .before .args in
     let m = marksIn (a .w .now) (length (a .code .now)) in
     let l = c .before .before .before .loop in
     let mark = c .before .mark-at in (
@@ -37,7 +37,7 @@ loop-again c =
 
 returns : tie.Need-returns Inv-loop μ-loop
 returns c =
-    let a = c .before .before .before .before .args in
+    let a = c .before .before .before .before .before .args in
     let l = c .before .loop in
     let e : l .at ≡ length (a .code .now) = omega (arith, l .inv .0, c .loop-test .left) in
     l .inv .1 ∙ rw e (number-end (a .code .now) (marksIn (a .w .now) (length (a .code .now))))

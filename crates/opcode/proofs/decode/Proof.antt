@@ -8,12 +8,12 @@ use Rattle.opcode.proofs.decode.Tie as tie
 
 returns : tie.Need-returns
 unfolding decodeAt
-returns c = rw (le-ltb (c .before .before .args .at) (c .before .before .args .limit) (c .if1 .taken))
+returns c = rw (le-ltb (c .before .before .before .args .at) (c .before .before .before .args .limit) (c .if1 .taken))
 
 returns-2 : tie.Need-returns-2
 unfolding decodeAt
 returns-2 c =
-    let a = c .before .before .before .before .before .args in
+    let a = c .before .before .before .before .before .before .args in
     let byte-at = c .before .before .byte-at in
     rw (
       lt-ltb (a .at) (a .limit) (c .before .before .before .if1 .left),
@@ -25,7 +25,7 @@ returns-2 c =
 returns-3 : tie.Need-returns-3
 unfolding decodeAt
 returns-3 c =
-    let a = c .before .before .before .before .before .args in
+    let a = c .before .before .before .before .before .before .args in
     let byte-at = c .before .before .byte-at in
     rw (
       lt-ltb (a .at) (a .limit) (c .before .before .before .if1 .left),
@@ -37,7 +37,7 @@ returns-3 c =
 returns-4 : tie.Need-returns-4
 unfolding decodeAt
 returns-4 c =
-    let a = c .before .before .before .before .before .before .args in
+    let a = c .before .before .before .before .before .before .before .args in
     let b = c .before .before .before .byte-at in
     rw (
       lt-ltb (a .at) (a .limit) (c .before .before .before .before .if1 .left),

@@ -17,7 +17,7 @@ returns c = rw (← c .before .length-in .ensures, eq-eqb (c .before .length-in 
 returns-2 : tie.Need-returns-2
 unfolding decodeIn
 returns-2 c =
-    let a = c .before .before .before .before .args in
+    let a = c .before .before .before .before .before .args in
     let length-in = c .before .before .length-in in
     rw (
       ← length-in .ensures,
@@ -32,7 +32,7 @@ instruction-at-requires c κs = λ e. c .before .if1 .left (c .before .before .l
 returns-3 : tie.Need-returns-3
 unfolding decodeIn
 returns-3 c =
-    let a = c .before .before .before .before .before .args in
+    let a = c .before .before .before .before .before .before .args in
     let length-in = c .before .before .before .length-in in
     rw (
       ← length-in .ensures,

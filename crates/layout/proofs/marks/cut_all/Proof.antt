@@ -9,24 +9,26 @@ use Rattle.layout.proofs.Turns.{Regions, regions-start, regions-last, r
 use Rattle.layout.proofs.marks.cut_all.Tie as tie
 
 abbrev Inv-loop : tie.InvT-loop
-Inv-loop code w₀ count p₀ w p = Regions code w₀ w p
+Inv-loop formats code w₀ count p₀ w p = Regions code w₀ w p
 
 abbrev μ-loop : tie.MeasureT-loop
-μ-loop code w₀ count p₀ w p = count - p
+μ-loop formats code w₀ count p₀ w p = count - p
 
 loop-holds : tie.Need-loop-holds Inv-loop μ-loop
-loop-holds c = regions-start (c .before .before .before .args .code .now) (c .before .before .before .args .w .now)
+loop-holds c =
+    let a = c .before .before .before .before .args in
+    regions-start (a .code .now) (a .w .now)
 
 cut-region-requires : tie.Need-cut-region-requires Inv-loop μ-loop
 cut-region-requires c κs =
     let loop-test = c .before .loop-test in
     let entry-count = c .before .before .before .entry-count in
-    let shared-slice-known = c .before .before .before .before .before .shared-slice-known in
-    let a = c .before .before .before .before .before .before .args in
-    let pre = c .before .before .before .before .before .before .pre in
-    let bytes = shared-slice-known in
+    let shared-slice-known2 = c .before .before .before .before .before .shared-slice-known2 in
+    let a = c .before .before .before .before .before .before .before .args in
+    let pre = c .before .before .before .before .before .before .before .pre in
+    let bytes = shared-slice-known2 in
     let below = count-below (a .code .now) (λ k. omega (arith, bytes .given k)) in
-    (pre, omega (arith, entry-count .ensures, loop-test .taken))
+    (pre .0, (pre .1, omega (arith, entry-count .ensures, loop-test .taken)))
 
 returns : tie.Need-returns Inv-loop μ-loop
 returns c =
@@ -35,7 +37,7 @@ returns c =
     let loop-test = c .before .before .before .before .before .loop-test in
     let loop = c .before .before .before .before .before .before .loop in
     let entry-count = c .before .before .before .before .before .before .before .entry-count in
-    let args = c .before .before .before .before .before .before .before .before .before .before .args in
+    let args = c .before .before .before .before .before .before .before .before .before .before .before .args in
     let a = args in
     let l = loop in
     let r = cut-region in
@@ -49,12 +51,12 @@ loop-again c =
     let loop-test = c .before .before .before .before .before .loop-test in
     let loop = c .before .before .before .before .before .before .loop in
     let entry-count = c .before .before .before .before .before .before .before .entry-count in
-    let args = c .before .before .before .before .before .before .before .before .before .before .args in
+    let args = c .before .before .before .before .before .before .before .before .before .before .before .args in
     let a = args in
     let l = loop in
     let r = cut-region in
     regions-next (a .code .now) (a .w .now) (l .w) (l .p) (l .inv) (rw (entry-count .ensures) at (loop-test .taken))
-    (r .result) _ (r .ensures) (if1 .left) (r .kept .1 .1 .0)
+    (r .result) _ (r .ensures) (if1 .left) (r .kept .1 .1 .1 .0)
 
 returns-2 : tie.Need-returns-2 Inv-loop μ-loop
 returns-2 c =
@@ -62,7 +64,7 @@ returns-2 c =
     let loop-test = c .before .before .before .before .loop-test in
     let loop = c .before .before .before .before .before .loop in
     let entry-count = c .before .before .before .before .before .before .entry-count in
-    let args = c .before .before .before .before .before .before .before .before .before .args in
+    let args = c .before .before .before .before .before .before .before .before .before .before .args in
     let a = args in
     let l = loop in
     cut-region2 .ensures ∙ regions-last (a .code .now) (a .w .now) (l .w) (l .p) (l .inv)

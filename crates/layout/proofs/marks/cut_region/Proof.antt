@@ -10,20 +10,20 @@ use Rattle.layout.proofs.Turns.{Region, region-start, region-spent, reg
 use Rattle.layout.proofs.marks.cut_region.Tie as tie
 
 abbrev Inv-loop : tie.InvT-loop
-Inv-loop code p w₀ limit at₀ counter₀ end w at counter = Region code p w₀ w at counter
+Inv-loop formats code p w₀ limit at₀ counter₀ end w at counter = Region code p w₀ w at counter
 
 abbrev μ-loop : tie.MeasureT-loop
-μ-loop code p w₀ limit at₀ counter₀ end w at counter = length code - counter
+μ-loop formats code p w₀ limit at₀ counter₀ end w at counter = length code - counter
 
 loop-holds : tie.Need-loop-holds Inv-loop μ-loop
 loop-holds c =
-    let a = c .before .before .before .before .args in
+    let a = c .before .before .before .before .before .args in
     let e = c .entry-at in
     region-start (a .code .now) (a .p) (a .w .now) (e .result) (e .ensures) (omega (arith, e .ok))
 
 returns : tie.Need-returns Inv-loop μ-loop
 returns c =
-    let a = c .before .before .before .before .before .before .before .args in
+    let a = c .before .before .before .before .before .before .before .before .args in
     let l = c .before .before .loop in
     let e = c .before .before .before .before .region-end in
     region-over (a .code .now) (a .p) (a .w .now) (l .w) (l .at) (l .counter) (l .inv)
@@ -31,7 +31,7 @@ returns c =
 
 returns-2 : tie.Need-returns-2 Inv-loop μ-loop
 returns-2 c =
-    let a = c .before .before .before .before .before .before .before .before .before .before .args in
+    let a = c .before .before .before .before .before .before .before .before .before .before .before .args in
     let l = c .before .before .before .before .before .loop in
     let e = c .before .before .before .before .before .before .before .region-end in
     region-turn (a .code .now) (a .p) (a .w .now) (l .w) (l .at) (l .counter) (l .inv)
@@ -41,7 +41,7 @@ returns-2 c =
 
 returns-3 : tie.Need-returns-3 Inv-loop μ-loop
 returns-3 c =
-    let a = c .before .before .before .before .before .before .before .before .before .before .args in
+    let a = c .before .before .before .before .before .before .before .before .before .before .before .args in
     let l = c .before .before .before .before .before .loop in
     let e = c .before .before .before .before .before .before .before .region-end in
     region-turn (a .code .now) (a .p) (a .w .now) (l .w) (l .at) (l .counter) (l .inv)
@@ -65,20 +65,20 @@ loop-again c =
     let loop-test = earlier .before .loop-test in
     let loop = earlier .before .before .loop in
     let region-end = earlier .before .before .before .before .region-end in
-    let shared-slice-known = earlier .before .before .before .before .before .before .shared-slice-known in
-    let args = earlier .before .before .before .before .before .before .before .args in
-    let pre = earlier .before .before .before .before .before .before .before .pre in
+    let shared-slice-known2 = earlier .before .before .before .before .before .before .shared-slice-known2 in
+    let args = earlier .before .before .before .before .before .before .before .before .args in
+    let pre = earlier .before .before .before .before .before .before .before .before .pre in
     let a = args in
     let l = loop in
     let e = region-end in
-    let bytes = shared-slice-known in
+    let bytes = shared-slice-known2 in
     region-next (a .code .now) (a .p) (a .w .now) (l .w) (l .at) (l .counter) (l .inv) (e .result) (e .ensures)
     (loop-test .taken) _ _ _ (if1 .left) (sym (decode .ensures) ∙ next .given .1)
-    (rw (e .ensures) (region-below (a .code .now) (λ k. omega (arith, bytes .given k)) (a .p) (pre .0))) (set-half .ensures)
+    (rw (e .ensures) (region-below (a .code .now) (λ k. omega (arith, bytes .given k)) (a .p) (pre .1 .0))) (set-half .ensures)
 
 returns-4 : tie.Need-returns-4 Inv-loop μ-loop
 returns-4 c =
-    let a = c .before .before .before .before .before .before .args in
+    let a = c .before .before .before .before .before .before .before .args in
     let l = c .before .loop in
     region-spent (a .code .now) (a .p) (a .w .now) (l .w) (l .at) (l .counter) (l .inv) (c .loop-test .left)
 

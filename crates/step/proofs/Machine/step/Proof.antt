@@ -15,16 +15,16 @@ use Rattle.step.proofs.Machine.step.Tie as tie
 
 -- Where an instruction stands, its bytes end within the code.
 within : (c : tie.After-decoded) →
-    let start = c .before .before .before .before .before .before .before .before in
+    let start = c .before .before .before .before .before .before .before .before .before in
     c .decoded .given .0 .1 .0 ≤ length (start .args .code .now)
 within c =
     let decode = c .before .before in
-    let a = decode .before .before .before .before .before .before .args in
+    let a = decode .before .before .before .before .before .before .before .args in
     ends (a .code .now) (length (a .code .now)) (a .self .registers .pc) (sym (decode .decode .ensures) ∙ c .decoded .given .1) .1
 
 fitted : (c : tie.Start) → Fitting (c .args .areas) (state (c .args .self .registers) (c .args .memory .now)
     (c .args .stack .now))
-fitted c = fitting (c .args .areas) (state (c .args .self .registers) (c .args .memory .now) (c .args .stack .now)) (c .pre .1)
+fitted c = fitting (c .args .areas) (state (c .args .self .registers) (c .args .memory .now) (c .args .stack .now)) (c .pre .1 .1)
 
 returns : tie.Need-returns
 unfolding stepOf perform
@@ -34,7 +34,8 @@ returns c =
     let needed-words = c .before .before .before .needed-words in
     let decoded = c .before .before .before .before .before .decoded in
     let decode = c .before .before .before .before .before .before .before .decode in
-    let a = c .before .before .before .before .before .before .before .before .before .before .before .before .before .args in
+    let a = c .before .before .before .before .before .before .before .before .before .before .before .before .before .before
+    .args in
     rw (
       ← decode .ensures,
       decoded .given .1,
@@ -46,21 +47,22 @@ returns c =
 cast-execute : tie.Need-cast-execute
 cast-execute c =
     let pre = c .before .before .before .before .before .before .before .before .before .before .before .before .before
-    .before .pre in
-    record { fits = omega (arith, pre .0, within (c .before .before .before .before .before .before)) }
+    .before .before .pre in
+    record { fits = omega (arith, pre .1 .0, within (c .before .before .before .before .before .before)) }
 
 execute-requires : tie.Need-execute-requires
 execute-requires c κs =
     let if1 = c .before .before .if1 in
     let needed-words = c .before .before .before .before .needed-words in
     let tested = c .before .before in
-    let F = fitted (tested .before .before .before .before .before .before .before .before .before .before .before .before) in
+    let decode = tested .before .before .before .before .before .before in
+    let F = fitted (decode .before .before .before .before .before .before .before) in
     (F .links, (F .room, omega (arith, needed-words .ensures, if1 .left)))
 
 apply-requires : tie.Need-apply-requires
 apply-requires c κs =
     let tested = c .before .before .before .before .before in
-    fitted (tested .before .before .before .before .before .before .before .before .before .before .before .before) .deep
+    fitted (tested .before .before .before .before .before .before .before .before .before .before .before .before .before) .deep
 
 returns-2 : tie.Need-returns-2
 unfolding stepOf perform
@@ -88,7 +90,8 @@ returns-4 c =
     let needed-words = earlier .before .before .needed-words in
     let decoded = earlier .before .before .before .before .decoded in
     let decode = earlier .before .before .before .before .before .before .decode in
-    let a = earlier .before .before .before .before .before .before .before .before .before .before .before .before .args in
+    let a = earlier .before .before .before .before .before .before .before .before .before .before .before .before .before
+    .args in
     rw (
       ← decode .ensures,
       decoded .given .1,

@@ -16,55 +16,57 @@ returns c = rw (← c .before .list-number .ensures, ne-eqb (c .before .list-num
 
 mul-examine : tie.Need-mul-examine
 mul-examine c =
-    let code-of = c .code-of in
-    let if1 = c .before .if1 in
-    let list-number = c .before .before .list-number in
-    let a = c .before .before .before .before .before .before .args in
+    let code-of = c .before .before .code-of in
+    let if1 = c .before .before .before .if1 in
+    let list-number = c .before .before .before .before .list-number in
+    let a = c .before .before .before .before .before .before .before .before .args in
     let s = small (a .r .now) (a .results .now) (a .w .now) (sym (list-number .ensures) ∙ if1 .left) in
     record { fits = omega (arith, rw (← code-of .ensures) at s) }
 
 slice-relend-prefix-examine : tie.Need-slice-relend-prefix-examine
 slice-relend-prefix-examine c =
-    let code-of = c .code-of in
-    let if1 = c .before .if1 in
-    let list-number = c .before .before .list-number in
-    let a = c .before .before .before .before .before .before .args in
+    let code-of = c .before .before .code-of in
+    let if1 = c .before .before .before .if1 in
+    let list-number = c .before .before .before .before .list-number in
+    let a = c .before .before .before .before .before .before .before .before .args in
     rw (code-of .ensures) (room (a .r .now) (a .results .now) (a .w .now) (sym (list-number .ensures) ∙ if1 .left))
 
-slice-aggregate-examine : tie.Need-slice-aggregate-examine
-slice-aggregate-examine c =
-    let code-of = c .before .code-of in
-    let if1 = c .before .before .if1 in
-    let list-number = c .before .before .before .list-number in
-    let a = c .before .before .before .before .before .before .before .args in
+slice-aggregate-examine-2 : tie.Need-slice-aggregate-examine-2
+slice-aggregate-examine-2 c =
+    let code-of = c .before .before .before .code-of in
+    let if1 = c .before .before .before .before .if1 in
+    let list-number = c .before .before .before .before .before .list-number in
+    let a = c .before .before .before .before .before .before .before .before .before .args in
     let s = rw (← code-of .ensures) at
     (room (a .r .now) (a .results .now) (a .w .now) (sym (list-number .ensures) ∙ if1 .left)) in
     omega (arith, s, length-take (4 * length (code-of .result .now)) (a .w .now))
 
 examine-requires : tie.Need-examine-requires
 examine-requires c κs =
-    let code-of = c .before .code-of in
-    let if1 = c .before .before .if1 in
-    let list-number = c .before .before .before .list-number in
-    let a = c .before .before .before .before .before .before .before .args in
+    let code-of = c .before .before .before .code-of in
+    let if1 = c .before .before .before .before .if1 in
+    let list-number = c .before .before .before .before .before .list-number in
+    let a = c .before .before .before .before .before .before .before .before .before .args in
     let s = rw (← code-of .ensures) at
     (small (a .r .now) (a .results .now) (a .w .now) (sym (list-number .ensures) ∙ if1 .left)) in
-    omega (arith, s)
+    (c .before .before .formats .ensures, omega (arith, s))
 
 returns-2 : tie.Need-returns-2
 returns-2 c =
     let examine = c .before .before .examine in
-    let code-of = c .before .before .before .before .code-of in
-    let if1 = c .before .before .before .before .before .if1 in
-    let list-number = c .before .before .before .before .before .before .list-number in
-    let earlier = c .before .before .before .before .before .before .before .before .before in
+    let code-of = c .before .before .before .before .before .before .code-of in
+    let if1 = c .before .before .before .before .before .before .before .if1 in
+    let list-number = c .before .before .before .before .before .before .before .before .list-number in
+    let earlier = c .before .before .before .before .before .before .before .before .before .before .before in
     let shared-slice-known = earlier .shared-slice-known in
     let a = earlier .before .args in
     rw (code-of .ensures)
-    (lends (a .r .now) (a .results .now) (a .w .now) (sym (list-number .ensures) ∙ if1 .left) (λ k. shared-slice-known .given k .fits) (examine .result) (examine .last .1 .1 .0) (rw (code-of .ensures) at (examine .ensures)))
+    (lends (a .r .now) (a .results .now) (a .w .now) (sym (list-number .ensures) ∙ if1 .left)
+    (λ k. shared-slice-known .given k .fits) (examine .result) (examine .last .1 .1 .1 .0)
+    (rw (code-of .ensures) at (examine .ensures)))
 
 pub check-spec : {M : Type 1} → statement M
 check-spec =
     tie.close
-    (tie.spec (λ c κs. search needs) returns (λ c κs. search needs) mul-examine slice-relend-prefix-examine
-    slice-aggregate-examine examine-requires (λ c. search needs) returns-2)
+    (tie.spec (λ c κs. search needs) returns (λ c κs. search needs) (λ c κs. search needs) (λ c. search needs) mul-examine
+    slice-relend-prefix-examine slice-aggregate-examine-2 examine-requires (λ c. search needs) returns-2)

@@ -5,13 +5,23 @@ use Rattle.verifier.proofs.walk.visit.Statement.{statement}
 use Rattle.verifier.specs.Handing.{visitedTop}
 use Rattle.verifier.proofs.walk.visit.Tie as tie
 
+-- The place at which the mark was read.
+abbrev held-at : tie.After-hand-ways-arg → tie.After-held
+held-at c =
+    let earlier = c .before .before .before .before .before .before .before .before .before in
+    earlier .before .before .before .before .before .before .before .before .before
+
+add-hand-ways : tie.Need-add-hand-ways
+add-hand-ways c =
+    let pre = held-at c .before .before .before .before .before .before .before .pre in
+    record { fits = omega (arith, pre .1 .0, pre .1 .1) }
+
 hand-ways-requires : tie.Need-hand-ways-requires
 hand-ways-requires c κs =
-    let earlier = c .before .before .before .before .before .before .before .before .before .before .before .before .before .before .before .before .before .before in
-    let held = earlier .held in
-    let half-at = earlier .before .half-at in
-    let pre = earlier .before .before .before .before .before .before .pre in
-    (pre .0, (omega (arith, half-at .ok, held .ensures), omega (arith, pre .0, pre .1)))
+    let held = held-at c .held in
+    let half-at = held-at c .before .half-at in
+    let pre = held-at c .before .before .before .before .before .before .before .pre in
+    (pre .1 .0, (omega (arith, half-at .ok, held .ensures), omega (arith, pre .1 .0, pre .1 .1)))
 
 returns : tie.Need-returns
 unfolding visitedTop
@@ -61,5 +71,5 @@ visit-spec =
     (λ c κs. search needs) (λ c. search needs) (λ c. search needs) (λ c. search needs) (λ c. search needs)
     (λ c κs. search needs) (λ c κs. search needs) (λ c. search needs) (λ c. search needs) (λ c κs. search needs)
     (λ c κs. search needs) (λ c κs. search needs) (λ c. search needs) (λ c. search needs) (λ c κs. search needs)
-    (λ c. search needs) hand-ways-requires (λ c. search needs) returns (λ c. search needs) returns-2 (λ c. search needs)
+    add-hand-ways hand-ways-requires (λ c. search needs) returns (λ c. search needs) returns-2 (λ c. search needs)
     returns-3)

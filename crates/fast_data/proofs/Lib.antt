@@ -1,0 +1,2 @@
+-- Laws of the arms that load and store.
+pub mod Arms

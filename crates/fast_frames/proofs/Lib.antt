@@ -1,0 +1,4 @@
+-- Frame steps that complete.
+pub mod Calling
+pub mod Allocating
+pub mod Decoding

@@ -1,0 +1,2 @@
+-- What a function of operations promises.
+pub mod Operations

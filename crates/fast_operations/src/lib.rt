@@ -1,0 +1,2 @@
+// Completes operations on words.
+pub mod operations;
