@@ -46,14 +46,7 @@ fn compare(random: &mut Random, tally: &mut Tally, served: &[u32]) -> Result<(),
     };
     let record = program.parts.assemble();
     let Ok(parts) = Record::read(&record) else { return Ok(()) };
-    let mut machine = state::fitting(random, &parts);
-    if random.percent(80) {
-        machine.state[0] = parts.entry(0);
-        let opcode = parts.code[parts.entry(0) as usize];
-        if matches!(opcode, 0xe0 | 0xe1) && random.percent(70) {
-            state::loop_operands(random, &parts, &mut machine, opcode == 0xe1);
-        }
-    }
+    let machine = state::begun(random, &parts);
     let first = instructions::opcode_at(parts.code, machine.state[0] as usize);
     for budget in (0..=BUDGETS).chain(GREATER) {
         let Some([end, steps]) = same(&record, budget, &machine)? else { return Ok(()) };

@@ -114,14 +114,7 @@ fn run_from_fitting(
 ) -> Result<(), String> {
     let record = program::of_code(random, code).parts.assemble();
     let Ok(parts) = Record::read(&record) else { return Ok(()) };
-    let mut machine = state::fitting(random, &parts);
-    if random.percent(70) {
-        machine.state[0] = parts.entry(0);
-        let opcode = parts.code[parts.entry(0) as usize];
-        if matches!(opcode, 0xe0 | 0xe1) && random.percent(70) {
-            state::loop_operands(random, &parts, &mut machine, opcode == 0xe1);
-        }
-    }
+    let mut machine = state::begun(random, &parts);
     if unfit {
         state::unfit(random, &mut machine);
     }

@@ -69,6 +69,19 @@ pub fn fitting(random: &mut Random, record: &Record) -> Words {
     Words { state, memory, stack }
 }
 
+/// A state that fits, mostly at the entry of the main program; where a loop begins or goes round there, mostly with its words.
+pub fn begun(random: &mut Random, record: &Record) -> Words {
+    let mut words = fitting(random, record);
+    if random.percent(70) {
+        words.state[0] = record.entry(0);
+        let opcode = record.code[record.entry(0) as usize];
+        if matches!(opcode, 0xe0 | 0xe1) && random.percent(70) {
+            loop_operands(random, record, &mut words, opcode == 0xe1);
+        }
+    }
+    words
+}
+
 /// Puts operands of ITER and NEXT on top of the stack, where there is room: address, first, last,
 /// step and, for NEXT, label. Half of NEXT's variables lie at the end of the range that the step leads to.
 pub fn loop_operands(random: &mut Random, record: &Record, words: &mut Words, label: bool) {
