@@ -24,7 +24,7 @@ use Rattle.effect.specs.declared.effect.Push.the-variants.{NoPush, PushOne}
 use Rattle.effect.specs.declared.effect.Write.the-variants.{NoWrite, WriteOne, WriteTwo, WritePopped}
 use Rattle.effect.specs.declared.effect.Effect.{Effect}
 use Rattle.effect.specs.declared.effect.Effect.the-variants.{Trap as trap, Finish, Go}
-use Rattle.registers.specs.declared.Areas.{Areas}
+use Rattle.registers.specs.declared.Attributes.{Attributes}
 use Rattle.registers.specs.Memory.{read, live, protects}
 use Rattle.registers.specs.Changes.{moved, sized, called, returned}
 use Rattle.effect.specs.Data.{ifBoolean, ifStorable}
@@ -47,7 +47,7 @@ abbrev pub beyond : ℤ → ℤ → ℤ → Bool
 beyond s x l = (ltZ (pos 0) s && ltZ l x) || (ltZ s (pos 0) && ltZ x l)
 
 -- ITER [ adr, first, last, step ]: past the loop, or MEMORY(A) := F and the label is pushed.
-unfoldable pub iterEffect : (A : Areas) (q : Registers) (m : List ℕ) (next distance address first last step : ℕ) → Effect
+unfoldable pub iterEffect : (A : Attributes) (q : Registers) (m : List ℕ) (next distance address first last step : ℕ) → Effect
 iterEffect A q m next d a f l s =
     cond (beyond (toZ w32 s) (toZ w32 f) (toZ w32 l)) (Go 4 NoPush NoWrite (moved q (placeAt (q .pc) d)))
     (ifStorable A q m a Normal (Go 0 (PushOne next) (WriteOne a f) (moved q next)))
@@ -69,7 +69,7 @@ sumEffect q next a l s label (Word x) = roundEffect q next a l s label x
 sumEffect q next a l s label (Trap n) = Go 5 NoPush NoWrite (moved q next)
 
 -- NEXT [ adr, first, last, step, label ]. 02, K3: "The address must still be live and unprotected." So 32, 33, then the sum.
-unfoldable pub nextEffect : (A : Areas) (q : Registers) (m : List ℕ) (next address last step label : ℕ) → Effect
+unfoldable pub nextEffect : (A : Attributes) (q : Registers) (m : List ℕ) (next address last step label : ℕ) → Effect
 nextEffect A q m next a l s label = ifStorable A q m a Normal (sumEffect q next a l s label (nextSum m a s))
 
 -- SWITCH: if X < 0 or X > n then PC := PC + E. As a word, a negative X is above every n. SWITCH_X: the range that holds X, or E.

@@ -15,7 +15,7 @@ use effect::effect::Push;
 use effect::effect::Write;
 use opcode::instruction::Arithmetic;
 use operate::Value;
-use registers::Areas;
+use registers::Attributes;
 use registers::Registers;
 use registers::access;
 use shape::Table;
@@ -74,7 +74,7 @@ pub fn is_beyond(step: u32, x: u32, last: u32) -> bool
 
 // ITER.
 pub fn iter_effect(
-    areas: Areas,
+    attributes: Attributes,
     q: Registers,
     m: &[u32],
     next: u32,
@@ -84,8 +84,8 @@ pub fn iter_effect(
     last: u32,
     step: u32,
 ) -> Effect
-    requires { ⌜ chained (now m) (framesStart areas) (q .fp) (q .calls) ≡ true ⌝ }
-    ensures { λ e. ⌜ e ≡ iterEffect areas q (now (m .entry)) next distance a first last step ⌝ }
+    requires { ⌜ chained (now m) (framesStart attributes) (q .fp) (q .calls) ≡ true ⌝ }
+    ensures { λ e. ⌜ e ≡ iterEffect attributes q (now (m .entry)) next distance a first last step ⌝ }
 {
     if is_beyond(step, first, last) {
         return jump_to(q, 4, operand::place_at(q.pc, distance));
@@ -93,7 +93,7 @@ pub fn iter_effect(
     if !access::is_live(q, a as usize, 1) {
         return Effect::Trap(32);
     }
-    if access::is_protected(areas, q, m, a as usize) {
+    if access::is_protected(attributes, q, m, a as usize) {
         return Effect::Trap(33);
     }
     Effect::Go(
@@ -134,7 +134,7 @@ fn sum_effect(
 
 // NEXT.
 pub fn next_effect(
-    areas: Areas,
+    attributes: Attributes,
     q: Registers,
     m: &[u32],
     next: u32,
@@ -143,13 +143,13 @@ pub fn next_effect(
     step: u32,
     label: u32,
 ) -> Effect
-    requires { ⌜ chained (now m) (framesStart areas) (q .fp) (q .calls) ≡ true ⌝ }
-    ensures { λ e. ⌜ e ≡ nextEffect areas q (now (m .entry)) next a last step label ⌝ }
+    requires { ⌜ chained (now m) (framesStart attributes) (q .fp) (q .calls) ≡ true ⌝ }
+    ensures { λ e. ⌜ e ≡ nextEffect attributes q (now (m .entry)) next a last step label ⌝ }
 {
     if !access::is_live(q, a as usize, 1) {
         return Effect::Trap(32);
     }
-    if access::is_protected(areas, q, m, a as usize) {
+    if access::is_protected(attributes, q, m, a as usize) {
         return Effect::Trap(33);
     }
     sum_effect(q, next, a, last, step, label, next_sum(m, a, step))
@@ -237,8 +237,8 @@ pub fn enter_effect(q: Registers, m: &[u32], next: u32, parameters: u32, locals:
 }
 
 // RTN.
-pub fn rtn_effect(areas: Areas, q: Registers, m: &[u32]) -> Effect
-    requires { ⌜ chained (now m) (framesStart areas) (q .fp) (q .calls) ≡ true ⌝ }
+pub fn rtn_effect(attributes: Attributes, q: Registers, m: &[u32]) -> Effect
+    requires { ⌜ chained (now m) (framesStart attributes) (q .fp) (q .calls) ≡ true ⌝ }
     ensures { λ e. ⌜ e ≡ rtnEffect q (now (m .entry)) ⌝ }
 {
     if q.calls == 0 {

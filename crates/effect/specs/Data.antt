@@ -22,7 +22,7 @@ use Rattle.effect.specs.declared.effect.Write.{Write}
 use Rattle.effect.specs.declared.effect.Write.the-variants.{NoWrite, WriteOne, WriteTwo}
 use Rattle.effect.specs.declared.effect.Effect.{Effect}
 use Rattle.effect.specs.declared.effect.Effect.the-variants.{Trap as trap, Go}
-use Rattle.registers.specs.declared.Areas.{Areas}
+use Rattle.registers.specs.declared.Attributes.{Attributes}
 use Rattle.registers.specs.Memory.{read, live, protects}
 use Rattle.registers.specs.Changes.{moved, sized}
 
@@ -61,16 +61,17 @@ stored a Normal x y = WriteOne a x
 stored a Double x y = WriteTwo a x y
 
 -- One word is protected, or one of two.
-abbrev pub protectsAny : Areas → Registers → List ℕ → ℕ → Mode → Bool
+abbrev pub protectsAny : Attributes → Registers → List ℕ → ℕ → Mode → Bool
 protectsAny A q m a Normal = protects A q m a
 protectsAny A q m a Double = protects A q m a || protects A q m (a + 1)
 
 -- A store: 01, "For two words both must be live, then both unprotected."
-abbrev pub ifStorable : (A : Areas) (q : Registers) (m : List ℕ) (a : ℕ) (mode : Mode) (e : Effect) → Effect
+abbrev pub ifStorable : (A : Attributes) (q : Registers) (m : List ℕ) (a : ℕ) (mode : Mode) (e : Effect) → Effect
 ifStorable A q m a mode e = cond (live q a (wordsIn mode)) (cond (protectsAny A q m a mode) (trap 33) e) (trap 32)
 
 -- STOR_L, _G, _F of x, or of x and y: the offset is n, and a is the address word of STOR_F.
-unfoldable pub storeEffect : (A : Areas) (q : Registers) (m : List ℕ) (next : ℕ) (base : Base) (mode : Mode) (n a x y : ℕ) → Effect
+unfoldable pub storeEffect : (A : Attributes) (q : Registers) (m : List ℕ) (next : ℕ) (base : Base) (mode : Mode)
+    (n a x y : ℕ) → Effect
 storeEffect A q m next base mode n a x y =
     let address = baseOf q m a base + n in
     ifStorable A q m address mode (Go (popped base + wordsIn mode) NoPush (stored address mode x y) (moved q next))

@@ -14,7 +14,7 @@ use opcode::instruction::Base;
 use opcode::instruction::Mode;
 use opcode::instruction::Operation;
 use operate::Value;
-use registers::Areas;
+use registers::Attributes;
 use registers::Registers;
 use registers::access;
 
@@ -90,7 +90,7 @@ pub fn load_address_effect(
 
 // STOR_L, _G, _F, of one word or two; `popped` is STOR_F's address word.
 pub fn store_effect(
-    areas: Areas,
+    attributes: Attributes,
     q: Registers,
     m: &[u32],
     next: u32,
@@ -101,15 +101,15 @@ pub fn store_effect(
     x: u32,
     y: u32,
 ) -> Effect
-    requires { ⌜ chained (now m) (framesStart areas) (q .fp) (q .calls) ≡ true ⌝ }
-    ensures { λ e. ⌜ e ≡ storeEffect areas q (now (m .entry)) next base mode offset popped x y ⌝ }
+    requires { ⌜ chained (now m) (framesStart attributes) (q .fp) (q .calls) ≡ true ⌝ }
+    ensures { λ e. ⌜ e ≡ storeEffect attributes q (now (m .entry)) next base mode offset popped x y ⌝ }
 {
     let a = (base_of(q, m, popped, base) as usize) + (offset as usize);
     let pops = shape::popped_words(base) + shape::words_in(mode);
     if !access::is_live(q, a, shape::words_in(mode) as usize) {
         return Effect::Trap(32);
     }
-    if is_any_protected(areas, q, m, a, mode) {
+    if is_any_protected(attributes, q, m, a, mode) {
         return Effect::Trap(33);
     }
     Effect::Go(
@@ -121,18 +121,18 @@ pub fn store_effect(
 }
 
 // Whether a store of one word or two to `a` on is refused.
-fn is_any_protected(areas: Areas, q: Registers, m: &[u32], a: usize, mode: Mode) -> bool
-    requires { ⌜ chained (now m) (framesStart areas) (q .fp) (q .calls) ≡ true ⌝ }
+fn is_any_protected(attributes: Attributes, q: Registers, m: &[u32], a: usize, mode: Mode) -> bool
+    requires { ⌜ chained (now m) (framesStart attributes) (q .fp) (q .calls) ≡ true ⌝ }
     requires { ⌜ a ≤ 0xFFFF_FFFF ⌝ }
-    ensures { λ b. ⌜ b ≡ protectsAny areas q (now (m .entry)) a mode ⌝ }
+    ensures { λ b. ⌜ b ≡ protectsAny attributes q (now (m .entry)) a mode ⌝ }
 {
     match mode {
-        Mode::Normal => access::is_protected(areas, q, m, a),
+        Mode::Normal => access::is_protected(attributes, q, m, a),
         Mode::Double => {
-            if access::is_protected(areas, q, m, a) {
+            if access::is_protected(attributes, q, m, a) {
                 return true;
             }
-            access::is_protected(areas, q, m, a + 1)
+            access::is_protected(attributes, q, m, a + 1)
         }
     }
 }

@@ -55,7 +55,7 @@ pub data Acts (P : Program) (S : State) (next : ℕ) : Shape → Effect → Type
       → (S .registers .fp ≤ S .registers .mp → S .registers .fp ≤ mp)
       → (S .registers .mp ≤ length (S .memory) → mp ≤ length (S .memory))
       → Acts P S next (shape.Straight pops come) (Go pops push NoWrite (sized (S .registers) next mp))
-  stores : {pops : ℕ} (a x y : ℕ) (mode : Mode) → protectsAny (P .areas) (S .registers) (S .memory) a mode ≡ false
+  stores : {pops : ℕ} (a x y : ℕ) (mode : Mode) → protectsAny (P .attributes) (S .registers) (S .memory) a mode ≡ false
       → Acts P S next (shape.Straight pops 0) (Go pops NoPush (stored a mode x y) (moved (S .registers) next))
   drops : {n : ℕ} → Acts P S next (shape.Pop n) (Go n NoPush NoWrite (moved (S .registers) next))
   jumps : {d : ℕ} → Acts P S next (shape.Jump d) (Go 0 NoPush NoWrite (moved (S .registers) (placeAt (S .registers .pc) d)))
@@ -65,12 +65,12 @@ pub data Acts (P : Program) (S : State) (next : ℕ) : Shape → Effect → Type
       → Acts P S next (shape.JumpTF d) (Go 0 NoPush NoWrite (moved (S .registers) (placeAt (S .registers .pc) d)))
   pops-boolean : {d : ℕ} → Acts P S next (shape.JumpTF d) (Go 1 NoPush NoWrite (moved (S .registers) next))
   skips-loop : {d : ℕ} → Acts P S next (shape.Iter d) (Go 4 NoPush NoWrite (moved (S .registers) (placeAt (S .registers .pc) d)))
-  enters-loop : {d : ℕ} (a x : ℕ) → protects (P .areas) (S .registers) (S .memory) a ≡ false
+  enters-loop : {d : ℕ} (a x : ℕ) → protects (P .attributes) (S .registers) (S .memory) a ≡ false
       → Acts P S next (shape.Iter d) (Go 0 (PushOne next) (WriteOne a x) (moved (S .registers) next))
-  leaves-loop : (a x : ℕ) → protects (P .areas) (S .registers) (S .memory) a ≡ false
+  leaves-loop : (a x : ℕ) → protects (P .attributes) (S .registers) (S .memory) a ≡ false
       → Acts P S next shape.Next (Go 5 NoPush (WriteOne a x) (moved (S .registers) next))
   leaves-by-sum : Acts P S next shape.Next (Go 5 NoPush NoWrite (moved (S .registers) next))
-  repeats-loop : (a x : ℕ) → protects (P .areas) (S .registers) (S .memory) a ≡ false
+  repeats-loop : (a x : ℕ) → protects (P .attributes) (S .registers) (S .memory) a ≡ false
       → Acts P S next shape.Next (Go 0 NoPush (WriteOne a x) (moved (S .registers) (word S 4)))
   switches : {t : Table} {n : ℕ} (x : ℕ)
       → Acts P S next (shape.Switch t n) (Go 1 (PushOne (exitLabel (P .code) (S .registers .pc))) NoWrite
@@ -106,11 +106,11 @@ module _ (P : Program) (S : State) (next : ℕ) where
   value-acts pops (Word x) h = passes refl
   value-acts pops (Stop n) (a-trap d) = traps d
 
-  storable-acts : (s : Shape) (a : ℕ) (mode : Mode) (e : Effect) → (protectsAny (P .areas) q m a mode ≡ false → Is s e)
-      → Is s (ifStorable (P .areas) q m a mode e)
+  storable-acts : (s : Shape) (a : ℕ) (mode : Mode) (e : Effect) → (protectsAny (P .attributes) q m a mode ≡ false → Is s e)
+      → Is s (ifStorable (P .attributes) q m a mode e)
   storable-acts s a mode e h =
       tested s (live q a (wordsIn mode)) _ 32 (data-number 32 refl refl)
-      (λ l. guarded s (protectsAny (P .areas) q m a mode) e 33 (data-number 33 refl refl) h)
+      (λ l. guarded s (protectsAny (P .attributes) q m a mode) e 33 (data-number 33 refl refl) h)
 
   loaded-words : (a : ℕ) (mode : Mode) → pushes (loaded m a mode) ≡ wordsIn mode
   loaded-words a Normal = refl
@@ -122,7 +122,8 @@ module _ (P : Program) (S : State) (next : ℕ) where
       tested (shape.JumpTF d) (ltb b 2) _ 34 (data-number 34 refl refl)
       (λ l. by-test (Is (shape.JumpTF d)) (eqb b truth) _ _ (λ e. keeps-boolean) (λ e. pops-boolean))
 
-  sum-acts : (a l s : ℕ) (v : Value) → protects (P .areas) q m a ≡ false → Is shape.Next (sumEffect q next a l s (word S 4) v)
+  sum-acts : (a l s : ℕ) (v : Value) → protects (P .attributes) q m a ≡ false
+      → Is shape.Next (sumEffect q next a l s (word S 4) v)
   sum-acts a l s (Word x) p =
       by-test (Is shape.Next) (beyond (toZ w32 s) (toZ w32 x) (toZ w32 l)) _ _ (λ e. leaves-loop a x p) (λ e. repeats-loop a x p)
   sum-acts a l s (Stop n) p = leaves-by-sum

@@ -85,7 +85,7 @@ operate-found op q s next l = rw (operation-found op s (q .height) l)
 -- The words of STOR, by their depth in the stack.
 abbrev pub storeAt : Program → Registers → List ℕ → List ℕ → ℕ → Base → Mode → ℕ → Effect
 storeAt P q m s next base mode n =
-    storeEffect (P .areas) q m next base mode n (read s (q .height - (popped base + wordsIn mode)))
+    storeEffect (P .attributes) q m next base mode n (read s (q .height - (popped base + wordsIn mode)))
     (read s (q .height - wordsIn mode)) (read s (q .height - (wordsIn mode - 1)))
 
 pub store-found : (P : Program) (q : Registers) (m s : List ℕ) (next : ℕ) (base : Base) (mode : Mode) (n : ℕ)
@@ -108,7 +108,7 @@ store-found P q m s next Popped Double n l =
 
 pub iter-found : (P : Program) (q : Registers) (m s : List ℕ) (next d : ℕ) → 4 ≤ q .height
     → executed P (state q m s) next (Iter d)
-    ≡ iterEffect (P .areas) q m next d (read s (q .height - 4)) (read s (q .height - 3)) (read s (q .height - 2))
+    ≡ iterEffect (P .attributes) q m next d (read s (q .height - 4)) (read s (q .height - 3)) (read s (q .height - 2))
     (read s (q .height - 1))
 unfolding execute shapeOf
 iter-found P q m s next d l =
@@ -121,7 +121,7 @@ iter-found P q m s next d l =
 
 pub next-found : (P : Program) (q : Registers) (m s : List ℕ) (next : ℕ) → 5 ≤ q .height
     → executed P (state q m s) next Next
-    ≡ nextEffect (P .areas) q m next (read s (q .height - 5)) (read s (q .height - 3)) (read s (q .height - 2))
+    ≡ nextEffect (P .attributes) q m next (read s (q .height - 5)) (read s (q .height - 3)) (read s (q .height - 2))
     (read s (q .height - 1))
 unfolding execute shapeOf
 next-found P q m s next l =

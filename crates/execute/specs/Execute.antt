@@ -42,7 +42,8 @@ execute P S next (Load base mode n) =
 execute P S next (LoadAddress base n) =
     loadAddressEffect (S .registers) (S .memory) next base n (word S 0)  -- [ => adr ], LOAD_A_F [ adr => adr ]
 execute P S next (Store base mode n) =  -- [ val => ], STOR_F [ adr, val => ]
-    storeEffect (P .areas) (S .registers) (S .memory) next base mode n (word S 0) (word S (popped base)) (word S (popped base + 1))
+    storeEffect (P .attributes) (S .registers) (S .memory) next base mode n (word S 0) (word S (popped base))
+    (word S (popped base + 1))
 execute P S next (Pop n) = Go n NoPush NoWrite (moved (S .registers) next)  -- [ val (,...) => ]
 execute P S next Swap = Go 2 (PushTwo (word S 1) (word S 0)) NoWrite (moved (S .registers) next)  -- [ val, val => val, val ]
 execute P S next Nop = Go 0 NoPush NoWrite (moved (S .registers) next)
@@ -54,9 +55,9 @@ execute P S next (JumpC d) = jumpCEffect (S .registers) next d (word S 0)  -- [ 
 execute P S next (JumpT d) = jumpTFEffect (S .registers) next 1 d (word S 0)  -- [ bool => (bool) ]
 execute P S next (JumpF d) = jumpTFEffect (S .registers) next 0 d (word S 0)  -- [ bool => (bool) ]
 execute P S next (Iter d) =  -- [ adr, first, last, step => (adr, first, last, step, label) ]
-    iterEffect (P .areas) (S .registers) (S .memory) next d (word S 0) (word S 1) (word S 2) (word S 3)
+    iterEffect (P .attributes) (S .registers) (S .memory) next d (word S 0) (word S 1) (word S 2) (word S 3)
 execute P S next Next =  -- [ adr, first, last, step, label => (adr, first, last, step, label) ]
-    nextEffect (P .areas) (S .registers) (S .memory) next (word S 0) (word S 2) (word S 3) (word S 4)
+    nextEffect (P .attributes) (S .registers) (S .memory) next (word S 0) (word S 2) (word S 3) (word S 4)
 execute P S next (Switch n) = switchEffect (P .code) (S .registers) Branches n (word S 0)  -- [ val => label ]
 execute P S next (SwitchX n) = switchEffect (P .code) (S .registers) Ranges n (word S 0)  -- [ val => label ]
 execute P S next Leave = Go 1 NoPush NoWrite (moved (S .registers) (word S 0))  -- [ label => ]

@@ -16,7 +16,7 @@ use effect::effect::Write;
 use opcode::instruction::Base;
 use opcode::instruction::Instruction;
 use opcode::instruction::Mode;
-use registers::Areas;
+use registers::Attributes;
 use registers::Registers;
 use registers::access;
 use shape::Table;
@@ -33,7 +33,7 @@ fn peek(s: &[u32], q: Registers, depth: u32) -> u32
 
 // STOR: the address, if it is popped, lies below the words.
 fn execute_store(
-    areas: Areas,
+    attributes: Attributes,
     q: Registers,
     m: &[u32],
     s: &[u32],
@@ -42,64 +42,67 @@ fn execute_store(
     mode: Mode,
     offset: u32,
 ) -> Effect
-    requires { ⌜ chained (now m) (framesStart areas) (q .fp) (q .calls) ≡ true ⌝ }
+    requires { ⌜ chained (now m) (framesStart attributes) (q .fp) (q .calls) ≡ true ⌝ }
     requires { ⌜ needed (Instruction.Store base mode offset) ≤ q .height ⌝ }
-    ensures { λ e. ⌜ ((code : List ℕ) → e ≡ executed (program code areas) (state q (now (m .entry)) (now (s .entry))) next (Instruction.Store base mode offset)) ⌝ }
+    ensures { λ e. ⌜ ((code : List ℕ) → e ≡ executed (program code attributes) (state q (now (m .entry)) (now (s .entry)))
+        next (Instruction.Store base mode offset)) ⌝ }
 {
     let words = shape::words_in(mode);
     let popped = peek(s, q, shape::popped_words(base) + words);
     let x = peek(s, q, words);
     let y = peek(s, q, words - 1);
-    data::store_effect(areas, q, m, next, base, mode, offset, popped, x, y)
+    data::store_effect(attributes, q, m, next, base, mode, offset, popped, x, y)
 }
 
 // ITER: four words.
 fn execute_iter(
-    areas: Areas,
+    attributes: Attributes,
     q: Registers,
     m: &[u32],
     s: &[u32],
     next: u32,
     distance: u32,
 ) -> Effect
-    requires { ⌜ chained (now m) (framesStart areas) (q .fp) (q .calls) ≡ true ⌝ }
+    requires { ⌜ chained (now m) (framesStart attributes) (q .fp) (q .calls) ≡ true ⌝ }
     requires { ⌜ 4 ≤ q .height ⌝ }
-    ensures { λ e. ⌜ ((code : List ℕ) → e ≡ executed (program code areas) (state q (now (m .entry)) (now (s .entry))) next (Instruction.Iter distance)) ⌝ }
+    ensures { λ e. ⌜ ((code : List ℕ) → e ≡ executed (program code attributes) (state q (now (m .entry)) (now (s .entry)))
+        next (Instruction.Iter distance)) ⌝ }
 {
     let a = peek(s, q, 4);
     let first = peek(s, q, 3);
     let last = peek(s, q, 2);
     let step = peek(s, q, 1);
-    control::iter_effect(areas, q, m, next, distance, a, first, last, step)
+    control::iter_effect(attributes, q, m, next, distance, a, first, last, step)
 }
 
 // NEXT: four words, and the label above them.
-fn execute_next(areas: Areas, q: Registers, m: &[u32], s: &[u32], next: u32) -> Effect
-    requires { ⌜ chained (now m) (framesStart areas) (q .fp) (q .calls) ≡ true ⌝ }
+fn execute_next(attributes: Attributes, q: Registers, m: &[u32], s: &[u32], next: u32) -> Effect
+    requires { ⌜ chained (now m) (framesStart attributes) (q .fp) (q .calls) ≡ true ⌝ }
     requires { ⌜ 5 ≤ q .height ⌝ }
-    ensures { λ e. ⌜ ((code : List ℕ) → e ≡ executed (program code areas) (state q (now (m .entry)) (now (s .entry))) next Instruction.Next) ⌝ }
+    ensures { λ e. ⌜ ((code : List ℕ) → e ≡ executed (program code attributes) (state q (now (m .entry)) (now (s .entry)))
+        next Instruction.Next) ⌝ }
 {
     let a = peek(s, q, 5);
     let last = peek(s, q, 3);
     let step = peek(s, q, 2);
     let label = peek(s, q, 1);
-    control::next_effect(areas, q, m, next, a, last, step, label)
+    control::next_effect(attributes, q, m, next, a, last, step, label)
 }
 
 // The effect of an instruction whose stack words are there.
 pub fn execute(
     code: &[u8],
-    areas: Areas,
+    attributes: Attributes,
     q: Registers,
     m: &[u32],
     s: &[u32],
     next: u32,
     i: Instruction,
 ) -> Effect
-    requires { ⌜ chained (now m) (framesStart areas) (q .fp) (q .calls) ≡ true ⌝ }
+    requires { ⌜ chained (now m) (framesStart attributes) (q .fp) (q .calls) ≡ true ⌝ }
     requires { ⌜ length (now m) ≤ 16384 ⌝ }
     requires { ⌜ needed i ≤ q .height ⌝ }
-    ensures { λ e. ⌜ e ≡ executed (program (now (code .entry)) areas) (state q (now (m .entry)) (now (s .entry))) next i ⌝ }
+    ensures { λ e. ⌜ e ≡ executed (program (now (code .entry)) attributes) (state q (now (m .entry)) (now (s .entry))) next i ⌝ }
 {
     match i {
         Instruction::LoadConstant(n) => data::push_effect(q, next, 0, n),
@@ -110,7 +113,7 @@ pub fn execute(
             data::load_address_effect(q, m, next, base, offset, peek(s, q, 1))
         }
         Instruction::Store(base, mode, offset) => {
-            execute_store(areas, q, m, s, next, base, mode, offset)
+            execute_store(attributes, q, m, s, next, base, mode, offset)
         }
         Instruction::Pop(n) => control::jump_to(q, n, next),
         Instruction::Swap => Effect::Go(
@@ -134,8 +137,8 @@ pub fn execute(
         Instruction::JumpF(distance) => {
             control::jump_tf_effect(q, next, 0, distance, peek(s, q, 1))
         }
-        Instruction::Iter(distance) => execute_iter(areas, q, m, s, next, distance),
-        Instruction::Next => execute_next(areas, q, m, s, next),
+        Instruction::Iter(distance) => execute_iter(attributes, q, m, s, next, distance),
+        Instruction::Next => execute_next(attributes, q, m, s, next),
         Instruction::Switch(n) => {
             control::switch_effect(code, q, Table::Branches, n, peek(s, q, 1))
         }
@@ -147,6 +150,6 @@ pub fn execute(
         Instruction::Enter(parameters, words) => {
             control::enter_effect(q, m, next, parameters, words)
         }
-        Instruction::Rtn => control::rtn_effect(areas, q, m),
+        Instruction::Rtn => control::rtn_effect(attributes, q, m),
     }
 }

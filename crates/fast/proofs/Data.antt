@@ -24,7 +24,8 @@ use Rattle.fast.specs.Fast.{Spot, spot, stateAt, plain}
 use Rattle.fast.proofs.Forms.{Ends, gives-one, gives-two, gives-none, stores-one, stores-two}
 use Rattle.fast.proofs.Plain.{plain-free}
 
-module _ (P : Program) (q : Registers) (pc h : ℕ) (m s : List ℕ) (F : Fitting (P .areas) (stateAt q (spot pc h m s))) (next : ℕ)
+module _ (P : Program) (q : Registers) (pc h : ℕ) (m s : List ℕ) (F : Fitting (P .attributes) (stateAt q (spot pc h m s)))
+    (next : ℕ)
     (inside : next < length (P .code)) where
   abbrev Decodes : Instruction → Type 0
   Decodes i = decodeAt (P .code) (length (P .code)) pc ≡ At i next
@@ -32,9 +33,9 @@ module _ (P : Program) (q : Registers) (pc h : ℕ) (m s : List ℕ) (F : Fittin
   abbrev Ending : Spot → Type 0
   Ending N = Ends P q (spot pc h m s) N
 
-  unprotected : (a : ℕ) → plain (P .areas) (q .fp) a ≡ true
-      → protects (P .areas) (stateAt q (spot pc h m s) .registers) m a ≡ false
-  unprotected a free = plain-free (P .areas) (stateAt q (spot pc h m s) .registers) m a (F .links) free
+  unprotected : (a : ℕ) → plain (P .attributes) (q .fp) a ≡ true
+      → protects (P .attributes) (stateAt q (spot pc h m s) .registers) m a ≡ false
+  unprotected a free = plain-free (P .attributes) (stateAt q (spot pc h m s) .registers) m a (F .links) free
 
   pub constant-goes : (n : ℕ) → Decodes (LoadConstant n) → h < length s → Ending (spot next (h + 1) m (set s h n))
   unfolding execute shapeOf
@@ -140,7 +141,7 @@ module _ (P : Program) (q : Registers) (pc h : ℕ) (m s : List ℕ) (F : Fittin
       (rw (top-found s h one, lt-ltb (read s (h - 1) + n) 0x1_0000_0000 l)) (omega (arith, F .height))
 
   pub store-local-goes : (n : ℕ) → Decodes (Store Local Normal n)
-      → (1 ≤ h) × ((q .fp + n < q .mp) × (plain (P .areas) (q .fp) (q .fp + n) ≡ true))
+      → (1 ≤ h) × ((q .fp + n < q .mp) × (plain (P .attributes) (q .fp) (q .fp + n) ≡ true))
       → Ending (spot next (h - 1) (set m (q .fp + n) (read s (h - 1))) s)
   unfolding shapeOf storeEffect live
   store-local-goes n d (one, (l, free)) =
@@ -149,8 +150,8 @@ module _ (P : Program) (q : Registers) (pc h : ℕ) (m s : List ℕ) (F : Fittin
       ∙ rw (le-leb (q .fp + n + 1) (q .mp) (omega arith), unprotected (q .fp + n) free)) (F .height)
 
   pub store-two-local-goes : (n : ℕ) → Decodes (Store Local Double n)
-      → (2 ≤ h) × ((q .fp + n + 1 < q .mp) × ((plain (P .areas) (q .fp) (q .fp + n) ≡ true) ×
-      (plain (P .areas) (q .fp) (q .fp + n + 1) ≡ true)))
+      → (2 ≤ h) × ((q .fp + n + 1 < q .mp) × ((plain (P .attributes) (q .fp) (q .fp + n) ≡ true) ×
+      (plain (P .attributes) (q .fp) (q .fp + n + 1) ≡ true)))
       → Ending (spot next (h - 2) (set (set m (q .fp + n) (read s (h - 2))) (q .fp + n + 1) (read s (h - 1))) s)
   unfolding shapeOf storeEffect live
   store-two-local-goes n d (two, (l, (free, also))) =
@@ -161,7 +162,7 @@ module _ (P : Program) (q : Registers) (pc h : ℕ) (m s : List ℕ) (F : Fittin
       (F .height)
 
   pub store-global-goes : (n : ℕ) → Decodes (Store Global Normal n)
-      → (1 ≤ h) × ((q .gp + n < q .mp) × (plain (P .areas) (q .fp) (q .gp + n) ≡ true))
+      → (1 ≤ h) × ((q .gp + n < q .mp) × (plain (P .attributes) (q .fp) (q .gp + n) ≡ true))
       → Ending (spot next (h - 1) (set m (q .gp + n) (read s (h - 1))) s)
   unfolding shapeOf storeEffect live
   store-global-goes n d (one, (l, free)) =
@@ -170,8 +171,8 @@ module _ (P : Program) (q : Registers) (pc h : ℕ) (m s : List ℕ) (F : Fittin
       ∙ rw (le-leb (q .gp + n + 1) (q .mp) (omega arith), unprotected (q .gp + n) free)) (F .height)
 
   pub store-two-global-goes : (n : ℕ) → Decodes (Store Global Double n)
-      → (2 ≤ h) × ((q .gp + n + 1 < q .mp) × ((plain (P .areas) (q .fp) (q .gp + n) ≡ true) ×
-      (plain (P .areas) (q .fp) (q .gp + n + 1) ≡ true)))
+      → (2 ≤ h) × ((q .gp + n + 1 < q .mp) × ((plain (P .attributes) (q .fp) (q .gp + n) ≡ true) ×
+      (plain (P .attributes) (q .fp) (q .gp + n + 1) ≡ true)))
       → Ending (spot next (h - 2) (set (set m (q .gp + n) (read s (h - 2))) (q .gp + n + 1) (read s (h - 1))) s)
   unfolding shapeOf storeEffect live
   store-two-global-goes n d (two, (l, (free, also))) =
@@ -183,9 +184,9 @@ module _ (P : Program) (q : Registers) (pc h : ℕ) (m s : List ℕ) (F : Fittin
 
   -- Of the registers `protects` reads FP and the calls, which stay.
   abbrev Free : ℕ → Type 0
-  Free a = protects (P .areas) q m a ≡ false
+  Free a = protects (P .attributes) q m a ≡ false
 
-  kept-free : (a : ℕ) → Free a → protects (P .areas) (stateAt q (spot pc h m s) .registers) m a ≡ false
+  kept-free : (a : ℕ) → Free a → protects (P .attributes) (stateAt q (spot pc h m s) .registers) m a ≡ false
   unfolding protects
   kept-free a free = free
 

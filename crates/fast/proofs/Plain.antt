@@ -6,7 +6,7 @@ use Prim.Native.Nat.{ℕ, _<_, _≤_}
 use native.Mathlib.Omega.{arith}
 use lib.Dec.{leb, ltb}
 use borrow.Author.Tests.{lt-ltb, le-ltb, lt-leb, leb-true, leb-false, ltb-true, ltb-false}
-use Rattle.registers.specs.declared.Areas.{Areas}
+use Rattle.registers.specs.declared.Attributes.{Attributes}
 use Rattle.registers.specs.declared.Registers.{Registers}
 use Rattle.registers.specs.Program.{constantsStart, framesStart}
 use Rattle.registers.specs.Memory.{chained, protects}
@@ -14,7 +14,7 @@ use Rattle.registers.proofs.Links.{chain-start}
 use Rattle.registers.proofs.Protected.{free-above, header-only, constant}
 use Rattle.fast.specs.Fast.{plain}
 
-module _ (A : Areas) (q : Registers) (m : List ℕ) (a : ℕ) (c : chained m (framesStart A) (q .fp) (q .calls) ≡ true) where
+module _ (A : Attributes) (q : Registers) (m : List ℕ) (a : ℕ) (c : chained m (framesStart A) (q .fp) (q .calls) ≡ true) where
   global-free : (t u : Bool) → leb 3 a ≡ t → ltb a (constantsStart A) ≡ u → (t && u) ≡ true → protects A q m a ≡ false
   global-free true true e f h = header-only A q m a c (ltb-true a (constantsStart A) f) ∙ le-ltb a 3 (leb-true 3 a e)
   global-free true false e f h = absurd (let z : _≡_ {A = ℕ} 0 1 = cc in omega arith)

@@ -4,14 +4,14 @@ use mathlib.Core.Bool.{true}
 use Prim.Native.Nat.{ℕ, _+_, _%_, _<_}
 use native.Mathlib.Omega.{arith}
 use lib.ListN.{length}
-use Rattle.registers.specs.declared.Areas.{Areas}
+use Rattle.registers.specs.declared.Attributes.{Attributes}
 use Rattle.registers.specs.declared.Registers.{Registers}
 use Rattle.registers.specs.Memory.{read}
 use Rattle.state.specs.Fits.{fits}
 use Rattle.state.proofs.Fitting.{Fitting, fitting}
 use Rattle.fast.specs.Fast.{Spot, stateAt}
 
-module _ (A : Areas) (q : Registers) (T : Spot) (f : fits A (stateAt q T) ≡ true) (n : ℕ) (small : n < 65536) where
+module _ (A : Attributes) (q : Registers) (T : Spot) (f : fits A (stateAt q T) ≡ true) (n : ℕ) (small : n < 65536) where
   F : Fitting A (stateAt q T)
   F = fitting A (stateAt q T) f
 
@@ -22,12 +22,12 @@ module _ (A : Areas) (q : Registers) (T : Spot) (f : fits A (stateAt q T) ≡ tr
   small-global = omega (arith, F .global, small)
 
   pub small-constant : read (T .memory) 2 + n < 0x1_0000_0000
-  small-constant = omega (arith, F .word2, F .areas, F .room, small)
+  small-constant = omega (arith, F .word2, F .attributes, F .room, small)
 
 -- CONST_ADR is there.
-module _ (A : Areas) (q : Registers) (T : Spot) (f : fits A (stateAt q T) ≡ true) where
+module _ (A : Attributes) (q : Registers) (T : Spot) (f : fits A (stateAt q T) ≡ true) where
   pub base-live : 2 < length (T .memory)
-  base-live = omega (arith, fitting A (stateAt q T) f .areas)
+  base-live = omega (arith, fitting A (stateAt q T) f .attributes)
 
 -- Operands are small.
 pub digit-small : (b : ℕ) → b % 16 < 65536

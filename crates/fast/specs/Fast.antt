@@ -9,7 +9,7 @@ use lib.ListN.{length}
 use Rattle.opcode.specs.Decode.{decodeAt}
 use Rattle.opcode.specs.declared.Decoded.the-variants.{At}
 use Rattle.opcode.specs.declared.instruction.Instruction.{Instruction}
-use Rattle.registers.specs.declared.Areas.{Areas}
+use Rattle.registers.specs.declared.Attributes.{Attributes}
 use Rattle.registers.specs.declared.Registers.{Registers}
 use Rattle.registers.specs.Program.{Program, constantsStart}
 use Rattle.registers.specs.State.{State, state}
@@ -59,11 +59,11 @@ pub data Steps (P : Program) (S : State) : ℕ → State → Type 0 where
 -- What is reached with so much of a budget left: by steps that completed, in a state that fits.
 pub record Ahead (P : Program) (S : State) (budget left : ℕ) (S' : State) : Type 0 where
   pub most : left ≤ budget
-  pub fit : fits (P .areas) S' ≡ true
+  pub fit : fits (P .attributes) S' ≡ true
   pub steps : Steps P S (budget - left) S'
 
 -- A word of the running frame, or a global: never protected.
-abbrev pub plain : Areas → (fp a : ℕ) → Bool
+abbrev pub plain : Attributes → (fp a : ℕ) → Bool
 plain A fp a = leb fp a || (leb 3 a && ltb a (constantsStart A))
 
 -- What an operation gives: a word, and which.

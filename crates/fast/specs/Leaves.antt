@@ -3,7 +3,7 @@ use mathlib.Core.Path.{_≡_}
 use mathlib.Core.Bool.{Bool, true, false}
 use Prim.Native.Nat.{ℕ, _+_, _-_, _<_, _≤_}
 use lib.ListN.{length, set}
-use Rattle.registers.specs.declared.Areas.{Areas}
+use Rattle.registers.specs.declared.Attributes.{Attributes}
 use Rattle.registers.specs.declared.Registers.{Registers}
 use Rattle.registers.specs.Memory.{read, protects}
 use Rattle.operate.specs.declared.Value.{Value}
@@ -47,23 +47,23 @@ AddressPopped b next n T T' =
     (spot next (T .height) (T .memory) (set (T .stack) (T .height - 1) (top T 1 + n))) T'
 
 -- To a word, or two, below mp that are never protected.
-abbrev pub Stores : Bool → Areas → (next fp mp a : ℕ) (T T' : Spot) → Type 0
+abbrev pub Stores : Bool → Attributes → (next fp mp a : ℕ) (T T' : Spot) → Type 0
 Stores b A next fp mp a T T' =
     Became b ((1 ≤ T .height) × ((a < mp) × (plain A fp a ≡ true))) T
     (spot next (T .height - 1) (set (T .memory) a (top T 1)) (T .stack)) T'
 
-abbrev pub StoresTwo : Bool → Areas → (next fp mp a : ℕ) (T T' : Spot) → Type 0
+abbrev pub StoresTwo : Bool → Attributes → (next fp mp a : ℕ) (T T' : Spot) → Type 0
 StoresTwo b A next fp mp a T T' =
     Became b ((2 ≤ T .height) × ((a + 1 < mp) × ((plain A fp a ≡ true) × (plain A fp (a + 1) ≡ true)))) T
     (spot next (T .height - 2) (set (set (T .memory) a (top T 2)) (a + 1) (top T 1)) (T .stack)) T'
 
 -- At an offset from the address below the words: to words that are not protected.
-abbrev pub StoresPopped : Bool → Areas → Registers → (next n : ℕ) (T T' : Spot) → Type 0
+abbrev pub StoresPopped : Bool → Attributes → Registers → (next n : ℕ) (T T' : Spot) → Type 0
 StoresPopped b A q next n T T' =
     Became b ((2 ≤ T .height) × ((top T 2 + n < q .mp) × (protects A q (T .memory) (top T 2 + n) ≡ false))) T
     (spot next (T .height - 2) (set (T .memory) (top T 2 + n) (top T 1)) (T .stack)) T'
 
-abbrev pub StoresTwoPopped : Bool → Areas → Registers → (next n : ℕ) (T T' : Spot) → Type 0
+abbrev pub StoresTwoPopped : Bool → Attributes → Registers → (next n : ℕ) (T T' : Spot) → Type 0
 StoresTwoPopped b A q next n T T' =
     Became b
     ((3 ≤ T .height) × ((top T 3 + n + 1 < q .mp)

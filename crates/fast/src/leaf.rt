@@ -9,7 +9,7 @@ ghost use Rattle.registers.specs.Memory.{isLink, chained, protects};
 ghost use Rattle.fast.specs.Fast.{spot, plain};
 ghost use Rattle.fast.specs.Leaves.{Pushes, Loads, LoadsPopped, LoadsTwo, LoadsTwoPopped, AddressPopped, Drops, Swaps};
 ghost use Rattle.fast.specs.Leaves.{Stores, StoresPopped, StoresTwo, StoresTwoPopped};
-use registers::Areas;
+use registers::Attributes;
 use registers::Registers;
 
 // Takes a word as an index.
@@ -114,8 +114,8 @@ pub fn address_popped(
 }
 
 // Says whether a word lies in the running frame or among the globals.
-pub fn is_plain(areas: Areas, fp: usize, a: usize) -> bool
-    ensures { λ b. ⌜ b ≡ plain areas fp a ⌝ }
+pub fn is_plain(attributes: Attributes, fp: usize, a: usize) -> bool
+    ensures { λ b. ⌜ b ≡ plain attributes fp a ⌝ }
 {
     if fp <= a {
         return true;
@@ -123,7 +123,7 @@ pub fn is_plain(areas: Areas, fp: usize, a: usize) -> bool
     if a < 3 {
         return false;
     }
-    a < 3 + (areas.globals as usize)
+    a < 3 + (attributes.globals as usize)
 }
 
 // Says whether `a`, past the data areas, is a link word. Each saved FP lies below its frame, and the last one at `start`.
@@ -144,15 +144,15 @@ fn is_link(memory: &[u32], start: usize, fp: usize, calls: usize, a: usize) -> b
 }
 
 // Says whether a word is not protected. Only a word of an outer frame takes a walk.
-fn is_free(areas: Areas, q: Registers, memory: &[u32], a: usize) -> bool
-    requires { ⌜ chained (now memory) (framesStart areas) (q .fp) (q .calls) ≡ true ⌝ }
+fn is_free(attributes: Attributes, q: Registers, memory: &[u32], a: usize) -> bool
+    requires { ⌜ chained (now memory) (framesStart attributes) (q .fp) (q .calls) ≡ true ⌝ }
     requires { ⌜ q .fp ≤ length (now memory) ⌝ }
-    ensures { λ b. ⌜ b ≡ not (protects areas q (now (memory .entry)) a) ⌝ }
+    ensures { λ b. ⌜ b ≡ not (protects attributes q (now (memory .entry)) a) ⌝ }
 {
-    if is_plain(areas, q.fp as usize, a) {
+    if is_plain(attributes, q.fp as usize, a) {
         return true;
     }
-    let start = 3 + (areas.globals as usize) + (areas.constants as usize);
+    let start = 3 + (attributes.globals as usize) + (attributes.constants as usize);
     if a < start {
         return false;
     }
@@ -161,7 +161,7 @@ fn is_free(areas: Areas, q: Registers, memory: &[u32], a: usize) -> bool
 
 // Stores the top word to a live word of the running frame, or a live global.
 pub fn store(
-    areas: Areas,
+    attributes: Attributes,
     memory: &mut [u32],
     stack: &[u32],
     pc: &mut usize,
@@ -173,7 +173,7 @@ pub fn store(
 ) -> bool
     requires { ⌜ mp ≤ length (now memory) ⌝ }
     requires { ⌜ now height ≤ length (now stack) ⌝ }
-    ensures { λ b. ⌜ Stores b areas next fp mp a
+    ensures { λ b. ⌜ Stores b attributes next fp mp a
         (spot (now (pc .entry)) (now (height .entry)) (now (memory .entry)) (now (stack .entry)))
         (spot (now (pc .exit)) (now (height .exit)) (now (memory .exit)) (now (stack .entry))) ⌝ }
 {
@@ -184,7 +184,7 @@ pub fn store(
     if mp <= a {
         return false;
     }
-    if !is_plain(areas, fp, a) {
+    if !is_plain(attributes, fp, a) {
         return false;
     }
     memory[a] = stack[h - 1];
@@ -195,7 +195,7 @@ pub fn store(
 
 // Stores the top word at an offset from the address below it.
 pub fn store_popped(
-    areas: Areas,
+    attributes: Attributes,
     q: Registers,
     memory: &mut [u32],
     stack: &[u32],
@@ -207,9 +207,9 @@ pub fn store_popped(
     requires { ⌜ q .mp ≤ length (now memory) ⌝ }
     requires { ⌜ now height ≤ length (now stack) ⌝ }
     requires { ⌜ offset < 65536 ⌝ }
-    requires { ⌜ chained (now memory) (framesStart areas) (q .fp) (q .calls) ≡ true ⌝ }
+    requires { ⌜ chained (now memory) (framesStart attributes) (q .fp) (q .calls) ≡ true ⌝ }
     requires { ⌜ q .fp ≤ length (now memory) ⌝ }
-    ensures { λ b. ⌜ StoresPopped b areas q next offset
+    ensures { λ b. ⌜ StoresPopped b attributes q next offset
         (spot (now (pc .entry)) (now (height .entry)) (now (memory .entry)) (now (stack .entry)))
         (spot (now (pc .exit)) (now (height .exit)) (now (memory .exit)) (now (stack .entry))) ⌝ }
 {
@@ -221,7 +221,7 @@ pub fn store_popped(
     if (q.mp as usize) <= to {
         return false;
     }
-    if !is_free(areas, q, memory, to) {
+    if !is_free(attributes, q, memory, to) {
         return false;
     }
     memory[to] = stack[h - 1];
@@ -333,7 +333,7 @@ pub fn load_two_popped(
 
 // Stores the two top words to live words of the running frame, or live globals.
 pub fn store_two(
-    areas: Areas,
+    attributes: Attributes,
     memory: &mut [u32],
     stack: &[u32],
     pc: &mut usize,
@@ -346,7 +346,7 @@ pub fn store_two(
     requires { ⌜ mp ≤ length (now memory) ⌝ }
     requires { ⌜ now height ≤ length (now stack) ⌝ }
     requires { ⌜ a < 0x1_0000_0000 ⌝ }
-    ensures { λ b. ⌜ StoresTwo b areas next fp mp a
+    ensures { λ b. ⌜ StoresTwo b attributes next fp mp a
         (spot (now (pc .entry)) (now (height .entry)) (now (memory .entry)) (now (stack .entry)))
         (spot (now (pc .exit)) (now (height .exit)) (now (memory .exit)) (now (stack .entry))) ⌝ }
 {
@@ -357,10 +357,10 @@ pub fn store_two(
     if mp <= a + 1 {
         return false;
     }
-    if !is_plain(areas, fp, a) {
+    if !is_plain(attributes, fp, a) {
         return false;
     }
-    if !is_plain(areas, fp, a + 1) {
+    if !is_plain(attributes, fp, a + 1) {
         return false;
     }
     memory[a] = stack[h - 2];
@@ -372,7 +372,7 @@ pub fn store_two(
 
 // Stores the two top words at an offset from the address below them.
 pub fn store_two_popped(
-    areas: Areas,
+    attributes: Attributes,
     q: Registers,
     memory: &mut [u32],
     stack: &[u32],
@@ -384,9 +384,9 @@ pub fn store_two_popped(
     requires { ⌜ q .mp ≤ length (now memory) ⌝ }
     requires { ⌜ now height ≤ length (now stack) ⌝ }
     requires { ⌜ offset < 65536 ⌝ }
-    requires { ⌜ chained (now memory) (framesStart areas) (q .fp) (q .calls) ≡ true ⌝ }
+    requires { ⌜ chained (now memory) (framesStart attributes) (q .fp) (q .calls) ≡ true ⌝ }
     requires { ⌜ q .fp ≤ length (now memory) ⌝ }
-    ensures { λ b. ⌜ StoresTwoPopped b areas q next offset
+    ensures { λ b. ⌜ StoresTwoPopped b attributes q next offset
         (spot (now (pc .entry)) (now (height .entry)) (now (memory .entry)) (now (stack .entry)))
         (spot (now (pc .exit)) (now (height .exit)) (now (memory .exit)) (now (stack .entry))) ⌝ }
 {
@@ -398,10 +398,10 @@ pub fn store_two_popped(
     if (q.mp as usize) <= to + 1 {
         return false;
     }
-    if !is_free(areas, q, memory, to) {
+    if !is_free(attributes, q, memory, to) {
         return false;
     }
-    if !is_free(areas, q, memory, to + 1) {
+    if !is_free(attributes, q, memory, to + 1) {
         return false;
     }
     memory[to] = stack[h - 2];

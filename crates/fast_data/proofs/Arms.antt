@@ -11,7 +11,7 @@ use Rattle.opcode.specs.declared.instruction.Instruction.{Instruction}
 use Rattle.opcode.specs.declared.instruction.Instruction.the-variants.{LoadConstant, Load, LoadAddress, Store, Pop, Swap}
 use Rattle.opcode.specs.declared.instruction.Base.the-variants.{Local, Global, Constant, Popped}
 use Rattle.opcode.specs.declared.instruction.Mode.the-variants.{Normal}
-use Rattle.registers.specs.declared.Areas.{Areas}
+use Rattle.registers.specs.declared.Attributes.{Attributes}
 use Rattle.registers.specs.declared.Registers.{Registers}
 use Rattle.registers.specs.Program.{Program, program}
 use Rattle.registers.specs.Memory.{read}
@@ -27,8 +27,8 @@ use Rattle.fast.proofs.Data.{address-local-goes, address-global-goes, address-c
 use Rattle.fast.proofs.Data.{store-local-goes, store-global-goes, store-popped-goes}
 use Rattle.fast_double.proofs.Arms.{base}
 
-module _ (code : List ℕ) (A : Areas) (q : Registers) (pc h : ℕ) (m s : List ℕ) (f : fits A (stateAt q (spot pc h m s)) ≡ true)
-    (t : Bool) (T' : Spot) (next : ℕ) (inside : next < length code) where
+module _ (code : List ℕ) (A : Attributes) (q : Registers) (pc h : ℕ) (m s : List ℕ)
+    (f : fits A (stateAt q (spot pc h m s)) ≡ true) (t : Bool) (T' : Spot) (next : ℕ) (inside : next < length code) where
   abbrev P : Program
   P = program code A
 

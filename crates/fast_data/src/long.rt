@@ -9,14 +9,14 @@ ghost use Rattle.registers.specs.Program.{program};
 ghost use Rattle.state.specs.Fits.{fits};
 ghost use Rattle.fast.specs.Fast.{spot, stateAt, Did};
 use fast::leaf;
-use registers::Areas;
+use registers::Attributes;
 use registers::Registers;
 use registers::access;
 
 // Serves LOAD_C.w, code 84: a word is behind it.
 fn word_step(
     code: &[u8],
-    areas: Areas,
+    attributes: Attributes,
     q: Registers,
     memory: &[u32],
     stack: &mut [u32],
@@ -25,8 +25,8 @@ fn word_step(
 ) -> bool
     requires { ⌜ now pc + 1 < length (now code) ⌝ }
     requires { ⌜ byteAt (now code) (now pc) ≡ 0x84 ⌝ }
-    requires { ⌜ fits areas (stateAt q (spot (now pc) (now height) (now memory) (now stack))) ≡ true ⌝ }
-    ensures { λ done. ⌜ Did done (program (now (code .entry)) areas) q
+    requires { ⌜ fits attributes (stateAt q (spot (now pc) (now height) (now memory) (now stack))) ≡ true ⌝ }
+    ensures { λ done. ⌜ Did done (program (now (code .entry)) attributes) q
         (spot (now (pc .entry)) (now (height .entry)) (now (memory .entry)) (now (stack .entry)))
         (spot (now (pc .exit)) (now (height .exit)) (now (memory .entry)) (now (stack .exit))) ⌝ }
 {
@@ -44,7 +44,7 @@ fn word_step(
 // Serves loads with a byte behind them.
 fn byte_load(
     code: &[u8],
-    areas: Areas,
+    attributes: Attributes,
     q: Registers,
     memory: &[u32],
     stack: &mut [u32],
@@ -54,8 +54,8 @@ fn byte_load(
 ) -> bool
     requires { ⌜ now pc + 1 < length (now code) ⌝ }
     requires { ⌜ b ≡ byteAt (now code) (now pc) ⌝ }
-    requires { ⌜ fits areas (stateAt q (spot (now pc) (now height) (now memory) (now stack))) ≡ true ⌝ }
-    ensures { λ done. ⌜ Did done (program (now (code .entry)) areas) q
+    requires { ⌜ fits attributes (stateAt q (spot (now pc) (now height) (now memory) (now stack))) ≡ true ⌝ }
+    ensures { λ done. ⌜ Did done (program (now (code .entry)) attributes) q
         (spot (now (pc .entry)) (now (height .entry)) (now (memory .entry)) (now (stack .entry)))
         (spot (now (pc .exit)) (now (height .exit)) (now (memory .entry)) (now (stack .exit))) ⌝ }
 {
@@ -103,7 +103,7 @@ fn byte_load(
 // Serves addresses with a byte behind them.
 fn byte_address(
     code: &[u8],
-    areas: Areas,
+    attributes: Attributes,
     q: Registers,
     memory: &[u32],
     stack: &mut [u32],
@@ -113,8 +113,8 @@ fn byte_address(
 ) -> bool
     requires { ⌜ now pc + 1 < length (now code) ⌝ }
     requires { ⌜ b ≡ byteAt (now code) (now pc) ⌝ }
-    requires { ⌜ fits areas (stateAt q (spot (now pc) (now height) (now memory) (now stack))) ≡ true ⌝ }
-    ensures { λ done. ⌜ Did done (program (now (code .entry)) areas) q
+    requires { ⌜ fits attributes (stateAt q (spot (now pc) (now height) (now memory) (now stack))) ≡ true ⌝ }
+    ensures { λ done. ⌜ Did done (program (now (code .entry)) attributes) q
         (spot (now (pc .entry)) (now (height .entry)) (now (memory .entry)) (now (stack .entry)))
         (spot (now (pc .exit)) (now (height .exit)) (now (memory .entry)) (now (stack .exit))) ⌝ }
 {
@@ -142,7 +142,7 @@ fn byte_address(
 // Serves stores, and POP, with a byte behind them.
 fn byte_store(
     code: &[u8],
-    areas: Areas,
+    attributes: Attributes,
     q: Registers,
     memory: &mut [u32],
     stack: &[u32],
@@ -152,8 +152,8 @@ fn byte_store(
 ) -> bool
     requires { ⌜ now pc + 1 < length (now code) ⌝ }
     requires { ⌜ b ≡ byteAt (now code) (now pc) ⌝ }
-    requires { ⌜ fits areas (stateAt q (spot (now pc) (now height) (now memory) (now stack))) ≡ true ⌝ }
-    ensures { λ done. ⌜ Did done (program (now (code .entry)) areas) q
+    requires { ⌜ fits attributes (stateAt q (spot (now pc) (now height) (now memory) (now stack))) ≡ true ⌝ }
+    ensures { λ done. ⌜ Did done (program (now (code .entry)) attributes) q
         (spot (now (pc .entry)) (now (height .entry)) (now (memory .entry)) (now (stack .entry)))
         (spot (now (pc .exit)) (now (height .exit)) (now (memory .exit)) (now (stack .entry))) ⌝ }
 {
@@ -165,7 +165,7 @@ fn byte_store(
     let next = here + 2;
     match b {
         0x94 => leaf::store(
-            areas,
+            attributes,
             memory,
             stack,
             pc,
@@ -176,7 +176,7 @@ fn byte_store(
             (q.fp as usize) + n,
         ),
         0x95 => leaf::store(
-            areas,
+            attributes,
             memory,
             stack,
             pc,
@@ -186,7 +186,7 @@ fn byte_store(
             q.mp as usize,
             (q.gp as usize) + n,
         ),
-        0x96 => leaf::store_popped(areas, q, memory, stack, pc, height, next, n),
+        0x96 => leaf::store_popped(attributes, q, memory, stack, pc, height, next, n),
         0x9E => leaf::drop(pc, height, next, n),
         _ => false,
     }
@@ -195,7 +195,7 @@ fn byte_store(
 // Serves loads and addresses with a halfword behind them.
 fn half_load(
     code: &[u8],
-    areas: Areas,
+    attributes: Attributes,
     q: Registers,
     memory: &[u32],
     stack: &mut [u32],
@@ -205,8 +205,8 @@ fn half_load(
 ) -> bool
     requires { ⌜ now pc + 1 < length (now code) ⌝ }
     requires { ⌜ b ≡ byteAt (now code) (now pc) ⌝ }
-    requires { ⌜ fits areas (stateAt q (spot (now pc) (now height) (now memory) (now stack))) ≡ true ⌝ }
-    ensures { λ done. ⌜ Did done (program (now (code .entry)) areas) q
+    requires { ⌜ fits attributes (stateAt q (spot (now pc) (now height) (now memory) (now stack))) ≡ true ⌝ }
+    ensures { λ done. ⌜ Did done (program (now (code .entry)) attributes) q
         (spot (now (pc .entry)) (now (height .entry)) (now (memory .entry)) (now (stack .entry)))
         (spot (now (pc .exit)) (now (height .exit)) (now (memory .entry)) (now (stack .exit))) ⌝ }
 {
@@ -245,7 +245,7 @@ fn half_load(
 // Serves STOR_F.h, code 97.
 fn half_store(
     code: &[u8],
-    areas: Areas,
+    attributes: Attributes,
     q: Registers,
     memory: &mut [u32],
     stack: &[u32],
@@ -254,8 +254,8 @@ fn half_store(
 ) -> bool
     requires { ⌜ now pc + 1 < length (now code) ⌝ }
     requires { ⌜ byteAt (now code) (now pc) ≡ 0x97 ⌝ }
-    requires { ⌜ fits areas (stateAt q (spot (now pc) (now height) (now memory) (now stack))) ≡ true ⌝ }
-    ensures { λ done. ⌜ Did done (program (now (code .entry)) areas) q
+    requires { ⌜ fits attributes (stateAt q (spot (now pc) (now height) (now memory) (now stack))) ≡ true ⌝ }
+    ensures { λ done. ⌜ Did done (program (now (code .entry)) attributes) q
         (spot (now (pc .entry)) (now (height .entry)) (now (memory .entry)) (now (stack .entry)))
         (spot (now (pc .exit)) (now (height .exit)) (now (memory .exit)) (now (stack .entry))) ⌝ }
 {
@@ -266,13 +266,13 @@ fn half_store(
     let k = here + 1;
     let n = words::pair(code[k], code[k + 1]) as usize;
     let next = here + 3;
-    leaf::store_popped(areas, q, memory, stack, pc, height, next, n)
+    leaf::store_popped(attributes, q, memory, stack, pc, height, next, n)
 }
 
 // Serves SWAP, code 9F.
 fn swap_step(
     code: &[u8],
-    areas: Areas,
+    attributes: Attributes,
     q: Registers,
     memory: &[u32],
     stack: &mut [u32],
@@ -281,8 +281,8 @@ fn swap_step(
 ) -> bool
     requires { ⌜ now pc + 1 < length (now code) ⌝ }
     requires { ⌜ byteAt (now code) (now pc) ≡ 0x9F ⌝ }
-    requires { ⌜ fits areas (stateAt q (spot (now pc) (now height) (now memory) (now stack))) ≡ true ⌝ }
-    ensures { λ done. ⌜ Did done (program (now (code .entry)) areas) q
+    requires { ⌜ fits attributes (stateAt q (spot (now pc) (now height) (now memory) (now stack))) ≡ true ⌝ }
+    ensures { λ done. ⌜ Did done (program (now (code .entry)) attributes) q
         (spot (now (pc .entry)) (now (height .entry)) (now (memory .entry)) (now (stack .entry)))
         (spot (now (pc .exit)) (now (height .exit)) (now (memory .entry)) (now (stack .exit))) ⌝ }
 {
@@ -293,7 +293,7 @@ fn swap_step(
 // Serves POP, SWAP and DOUBLE, and goes on to the jumps and the operations.
 fn stack_step(
     code: &[u8],
-    areas: Areas,
+    attributes: Attributes,
     q: Registers,
     memory: &mut [u32],
     stack: &mut [u32],
@@ -304,23 +304,23 @@ fn stack_step(
     requires { ⌜ length (now code) ≤ 65535 ⌝ }
     requires { ⌜ now pc + 1 < length (now code) ⌝ }
     requires { ⌜ b ≡ byteAt (now code) (now pc) ⌝ }
-    requires { ⌜ fits areas (stateAt q (spot (now pc) (now height) (now memory) (now stack))) ≡ true ⌝ }
-    ensures { λ done. ⌜ Did done (program (now (code .entry)) areas) q
+    requires { ⌜ fits attributes (stateAt q (spot (now pc) (now height) (now memory) (now stack))) ≡ true ⌝ }
+    ensures { λ done. ⌜ Did done (program (now (code .entry)) attributes) q
         (spot (now (pc .entry)) (now (height .entry)) (now (memory .entry)) (now (stack .entry)))
         (spot (now (pc .exit)) (now (height .exit)) (now (memory .exit)) (now (stack .exit))) ⌝ }
 {
     match b {
-        0x9E => byte_store(code, areas, q, memory, stack, pc, height, 0x9E),
-        0x9F => swap_step(code, areas, q, memory, stack, pc, height),
-        0xF5 => fast_double::double_step(code, areas, q, memory, stack, pc, height),
-        _ => fast_flow::flow_step(code, areas, q, memory, stack, pc, height, b),
+        0x9E => byte_store(code, attributes, q, memory, stack, pc, height, 0x9E),
+        0x9F => swap_step(code, attributes, q, memory, stack, pc, height),
+        0xF5 => fast_double::double_step(code, attributes, q, memory, stack, pc, height),
+        _ => fast_flow::flow_step(code, attributes, q, memory, stack, pc, height, b),
     }
 }
 
 // Serves STOR_L, _G and _F, 94 to 97, and what stack_step has.
 fn store_step(
     code: &[u8],
-    areas: Areas,
+    attributes: Attributes,
     q: Registers,
     memory: &mut [u32],
     stack: &mut [u32],
@@ -331,24 +331,24 @@ fn store_step(
     requires { ⌜ length (now code) ≤ 65535 ⌝ }
     requires { ⌜ now pc + 1 < length (now code) ⌝ }
     requires { ⌜ b ≡ byteAt (now code) (now pc) ⌝ }
-    requires { ⌜ fits areas (stateAt q (spot (now pc) (now height) (now memory) (now stack))) ≡ true ⌝ }
-    ensures { λ done. ⌜ Did done (program (now (code .entry)) areas) q
+    requires { ⌜ fits attributes (stateAt q (spot (now pc) (now height) (now memory) (now stack))) ≡ true ⌝ }
+    ensures { λ done. ⌜ Did done (program (now (code .entry)) attributes) q
         (spot (now (pc .entry)) (now (height .entry)) (now (memory .entry)) (now (stack .entry)))
         (spot (now (pc .exit)) (now (height .exit)) (now (memory .exit)) (now (stack .exit))) ⌝ }
 {
     match b {
-        0x94 => byte_store(code, areas, q, memory, stack, pc, height, 0x94),
-        0x95 => byte_store(code, areas, q, memory, stack, pc, height, 0x95),
-        0x96 => byte_store(code, areas, q, memory, stack, pc, height, 0x96),
-        0x97 => half_store(code, areas, q, memory, stack, pc, height),
-        _ => stack_step(code, areas, q, memory, stack, pc, height, b),
+        0x94 => byte_store(code, attributes, q, memory, stack, pc, height, 0x94),
+        0x95 => byte_store(code, attributes, q, memory, stack, pc, height, 0x95),
+        0x96 => byte_store(code, attributes, q, memory, stack, pc, height, 0x96),
+        0x97 => half_store(code, attributes, q, memory, stack, pc, height),
+        _ => stack_step(code, attributes, q, memory, stack, pc, height, b),
     }
 }
 
 // Serves LOAD_A, 8D to 90, 92 and 93, and what store_step has.
 fn address_step(
     code: &[u8],
-    areas: Areas,
+    attributes: Attributes,
     q: Registers,
     memory: &mut [u32],
     stack: &mut [u32],
@@ -359,26 +359,26 @@ fn address_step(
     requires { ⌜ length (now code) ≤ 65535 ⌝ }
     requires { ⌜ now pc + 1 < length (now code) ⌝ }
     requires { ⌜ b ≡ byteAt (now code) (now pc) ⌝ }
-    requires { ⌜ fits areas (stateAt q (spot (now pc) (now height) (now memory) (now stack))) ≡ true ⌝ }
-    ensures { λ done. ⌜ Did done (program (now (code .entry)) areas) q
+    requires { ⌜ fits attributes (stateAt q (spot (now pc) (now height) (now memory) (now stack))) ≡ true ⌝ }
+    ensures { λ done. ⌜ Did done (program (now (code .entry)) attributes) q
         (spot (now (pc .entry)) (now (height .entry)) (now (memory .entry)) (now (stack .entry)))
         (spot (now (pc .exit)) (now (height .exit)) (now (memory .exit)) (now (stack .exit))) ⌝ }
 {
     match b {
-        0x8D => byte_address(code, areas, q, memory, stack, pc, height, 0x8D),
-        0x8E => byte_address(code, areas, q, memory, stack, pc, height, 0x8E),
-        0x8F => byte_address(code, areas, q, memory, stack, pc, height, 0x8F),
-        0x90 => half_load(code, areas, q, memory, stack, pc, height, 0x90),
-        0x92 => byte_address(code, areas, q, memory, stack, pc, height, 0x92),
-        0x93 => half_load(code, areas, q, memory, stack, pc, height, 0x93),
-        _ => store_step(code, areas, q, memory, stack, pc, height, b),
+        0x8D => byte_address(code, attributes, q, memory, stack, pc, height, 0x8D),
+        0x8E => byte_address(code, attributes, q, memory, stack, pc, height, 0x8E),
+        0x8F => byte_address(code, attributes, q, memory, stack, pc, height, 0x8F),
+        0x90 => half_load(code, attributes, q, memory, stack, pc, height, 0x90),
+        0x92 => byte_address(code, attributes, q, memory, stack, pc, height, 0x92),
+        0x93 => half_load(code, attributes, q, memory, stack, pc, height, 0x93),
+        _ => store_step(code, attributes, q, memory, stack, pc, height, b),
     }
 }
 
 // Serves loads, 80 to 88, and what address_step has. The code is a literal in each arm, so that its part makes no second jump.
 pub fn long_step(
     code: &[u8],
-    areas: Areas,
+    attributes: Attributes,
     q: Registers,
     memory: &mut [u32],
     stack: &mut [u32],
@@ -389,21 +389,21 @@ pub fn long_step(
     requires { ⌜ length (now code) ≤ 65535 ⌝ }
     requires { ⌜ now pc + 1 < length (now code) ⌝ }
     requires { ⌜ b ≡ byteAt (now code) (now pc) ⌝ }
-    requires { ⌜ fits areas (stateAt q (spot (now pc) (now height) (now memory) (now stack))) ≡ true ⌝ }
-    ensures { λ done. ⌜ Did done (program (now (code .entry)) areas) q
+    requires { ⌜ fits attributes (stateAt q (spot (now pc) (now height) (now memory) (now stack))) ≡ true ⌝ }
+    ensures { λ done. ⌜ Did done (program (now (code .entry)) attributes) q
         (spot (now (pc .entry)) (now (height .entry)) (now (memory .entry)) (now (stack .entry)))
         (spot (now (pc .exit)) (now (height .exit)) (now (memory .exit)) (now (stack .exit))) ⌝ }
 {
     match b {
-        0x80 => byte_load(code, areas, q, memory, stack, pc, height, 0x80),
-        0x81 => half_load(code, areas, q, memory, stack, pc, height, 0x81),
-        0x82 => byte_load(code, areas, q, memory, stack, pc, height, 0x82),
-        0x83 => half_load(code, areas, q, memory, stack, pc, height, 0x83),
-        0x84 => word_step(code, areas, q, memory, stack, pc, height),
-        0x85 => byte_load(code, areas, q, memory, stack, pc, height, 0x85),
-        0x86 => byte_load(code, areas, q, memory, stack, pc, height, 0x86),
-        0x87 => byte_load(code, areas, q, memory, stack, pc, height, 0x87),
-        0x88 => half_load(code, areas, q, memory, stack, pc, height, 0x88),
-        _ => address_step(code, areas, q, memory, stack, pc, height, b),
+        0x80 => byte_load(code, attributes, q, memory, stack, pc, height, 0x80),
+        0x81 => half_load(code, attributes, q, memory, stack, pc, height, 0x81),
+        0x82 => byte_load(code, attributes, q, memory, stack, pc, height, 0x82),
+        0x83 => half_load(code, attributes, q, memory, stack, pc, height, 0x83),
+        0x84 => word_step(code, attributes, q, memory, stack, pc, height),
+        0x85 => byte_load(code, attributes, q, memory, stack, pc, height, 0x85),
+        0x86 => byte_load(code, attributes, q, memory, stack, pc, height, 0x86),
+        0x87 => byte_load(code, attributes, q, memory, stack, pc, height, 0x87),
+        0x88 => half_load(code, attributes, q, memory, stack, pc, height, 0x88),
+        _ => address_step(code, attributes, q, memory, stack, pc, height, b),
     }
 }

@@ -8,13 +8,13 @@ ghost use Rattle.registers.specs.Program.{program};
 ghost use Rattle.state.specs.Fits.{fits};
 ghost use Rattle.fast.specs.Fast.{spot, stateAt, Did};
 use fast::leaf;
-use registers::Areas;
+use registers::Attributes;
 use registers::Registers;
 
 // Serves codes 00 to 6F: the operand is the last digit.
 pub fn short_step(
     code: &[u8],
-    areas: Areas,
+    attributes: Attributes,
     q: Registers,
     memory: &mut [u32],
     stack: &mut [u32],
@@ -25,8 +25,8 @@ pub fn short_step(
     requires { ⌜ now pc + 1 < length (now code) ⌝ }
     requires { ⌜ b ≡ byteAt (now code) (now pc) ⌝ }
     requires { ⌜ b < 0x70 ⌝ }
-    requires { ⌜ fits areas (stateAt q (spot (now pc) (now height) (now memory) (now stack))) ≡ true ⌝ }
-    ensures { λ done. ⌜ Did done (program (now (code .entry)) areas) q
+    requires { ⌜ fits attributes (stateAt q (spot (now pc) (now height) (now memory) (now stack))) ≡ true ⌝ }
+    ensures { λ done. ⌜ Did done (program (now (code .entry)) attributes) q
         (spot (now (pc .entry)) (now (height .entry)) (now (memory .entry)) (now (stack .entry)))
         (spot (now (pc .exit)) (now (height .exit)) (now (memory .exit)) (now (stack .exit))) ⌝ }
 {
@@ -54,7 +54,7 @@ pub fn short_step(
         ),
         3 => leaf::load_popped(memory, stack, pc, height, next, q.mp as usize, n),
         4 => leaf::store(
-            areas,
+            attributes,
             memory,
             stack,
             pc,
@@ -65,7 +65,7 @@ pub fn short_step(
             (q.fp as usize) + n,
         ),
         5 => leaf::store(
-            areas,
+            attributes,
             memory,
             stack,
             pc,
@@ -75,7 +75,7 @@ pub fn short_step(
             q.mp as usize,
             (q.gp as usize) + n,
         ),
-        6 => leaf::store_popped(areas, q, memory, stack, pc, height, next, n),
+        6 => leaf::store_popped(attributes, q, memory, stack, pc, height, next, n),
         _ => false,
     }
 }

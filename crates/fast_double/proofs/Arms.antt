@@ -11,7 +11,7 @@ use Rattle.opcode.specs.declared.instruction.Instruction.{Instruction}
 use Rattle.opcode.specs.declared.instruction.Instruction.the-variants.{Load, Store}
 use Rattle.opcode.specs.declared.instruction.Base.the-variants.{Local, Global, Constant, Popped}
 use Rattle.opcode.specs.declared.instruction.Mode.the-variants.{Double}
-use Rattle.registers.specs.declared.Areas.{Areas}
+use Rattle.registers.specs.declared.Attributes.{Attributes}
 use Rattle.registers.specs.declared.Registers.{Registers}
 use Rattle.registers.specs.Program.{Program, program, framesStart}
 use Rattle.registers.specs.Memory.{read, chained}
@@ -24,20 +24,20 @@ use Rattle.fast.proofs.Data.{load-two-local-goes, load-two-global-goes, load-tw
 use Rattle.fast.proofs.Data.{store-two-local-goes, store-two-global-goes, store-two-popped-goes}
 
 -- The constants begin at CONST_ADR, which is word 2 of memory: GP is 3.
-pub base : (A : Areas) (q : Registers) (T : Spot) → fits A (stateAt q T) ≡ true
+pub base : (A : Attributes) (q : Registers) (T : Spot) → fits A (stateAt q T) ≡ true
     → read (T .memory) (q .gp - 1) ≡ read (T .memory) 2
 base A q T f = rw (fitting A (stateAt q T) f .global)
 
 -- What a store through an address asks of the state and of its offset.
-pub reaches : (A : Areas) (q : Registers) (T : Spot) → fits A (stateAt q T) ≡ true → (n : ℕ) → n < 65536
+pub reaches : (A : Attributes) (q : Registers) (T : Spot) → fits A (stateAt q T) ≡ true → (n : ℕ) → n < 65536
     → (q .mp ≤ length (T .memory)) × ((T .height ≤ length (T .stack)) × ((n < 65536)
     × ((chained (T .memory) (framesStart A) (q .fp) (q .calls) ≡ true) × (q .fp ≤ length (T .memory)))))
 reaches A q T f n small =
     let F = fitting A (stateAt q T) f in
     (F .within, (F .height, (small, (F .links, omega (arith, F .frame, F .within)))))
 
-module _ (code : List ℕ) (A : Areas) (q : Registers) (pc h : ℕ) (m s : List ℕ) (f : fits A (stateAt q (spot pc h m s)) ≡ true)
-    (t : Bool) (T' : Spot) (next : ℕ) (inside : next < length code) where
+module _ (code : List ℕ) (A : Attributes) (q : Registers) (pc h : ℕ) (m s : List ℕ)
+    (f : fits A (stateAt q (spot pc h m s)) ≡ true) (t : Bool) (T' : Spot) (next : ℕ) (inside : next < length code) where
   abbrev P : Program
   P = program code A
 

@@ -8,14 +8,14 @@ ghost use Rattle.registers.specs.Program.{program};
 ghost use Rattle.state.specs.Fits.{fits};
 ghost use Rattle.fast.specs.Fast.{spot, stateAt, Did};
 use fast::leaf;
-use registers::Areas;
+use registers::Attributes;
 use registers::Registers;
 use registers::access;
 
 // Serves codes 10 to 6F behind DOUBLE.
 fn double_short(
     code: &[u8],
-    areas: Areas,
+    attributes: Attributes,
     q: Registers,
     memory: &mut [u32],
     stack: &mut [u32],
@@ -27,8 +27,8 @@ fn double_short(
     requires { ⌜ byteAt (now code) (now pc) ≡ 0xF5 ⌝ }
     requires { ⌜ b ≡ byteAt (now code) (now pc + 1) ⌝ }
     requires { ⌜ b < 0x70 ⌝ }
-    requires { ⌜ fits areas (stateAt q (spot (now pc) (now height) (now memory) (now stack))) ≡ true ⌝ }
-    ensures { λ done. ⌜ Did done (program (now (code .entry)) areas) q
+    requires { ⌜ fits attributes (stateAt q (spot (now pc) (now height) (now memory) (now stack))) ≡ true ⌝ }
+    ensures { λ done. ⌜ Did done (program (now (code .entry)) attributes) q
         (spot (now (pc .entry)) (now (height .entry)) (now (memory .entry)) (now (stack .entry)))
         (spot (now (pc .exit)) (now (height .exit)) (now (memory .exit)) (now (stack .exit))) ⌝ }
 {
@@ -56,7 +56,7 @@ fn double_short(
         ),
         3 => leaf::load_two_popped(memory, stack, pc, height, next, q.mp as usize, n),
         4 => leaf::store_two(
-            areas,
+            attributes,
             memory,
             stack,
             pc,
@@ -67,7 +67,7 @@ fn double_short(
             (q.fp as usize) + n,
         ),
         5 => leaf::store_two(
-            areas,
+            attributes,
             memory,
             stack,
             pc,
@@ -77,7 +77,7 @@ fn double_short(
             q.mp as usize,
             (q.gp as usize) + n,
         ),
-        6 => leaf::store_two_popped(areas, q, memory, stack, pc, height, next, n),
+        6 => leaf::store_two_popped(attributes, q, memory, stack, pc, height, next, n),
         _ => false,
     }
 }
@@ -85,7 +85,7 @@ fn double_short(
 // Serves codes with a halfword behind them.
 fn double_half(
     code: &[u8],
-    areas: Areas,
+    attributes: Attributes,
     q: Registers,
     memory: &mut [u32],
     stack: &mut [u32],
@@ -96,8 +96,8 @@ fn double_half(
     requires { ⌜ now pc + 1 + 2 < length (now code) ⌝ }
     requires { ⌜ byteAt (now code) (now pc) ≡ 0xF5 ⌝ }
     requires { ⌜ b ≡ byteAt (now code) (now pc + 1) ⌝ }
-    requires { ⌜ fits areas (stateAt q (spot (now pc) (now height) (now memory) (now stack))) ≡ true ⌝ }
-    ensures { λ done. ⌜ Did done (program (now (code .entry)) areas) q
+    requires { ⌜ fits attributes (stateAt q (spot (now pc) (now height) (now memory) (now stack))) ≡ true ⌝ }
+    ensures { λ done. ⌜ Did done (program (now (code .entry)) attributes) q
         (spot (now (pc .entry)) (now (height .entry)) (now (memory .entry)) (now (stack .entry)))
         (spot (now (pc .exit)) (now (height .exit)) (now (memory .exit)) (now (stack .exit))) ⌝ }
 {
@@ -119,7 +119,7 @@ fn double_half(
             (access::word_at(memory, 2) as usize) + n,
         ),
         0x88 => leaf::load_two_popped(memory, stack, pc, height, next, q.mp as usize, n),
-        0x97 => leaf::store_two_popped(areas, q, memory, stack, pc, height, next, n),
+        0x97 => leaf::store_two_popped(attributes, q, memory, stack, pc, height, next, n),
         _ => false,
     }
 }
@@ -127,7 +127,7 @@ fn double_half(
 // Serves codes with a byte behind them, and what double_half has.
 fn double_long(
     code: &[u8],
-    areas: Areas,
+    attributes: Attributes,
     q: Registers,
     memory: &mut [u32],
     stack: &mut [u32],
@@ -138,8 +138,8 @@ fn double_long(
     requires { ⌜ now pc + 1 + 1 < length (now code) ⌝ }
     requires { ⌜ byteAt (now code) (now pc) ≡ 0xF5 ⌝ }
     requires { ⌜ b ≡ byteAt (now code) (now pc + 1) ⌝ }
-    requires { ⌜ fits areas (stateAt q (spot (now pc) (now height) (now memory) (now stack))) ≡ true ⌝ }
-    ensures { λ done. ⌜ Did done (program (now (code .entry)) areas) q
+    requires { ⌜ fits attributes (stateAt q (spot (now pc) (now height) (now memory) (now stack))) ≡ true ⌝ }
+    ensures { λ done. ⌜ Did done (program (now (code .entry)) attributes) q
         (spot (now (pc .entry)) (now (height .entry)) (now (memory .entry)) (now (stack .entry)))
         (spot (now (pc .exit)) (now (height .exit)) (now (memory .exit)) (now (stack .exit))) ⌝ }
 {
@@ -179,7 +179,7 @@ fn double_long(
         ),
         0x87 => leaf::load_two_popped(memory, stack, pc, height, next, q.mp as usize, n),
         0x94 => leaf::store_two(
-            areas,
+            attributes,
             memory,
             stack,
             pc,
@@ -190,7 +190,7 @@ fn double_long(
             (q.fp as usize) + n,
         ),
         0x95 => leaf::store_two(
-            areas,
+            attributes,
             memory,
             stack,
             pc,
@@ -200,15 +200,15 @@ fn double_long(
             q.mp as usize,
             (q.gp as usize) + n,
         ),
-        0x96 => leaf::store_two_popped(areas, q, memory, stack, pc, height, next, n),
-        _ => double_half(code, areas, q, memory, stack, pc, height, b),
+        0x96 => leaf::store_two_popped(attributes, q, memory, stack, pc, height, next, n),
+        _ => double_half(code, attributes, q, memory, stack, pc, height, b),
     }
 }
 
 // Serves DOUBLE, code F5: a load or store in two words.
 pub fn double_step(
     code: &[u8],
-    areas: Areas,
+    attributes: Attributes,
     q: Registers,
     memory: &mut [u32],
     stack: &mut [u32],
@@ -217,8 +217,8 @@ pub fn double_step(
 ) -> bool
     requires { ⌜ now pc + 1 < length (now code) ⌝ }
     requires { ⌜ byteAt (now code) (now pc) ≡ 0xF5 ⌝ }
-    requires { ⌜ fits areas (stateAt q (spot (now pc) (now height) (now memory) (now stack))) ≡ true ⌝ }
-    ensures { λ done. ⌜ Did done (program (now (code .entry)) areas) q
+    requires { ⌜ fits attributes (stateAt q (spot (now pc) (now height) (now memory) (now stack))) ≡ true ⌝ }
+    ensures { λ done. ⌜ Did done (program (now (code .entry)) attributes) q
         (spot (now (pc .entry)) (now (height .entry)) (now (memory .entry)) (now (stack .entry)))
         (spot (now (pc .exit)) (now (height .exit)) (now (memory .exit)) (now (stack .exit))) ⌝ }
 {
@@ -228,7 +228,7 @@ pub fn double_step(
     }
     let b = code[at];
     if b < 0x70 {
-        return double_short(code, areas, q, memory, stack, pc, height, b);
+        return double_short(code, attributes, q, memory, stack, pc, height, b);
     }
-    double_long(code, areas, q, memory, stack, pc, height, b)
+    double_long(code, attributes, q, memory, stack, pc, height, b)
 }

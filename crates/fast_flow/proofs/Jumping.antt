@@ -16,7 +16,7 @@ use Rattle.shape.specs.Shape.{shapeOf, needed}
 use Rattle.effect.specs.declared.effect.Push.the-variants.{NoPush}
 use Rattle.effect.specs.declared.effect.Write.the-variants.{NoWrite}
 use Rattle.effect.specs.declared.effect.Effect.the-variants.{Go}
-use Rattle.registers.specs.declared.Areas.{Areas}
+use Rattle.registers.specs.declared.Attributes.{Attributes}
 use Rattle.registers.specs.declared.Registers.{Registers}
 use Rattle.registers.specs.Program.{Program, program}
 use Rattle.registers.specs.Memory.{read}
@@ -35,7 +35,8 @@ abbrev pub flagged : (truth distance : ℕ) → Instruction
 flagged zero d = JumpF d
 flagged (suc n) d = JumpT d
 
-pub flag-stands : (code : List ℕ) (A : Areas) (pc truth : ℕ) → truth ≤ 1 → pc + 1 < length code → byteAt code pc ≡ 0xDF - truth
+pub flag-stands : (code : List ℕ) (A : Attributes) (pc truth : ℕ) → truth ≤ 1 → pc + 1 < length code
+    → byteAt code pc ≡ 0xDF - truth
     → Decodes code pc (flagged truth (byteAt code (pc + 1))) (pc + 2)
 unfolding rowOf
 flag-stands code A pc zero l within k =

@@ -71,9 +71,10 @@ module _ (P : Program) (q : Registers) (pc h : ℕ) (m s : List ℕ) (next : ℕ
     pub round-turns : over (read s (h - 2)) x (read s (h - 3)) ≡ false → Storing (read s (h - 1)) h
     round-turns past = storing 0 (read s (h - 1)) h (omega arith) (e ∙ rw past)
 
-  module _ (F : Fitting (P .areas) (stateAt q T)) (a : ℕ) (l : a < q .mp) (free : plain (P .areas) (q .fp) a ≡ true) where
-    unprotected : protects (P .areas) r m a ≡ false
-    unprotected = plain-free (P .areas) r m a (F .links) free
+  module _ (F : Fitting (P .attributes) (stateAt q T)) (a : ℕ) (l : a < q .mp)
+      (free : plain (P .attributes) (q .fp) a ≡ true) where
+    unprotected : protects (P .attributes) r m a ≡ false
+    unprotected = plain-free (P .attributes) r m a (F .links) free
 
     pub iter-starts : (d first : ℕ) → Decodes (P .code) pc (Iter d) next → next < length (P .code) → 4 ≤ h → read s (h - 4) ≡ a
         → read s (h - 3) ≡ first → over (read s (h - 1)) first (read s (h - 2)) ≡ false → (t : Bool) (T' : Spot)

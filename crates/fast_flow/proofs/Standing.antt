@@ -14,12 +14,12 @@ use Rattle.opcode.specs.Codes.{doubleCode}
 use Rattle.opcode.specs.declared.instruction.Instruction.{Instruction}
 use Rattle.opcode.specs.declared.instruction.Mode.{Mode}
 use Rattle.opcode.specs.declared.instruction.Mode.the-variants.{Normal}
-use Rattle.registers.specs.declared.Areas.{Areas}
+use Rattle.registers.specs.declared.Attributes.{Attributes}
 use Rattle.registers.specs.Program.{program}
 use Rattle.fast.proofs.Decoding.{decodes}
 use Rattle.fast.specs.Fast.{Decodes}
 
-pub stands : (code : List ℕ) (A : Areas) (pc k : ℕ) (operands : Operands) (make : Mode → ℕ → ℕ → Instruction) (n : ℕ)
+pub stands : (code : List ℕ) (A : Attributes) (pc k : ℕ) (operands : Operands) (make : Mode → ℕ → ℕ → Instruction) (n : ℕ)
     → rowOf k ≡ row operands normal make → ltb k doubleCode ≡ true → extent operands code pc ≡ n → 0 < n → pc + n ≤ length code
     → byteAt code pc ≡ k
     → Decodes code pc (make Normal (operand operands code pc) (operand2 operands code pc)) (pc + n)

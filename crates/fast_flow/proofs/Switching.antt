@@ -15,7 +15,7 @@ use Rattle.opcode.specs.declared.instruction.Instruction.the-variants.{Switch, 
 use Rattle.shape.specs.declared.Table.{Table}
 use Rattle.shape.specs.declared.Table.the-variants.{Branches, Ranges}
 use Rattle.shape.specs.Shape.{shapeOf, needed}
-use Rattle.registers.specs.declared.Areas.{Areas}
+use Rattle.registers.specs.declared.Attributes.{Attributes}
 use Rattle.registers.specs.declared.Registers.{Registers}
 use Rattle.registers.specs.Program.{Program, program}
 use Rattle.registers.specs.Memory.{read}
@@ -30,7 +30,7 @@ use Rattle.fast.specs.Fast.{Decodes}
 unwrapped : (pc d : ℕ) → pc + d < 0x1_0000_0000 → placeAt pc d ≡ pc + d
 unwrapped pc d l = omega arith
 
-module _ (code : List ℕ) (A : Areas) (q : Registers) (pc h : ℕ) (m s : List ℕ) (room : h ≤ length s)
+module _ (code : List ℕ) (A : Attributes) (q : Registers) (pc h : ℕ) (m s : List ℕ) (room : h ≤ length s)
     (small : length code ≤ 65535) (one : 1 ≤ h) (next : ℕ) where
   abbrev P : Program
   P = program code A

@@ -7,7 +7,7 @@ use lib.ListN.{length}
 use Rattle.words.specs.Bytes.{byteAt}
 use Rattle.opcode.specs.declared.instruction.Instruction.{Instruction}
 use Rattle.opcode.specs.declared.instruction.Instruction.the-variants.{Next}
-use Rattle.registers.specs.declared.Areas.{Areas}
+use Rattle.registers.specs.declared.Attributes.{Attributes}
 use Rattle.registers.specs.declared.Registers.{Registers}
 use Rattle.registers.specs.Program.{Program, program}
 use Rattle.registers.specs.Memory.{read}
@@ -24,7 +24,7 @@ Does b size i next T T' =
 -- In every program with this code, where k stands there, and every state that fits.
 abbrev pub DoesCode : Bool → (code : List ℕ) (k : ℕ) (T T' : Spot) → Type 0
 DoesCode b code k T T' =
-    (A : Areas) (q : Registers) → fits A (stateAt q T) ≡ true → byteAt code (T .pc) ≡ k → Did b (program code A) q T T'
+    (A : Attributes) (q : Registers) → fits A (stateAt q T) ≡ true → byteAt code (T .pc) ≡ k → Did b (program code A) q T T'
 
 -- NEXT with the sum x, to be stored at a, in every program of this size where it stands there.
 abbrev pub DoesRound : Bool → (size next a x : ℕ) (T T' : Spot) → Type 0

@@ -11,7 +11,7 @@ ghost use Rattle.state.specs.Fits.{fits};
 ghost use Rattle.fast.specs.Fast.{spot, stateAt, Became, Did};
 ghost use Rattle.fast_flow.specs.Flow.{DoesCode};
 use fast_operations::operations;
-use registers::Areas;
+use registers::Attributes;
 use registers::Registers;
 
 mod jumps;
@@ -96,7 +96,7 @@ fn jump_step(code: &[u8], stack: &mut [u32], pc: &mut usize, height: &mut usize,
 // Serves ITER and NEXT, and what jump_step has. Nothing stands between the matches, so that they make one jump.
 pub fn flow_step(
     code: &[u8],
-    areas: Areas,
+    attributes: Attributes,
     q: Registers,
     memory: &mut [u32],
     stack: &mut [u32],
@@ -107,14 +107,14 @@ pub fn flow_step(
     requires { ⌜ length (now code) ≤ 65535 ⌝ }
     requires { ⌜ now pc + 1 < length (now code) ⌝ }
     requires { ⌜ b ≡ byteAt (now code) (now pc) ⌝ }
-    requires { ⌜ fits areas (stateAt q (spot (now pc) (now height) (now memory) (now stack))) ≡ true ⌝ }
-    ensures { λ done. ⌜ Did done (program (now (code .entry)) areas) q
+    requires { ⌜ fits attributes (stateAt q (spot (now pc) (now height) (now memory) (now stack))) ≡ true ⌝ }
+    ensures { λ done. ⌜ Did done (program (now (code .entry)) attributes) q
         (spot (now (pc .entry)) (now (height .entry)) (now (memory .entry)) (now (stack .entry)))
         (spot (now (pc .exit)) (now (height .exit)) (now (memory .exit)) (now (stack .exit))) ⌝ }
 {
     match b {
-        0xE0 => loops::iter(code, areas, q, memory, stack, pc, height),
-        0xE1 => loops::next(code, areas, q, memory, stack, pc, height),
+        0xE0 => loops::iter(code, attributes, q, memory, stack, pc, height),
+        0xE1 => loops::next(code, attributes, q, memory, stack, pc, height),
         _ => jump_step(code, stack, pc, height, b),
     }
 }

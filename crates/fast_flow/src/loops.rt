@@ -12,7 +12,7 @@ ghost use Rattle.fast_flow.specs.Flow.{DoesRound};
 use fast::leaf;
 use opcode::instruction::Arithmetic;
 use operate::Value;
-use registers::Areas;
+use registers::Attributes;
 use registers::Registers;
 
 // Stores a word, pushes the place that is next as a label, and goes there.
@@ -73,7 +73,7 @@ fn store_and_go(
 // Serves ITER: past the loop, or into it.
 pub fn iter(
     code: &[u8],
-    areas: Areas,
+    attributes: Attributes,
     q: Registers,
     memory: &mut [u32],
     stack: &mut [u32],
@@ -84,8 +84,8 @@ pub fn iter(
     requires { ⌜ now pc + 1 < length (now code) ⌝ }
     requires { ⌜ now height ≤ length (now stack) ⌝ }
     requires { ⌜ q .mp ≤ length (now memory) ⌝ }
-    requires { ⌜ fits areas (stateAt q (spot (now pc) (now height) (now memory) (now stack))) ≡ true ⌝ }
-    ensures { λ b. ⌜ (byteAt (now (code .entry)) (now (pc .entry)) ≡ 0xE0 → Did b (program (now (code .entry)) areas) q
+    requires { ⌜ fits attributes (stateAt q (spot (now pc) (now height) (now memory) (now stack))) ≡ true ⌝ }
+    ensures { λ b. ⌜ (byteAt (now (code .entry)) (now (pc .entry)) ≡ 0xE0 → Did b (program (now (code .entry)) attributes) q
         (spot (now (pc .entry)) (now (height .entry)) (now (memory .entry)) (now (stack .entry)))
         (spot (now (pc .exit)) (now (height .exit)) (now (memory .exit)) (now (stack .exit)))) ⌝ }
 {
@@ -106,7 +106,7 @@ pub fn iter(
     if (q.mp as usize) <= a {
         return false;
     }
-    if !leaf::is_plain(areas, q.fp as usize, a) {
+    if !leaf::is_plain(attributes, q.fp as usize, a) {
         return false;
     }
     store_and_push(memory, stack, pc, height, here + 3, a, first)
@@ -140,7 +140,7 @@ fn round(
 // Serves NEXT.
 pub fn next(
     code: &[u8],
-    areas: Areas,
+    attributes: Attributes,
     q: Registers,
     memory: &mut [u32],
     stack: &[u32],
@@ -150,8 +150,8 @@ pub fn next(
     requires { ⌜ now pc + 1 < length (now code) ⌝ }
     requires { ⌜ now height ≤ length (now stack) ⌝ }
     requires { ⌜ q .mp ≤ length (now memory) ⌝ }
-    requires { ⌜ fits areas (stateAt q (spot (now pc) (now height) (now memory) (now stack))) ≡ true ⌝ }
-    ensures { λ b. ⌜ (byteAt (now (code .entry)) (now (pc .entry)) ≡ 0xE1 → Did b (program (now (code .entry)) areas) q
+    requires { ⌜ fits attributes (stateAt q (spot (now pc) (now height) (now memory) (now stack))) ≡ true ⌝ }
+    ensures { λ b. ⌜ (byteAt (now (code .entry)) (now (pc .entry)) ≡ 0xE1 → Did b (program (now (code .entry)) attributes) q
         (spot (now (pc .entry)) (now (height .entry)) (now (memory .entry)) (now (stack .entry)))
         (spot (now (pc .exit)) (now (height .exit)) (now (memory .exit)) (now (stack .entry)))) ⌝ }
 {
@@ -164,7 +164,7 @@ pub fn next(
     if (q.mp as usize) <= a {
         return false;
     }
-    if !leaf::is_plain(areas, q.fp as usize, a) {
+    if !leaf::is_plain(attributes, q.fp as usize, a) {
         return false;
     }
     let sum = operate::arithmetic::signed_value(Arithmetic::Add, memory[a], stack[h - 2]);

@@ -23,7 +23,7 @@ use Rattle.fast.proofs.Goes.{went}
 use Rattle.fast_frames.specs.Frames.{framed}
 use Rattle.fast.specs.Fast.{Decodes}
 
-module _ (P : Program) (pc fp mp gp h n : ℕ) (m s : List ℕ) (F : Fitting (P .areas) (framed pc fp mp gp h n m s)) where
+module _ (P : Program) (pc fp mp gp h n : ℕ) (m s : List ℕ) (F : Fitting (P .attributes) (framed pc fp mp gp h n m s)) where
   abbrev S : State
   S = framed pc fp mp gp h n m s
 

@@ -52,7 +52,7 @@ copied-next m s a low i h =
     rw (← getD-drop low s i 0, add-one i, take-suc rest i 0 more)
     (sets-behind m a (a + i) (take i rest) _ behind)
 
-module _ (P : Program) (pc fp mp gp h n : ℕ) (m s : List ℕ) (F : Fitting (P .areas) (framed pc fp mp gp h n m s)) where
+module _ (P : Program) (pc fp mp gp h n : ℕ) (m s : List ℕ) (F : Fitting (P .attributes) (framed pc fp mp gp h n m s)) where
   abbrev S : State
   S = framed pc fp mp gp h n m s
 
@@ -60,7 +60,7 @@ module _ (P : Program) (pc fp mp gp h n : ℕ) (m s : List ℕ) (F : Fitting (P 
   pub linked : (n ≡ 0 → ⊥) → 2 ≤ fp
   linked some =
       let more : n ≡ suc (n - 1) = omega arith in
-      omega (arith, chain-lower m (framesStart (P .areas)) fp (n - 1) (rw more at (F .links)))
+      omega (arith, chain-lower m (framesStart (P .attributes)) fp (n - 1) (rw more at (F .links)))
 
   pub call-done : (next p : ℕ) → Decodes (P .code) pc (Call p) next → (p ≡ 0 → ⊥) → p < entryCount (P .code) → n < 64
       → mp + 2 ≤ length m → (entry : ℕ) → entry ≡ entryAt (P .code) p → entry < length (P .code)

@@ -9,12 +9,12 @@ ghost use Rattle.state.specs.Fits.{fits};
 ghost use Rattle.fast.specs.Fast.{Completed};
 ghost use Rattle.fast_frames.specs.Frames.{framed};
 ghost use Rattle.fast.specs.Fast.{Decodes};
-use registers::Areas;
+use registers::Attributes;
 
 // Serves ALLOC, where memory has room.
 pub fn alloc(
     code: &[u8],
-    areas: Areas,
+    attributes: Attributes,
     memory: &[u32],
     stack: &mut [u32],
     pc: &mut usize,
@@ -28,8 +28,8 @@ pub fn alloc(
     requires { ⌜ length (now code) ≤ 4096 ⌝ }
     requires { ⌜ next < length (now code) ⌝ }
     requires { ⌜ Decodes (now code) (now pc) Alloc next ⌝ }
-    requires { ⌜ fits areas (framed (now pc) fp (now mp) gp height calls (now memory) (now stack)) ≡ true ⌝ }
-    ensures { λ done. ⌜ Completed done (program (now (code .entry)) areas)
+    requires { ⌜ fits attributes (framed (now pc) fp (now mp) gp height calls (now memory) (now stack)) ≡ true ⌝ }
+    ensures { λ done. ⌜ Completed done (program (now (code .entry)) attributes)
         (framed (now (pc .entry)) fp (now (mp .entry)) gp
         height calls (now (memory .entry)) (now (stack .entry)))
         (framed (now (pc .exit)) fp (now (mp .exit)) gp
@@ -52,7 +52,7 @@ pub fn alloc(
 // Serves FREE, down to FP at most.
 pub fn free(
     code: &[u8],
-    areas: Areas,
+    attributes: Attributes,
     memory: &[u32],
     stack: &[u32],
     pc: &mut usize,
@@ -66,8 +66,8 @@ pub fn free(
     requires { ⌜ length (now code) ≤ 4096 ⌝ }
     requires { ⌜ next < length (now code) ⌝ }
     requires { ⌜ Decodes (now code) (now pc) Free next ⌝ }
-    requires { ⌜ fits areas (framed (now pc) fp (now mp) gp (now height) calls (now memory) (now stack)) ≡ true ⌝ }
-    ensures { λ done. ⌜ Completed done (program (now (code .entry)) areas)
+    requires { ⌜ fits attributes (framed (now pc) fp (now mp) gp (now height) calls (now memory) (now stack)) ≡ true ⌝ }
+    ensures { λ done. ⌜ Completed done (program (now (code .entry)) attributes)
         (framed (now (pc .entry)) fp (now (mp .entry)) gp
         (now (height .entry)) calls (now (memory .entry)) (now (stack .entry)))
         (framed (now (pc .exit)) fp (now (mp .exit)) gp

@@ -12,12 +12,12 @@ ghost use Rattle.state.specs.Fits.{fits};
 ghost use Rattle.fast.specs.Fast.{Completed};
 ghost use Rattle.fast_frames.specs.Frames.{framed};
 ghost use Rattle.fast.specs.Fast.{Decodes};
-use registers::Areas;
+use registers::Attributes;
 
 // Serves CALL, where the callee, its depth and its link words are in order.
 pub fn call(
     code: &[u8],
-    areas: Areas,
+    attributes: Attributes,
     memory: &mut [u32],
     stack: &[u32],
     pc: &mut usize,
@@ -34,8 +34,8 @@ pub fn call(
     requires { ⌜ count ≡ entryCount (now code) ⌝ }
     requires { ⌜ next ≤ length (now code) ⌝ }
     requires { ⌜ Decodes (now code) (now pc) (Call p) next ⌝ }
-    requires { ⌜ fits areas (framed (now pc) (now fp) (now mp) gp height (now calls) (now memory) (now stack)) ≡ true ⌝ }
-    ensures { λ done. ⌜ Completed done (program (now (code .entry)) areas)
+    requires { ⌜ fits attributes (framed (now pc) (now fp) (now mp) gp height (now calls) (now memory) (now stack)) ≡ true ⌝ }
+    ensures { λ done. ⌜ Completed done (program (now (code .entry)) attributes)
         (framed (now (pc .entry)) (now (fp .entry)) (now (mp .entry)) gp
         height (now (calls .entry)) (now (memory .entry)) (now (stack .entry)))
         (framed (now (pc .exit)) (now (fp .exit)) (now (mp .exit)) gp
@@ -93,7 +93,7 @@ fn copy_words(memory: &mut [u32], a: usize, stack: &[u32], low: usize, n: usize)
 // Serves ENTER, where the words are on the stack and memory has room.
 pub fn enter(
     code: &[u8],
-    areas: Areas,
+    attributes: Attributes,
     memory: &mut [u32],
     stack: &[u32],
     pc: &mut usize,
@@ -111,8 +111,8 @@ pub fn enter(
     requires { ⌜ locals < 256 ⌝ }
     requires { ⌜ next < length (now code) ⌝ }
     requires { ⌜ Decodes (now code) (now pc) (Enter parameters locals) next ⌝ }
-    requires { ⌜ fits areas (framed (now pc) fp (now mp) gp (now height) calls (now memory) (now stack)) ≡ true ⌝ }
-    ensures { λ done. ⌜ Completed done (program (now (code .entry)) areas)
+    requires { ⌜ fits attributes (framed (now pc) fp (now mp) gp (now height) calls (now memory) (now stack)) ≡ true ⌝ }
+    ensures { λ done. ⌜ Completed done (program (now (code .entry)) attributes)
         (framed (now (pc .entry)) fp (now (mp .entry)) gp
         (now (height .entry)) calls (now (memory .entry)) (now (stack .entry)))
         (framed (now (pc .exit)) fp (now (mp .exit)) gp
@@ -137,7 +137,7 @@ pub fn enter(
 // Serves RTN, where a call is active.
 pub fn rtn(
     code: &[u8],
-    areas: Areas,
+    attributes: Attributes,
     memory: &[u32],
     stack: &[u32],
     pc: &mut usize,
@@ -150,8 +150,8 @@ pub fn rtn(
 ) -> bool
     requires { ⌜ length (now code) ≤ 4096 ⌝ }
     requires { ⌜ Decodes (now code) (now pc) Rtn next ⌝ }
-    requires { ⌜ fits areas (framed (now pc) (now fp) (now mp) gp height (now calls) (now memory) (now stack)) ≡ true ⌝ }
-    ensures { λ done. ⌜ Completed done (program (now (code .entry)) areas)
+    requires { ⌜ fits attributes (framed (now pc) (now fp) (now mp) gp height (now calls) (now memory) (now stack)) ≡ true ⌝ }
+    ensures { λ done. ⌜ Completed done (program (now (code .entry)) attributes)
         (framed (now (pc .entry)) (now (fp .entry)) (now (mp .entry)) gp
         height (now (calls .entry)) (now (memory .entry)) (now (stack .entry)))
         (framed (now (pc .exit)) (now (fp .exit)) (now (mp .exit)) gp

@@ -9,7 +9,7 @@ ghost use Rattle.registers.specs.Program.{program};
 ghost use Rattle.state.specs.Fits.{fits};
 ghost use Rattle.fast.specs.Fast.{Completed};
 ghost use Rattle.fast_frames.specs.Frames.{framed};
-use registers::Areas;
+use registers::Attributes;
 
 pub mod allocation;
 pub mod frames;
@@ -25,7 +25,7 @@ fn byte(code: &[u8], at: usize) -> usize
 // Serves ALLOC, FREE, CALL.b, ENTER and RTN.
 fn long_step(
     code: &[u8],
-    areas: Areas,
+    attributes: Attributes,
     memory: &mut [u32],
     stack: &mut [u32],
     pc: &mut usize,
@@ -41,8 +41,9 @@ fn long_step(
     requires { ⌜ count ≡ entryCount (now code) ⌝ }
     requires { ⌜ now pc < length (now code) ⌝ }
     requires { ⌜ b ≡ byteAt (now code) (now pc) ⌝ }
-    requires { ⌜ fits areas (framed (now pc) (now fp) (now mp) gp (now height) (now calls) (now memory) (now stack)) ≡ true ⌝ }
-    ensures { λ done. ⌜ Completed done (program (now (code .entry)) areas)
+    requires { ⌜ fits attributes (framed (now pc) (now fp) (now mp) gp (now height) (now calls) (now memory) (now stack))
+        ≡ true ⌝ }
+    ensures { λ done. ⌜ Completed done (program (now (code .entry)) attributes)
         (framed (now (pc .entry)) (now (fp .entry)) (now (mp .entry)) gp
         (now (height .entry)) (now (calls .entry)) (now (memory .entry)) (now (stack .entry)))
         (framed (now (pc .exit)) (now (fp .exit)) (now (mp .exit)) gp
@@ -52,7 +53,7 @@ fn long_step(
     if b == 0xE9 {
         return frames::rtn(
             code,
-            areas,
+            attributes,
             memory,
             stack,
             pc,
@@ -70,7 +71,7 @@ fn long_step(
         }
         return frames::enter(
             code,
-            areas,
+            attributes,
             memory,
             stack,
             pc,
@@ -90,7 +91,7 @@ fn long_step(
     if b == 0xE5 {
         return frames::call(
             code,
-            areas,
+            attributes,
             memory,
             stack,
             pc,
@@ -107,7 +108,7 @@ fn long_step(
     if b == 0xD8 {
         return allocation::alloc(
             code,
-            areas,
+            attributes,
             memory,
             stack,
             pc,
@@ -122,7 +123,7 @@ fn long_step(
     if b == 0xD9 {
         return allocation::free(
             code,
-            areas,
+            attributes,
             memory,
             stack,
             pc,
@@ -140,7 +141,7 @@ fn long_step(
 // Completes one step of those, where it can; `count` is the number of entries.
 pub fn frame_step(
     code: &[u8],
-    areas: Areas,
+    attributes: Attributes,
     memory: &mut [u32],
     stack: &mut [u32],
     pc: &mut usize,
@@ -153,8 +154,9 @@ pub fn frame_step(
 ) -> bool
     requires { ⌜ length (now code) ≤ 4096 ⌝ }
     requires { ⌜ count ≡ entryCount (now code) ⌝ }
-    requires { ⌜ fits areas (framed (now pc) (now fp) (now mp) gp (now height) (now calls) (now memory) (now stack)) ≡ true ⌝ }
-    ensures { λ done. ⌜ Completed done (program (now (code .entry)) areas)
+    requires { ⌜ fits attributes (framed (now pc) (now fp) (now mp) gp (now height) (now calls) (now memory) (now stack))
+        ≡ true ⌝ }
+    ensures { λ done. ⌜ Completed done (program (now (code .entry)) attributes)
         (framed (now (pc .entry)) (now (fp .entry)) (now (mp .entry)) gp
         (now (height .entry)) (now (calls .entry)) (now (memory .entry)) (now (stack .entry)))
         (framed (now (pc .exit)) (now (fp .exit)) (now (mp .exit)) gp
@@ -168,7 +170,7 @@ pub fn frame_step(
     if 0x80 <= b {
         return long_step(
             code,
-            areas,
+            attributes,
             memory,
             stack,
             pc,
@@ -186,7 +188,7 @@ pub fn frame_step(
     }
     frames::call(
         code,
-        areas,
+        attributes,
         memory,
         stack,
         pc,

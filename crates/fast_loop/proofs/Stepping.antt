@@ -6,7 +6,7 @@ use Prim.Native.Nat.{ℕ, zero, suc, _+_, _-_, _≤_, _<_}
 use native.Mathlib.Nat.{add-suc, add-zero}
 use native.Mathlib.Omega.{arith}
 use lib.ListN.{length}
-use Rattle.registers.specs.declared.Areas.{Areas}
+use Rattle.registers.specs.declared.Attributes.{Attributes}
 use Rattle.registers.specs.declared.Registers.{Registers}
 use Rattle.registers.specs.Program.{Program}
 use Rattle.registers.specs.State.{State}
@@ -23,7 +23,7 @@ module _ (P : Program) where
   steps-then S S' S'' n zero a none = rw (add-zero n) a
   steps-then S S' S'' n (suc k) a (more b e) = rw (add-suc n k) (more (steps-then S S' _ n k a b) e)
 
-  pub ahead-start : (S : State) (budget : ℕ) → fits (P .areas) S ≡ true → Ahead P S budget budget S
+  pub ahead-start : (S : State) (budget : ℕ) → fits (P .attributes) S ≡ true → Ahead P S budget budget S
   ahead-start S budget f =
       let nothing : budget - budget ≡ 0 = omega arith in
       record { most = omega arith; fit = f; steps = rw nothing none }
@@ -41,7 +41,7 @@ module _ (P : Program) where
     pub ahead-turn : (left ≡ 0 → ⊥) → (S'' : State) → stepOf P S' ≡ after Went S'' → Ahead P S budget (left - 1) S''
     ahead-turn some S'' g =
         let one : budget - (left - 1) ≡ suc (budget - left) = omega (arith, a .most) in
-        let H : Holds (P .areas) S' (after Went S'') = rw (← g) (step-holds P S' (a .fit)) in
+        let H : Holds (P .attributes) S' (after Went S'') = rw (← g) (step-holds P S' (a .fit)) in
         record { most = omega (arith, a .most); fit = H .fit; steps = rw one (more (a .steps) g) }
 
 -- What holds at each turn of a loop: also that the place is a word, and the sizes as they were.
@@ -52,7 +52,7 @@ pub record Reaching (P : Program) (S : State) (budget left : ℕ) (S' : State) :
   pub stack : length (S' .stack) ≡ length (S .stack)
 
 module _ (P : Program) (S : State) (budget : ℕ) where
-  pub reaching-start : fits (P .areas) S ≡ true → S .registers .pc < 0x1_0000_0000 → Reaching P S budget budget S
+  pub reaching-start : fits (P .attributes) S ≡ true → S .registers .pc < 0x1_0000_0000 → Reaching P S budget budget S
   reaching-start f l = record { ahead = ahead-start P S budget f; small = l; memory = refl; stack = refl }
 
   module _ (left : ℕ) (S' : State) (r : Reaching P S budget left S') where
@@ -88,7 +88,7 @@ module _ (P : Program) (S : State) (budget : ℕ) where
         × ((q .mp < 0x1_0000_0000)
         × ((q .gp < 0x1_0000_0000) × ((q .height < 0x1_0000_0000) × (q .calls < 0x1_0000_0000))))))
     reaching-words b =
-        let F = fitting (P .areas) S' (r .ahead .fit) in (
+        let F = fitting (P .attributes) S' (r .ahead .fit) in (
           omega (arith, r .ahead .most),
           (
             r .small,
@@ -105,7 +105,7 @@ module _ (P : Program) (S : State) (budget : ℕ) where
 -- The registers as the inner loop has them, and what it reached.
 module _ (P : Program) (S : State) (budget left pc fp mp gp h n : ℕ) (m s : List ℕ) (q : Registers)
     (is : q ≡ registersAt pc fp mp gp h n) (r : Reaching P S budget left (framed pc fp mp gp h n m s)) where
-  pub inner-fits : fits (P .areas) (stateAt q (spot pc h m s)) ≡ true
+  pub inner-fits : fits (P .attributes) (stateAt q (spot pc h m s)) ≡ true
   inner-fits = rw is (r .ahead .fit)
 
   pub reaching-data : (rest pc' h' : ℕ) (m' s' : List ℕ)

@@ -8,14 +8,14 @@ ghost use Rattle.registers.specs.State.{state};
 ghost use Rattle.state.specs.Fits.{fits};
 ghost use Rattle.fast.specs.Fast.{spot, stateAt, Did, Ahead};
 ghost use Rattle.fast_frames.specs.Frames.{registersAt};
-use registers::Areas;
+use registers::Attributes;
 use registers::Registers;
 
 // Completes a step that changes no frame. Behind the short forms one jump table serves all such codes: a chain
 // of matches, through the crates.
 fn data_step(
     code: &[u8],
-    areas: Areas,
+    attributes: Attributes,
     q: Registers,
     memory: &mut [u32],
     stack: &mut [u32],
@@ -24,23 +24,23 @@ fn data_step(
 ) -> bool
     requires { ⌜ length (now code) ≤ 4096 ⌝ }
     requires { ⌜ now pc + 1 < length (now code) ⌝ }
-    requires { ⌜ fits areas (stateAt q (spot (now pc) (now height) (now memory) (now stack))) ≡ true ⌝ }
-    ensures { λ done. ⌜ Did done (program (now (code .entry)) areas) q
+    requires { ⌜ fits attributes (stateAt q (spot (now pc) (now height) (now memory) (now stack))) ≡ true ⌝ }
+    ensures { λ done. ⌜ Did done (program (now (code .entry)) attributes) q
         (spot (now (pc .entry)) (now (height .entry)) (now (memory .entry)) (now (stack .entry)))
         (spot (now (pc .exit)) (now (height .exit)) (now (memory .exit)) (now (stack .exit))) ⌝ }
 {
     let here = *pc;
     let b = code[here];
     if b < 0x70 {
-        return fast_data::short::short_step(code, areas, q, memory, stack, pc, height, b);
+        return fast_data::short::short_step(code, attributes, q, memory, stack, pc, height, b);
     }
-    fast_data::long::long_step(code, areas, q, memory, stack, pc, height, b)
+    fast_data::long::long_step(code, attributes, q, memory, stack, pc, height, b)
 }
 
 // Completes such steps short of the code's last byte; answers how many of the budget are left.
 fn data_steps(
     code: &[u8],
-    areas: Areas,
+    attributes: Attributes,
     q: Registers,
     memory: &mut [u32],
     stack: &mut [u32],
@@ -50,8 +50,8 @@ fn data_steps(
 ) -> usize
     requires { ⌜ length (now code) ≤ 4096 ⌝ }
     requires { ⌜ now pc < 0x1_0000_0000 ⌝ }
-    requires { ⌜ fits areas (stateAt q (spot (now pc) (now height) (now memory) (now stack))) ≡ true ⌝ }
-    ensures { λ left. ⌜ (now (pc .exit) < 0x1_0000_0000) × Ahead (program (now (code .entry)) areas)
+    requires { ⌜ fits attributes (stateAt q (spot (now pc) (now height) (now memory) (now stack))) ≡ true ⌝ }
+    ensures { λ left. ⌜ (now (pc .exit) < 0x1_0000_0000) × Ahead (program (now (code .entry)) attributes)
         (stateAt q (spot (now (pc .entry)) (now (height .entry)) (now (memory .entry)) (now (stack .entry)))) budget left
         (stateAt q (spot (now (pc .exit)) (now (height .exit)) (now (memory .exit)) (now (stack .exit)))) ⌝ }
 {
@@ -64,7 +64,7 @@ fn data_steps(
         if limit <= *pc {
             return left;
         }
-        if !data_step(code, areas, q, memory, stack, pc, height) {
+        if !data_step(code, attributes, q, memory, stack, pc, height) {
             return left;
         }
         left -= 1;
@@ -113,15 +113,15 @@ fn reached_at(
 // Completes steps from a state, at most so many.
 pub fn fast_steps(
     code: &[u8],
-    areas: Areas,
+    attributes: Attributes,
     q: Registers,
     memory: &mut [u32],
     stack: &mut [u32],
     budget: u32,
 ) -> Reached
     requires { ⌜ length (now code) ≤ 4096 ⌝ }
-    requires { ⌜ fits areas (state q (now memory) (now stack)) ≡ true ⌝ }
-    ensures { λ r. ⌜ Ahead (program (now (code .entry)) areas) (state q (now (memory .entry)) (now (stack .entry))) budget
+    requires { ⌜ fits attributes (state q (now memory) (now stack)) ≡ true ⌝ }
+    ensures { λ r. ⌜ Ahead (program (now (code .entry)) attributes) (state q (now (memory .entry)) (now (stack .entry))) budget
         (r .left) (state (r .registers) (now (memory .exit)) (now (stack .exit))) ⌝ }
 {
     let mut pc = q.pc as usize;
@@ -137,7 +137,7 @@ pub fn fast_steps(
         let registers = here.registers;
         left = data_steps(
             code,
-            areas,
+            attributes,
             registers,
             memory,
             stack,
@@ -150,7 +150,7 @@ pub fn fast_steps(
         }
         if !fast_frames::frame_step(
             code,
-            areas,
+            attributes,
             memory,
             stack,
             &mut pc,

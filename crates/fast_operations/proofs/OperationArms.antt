@@ -17,7 +17,7 @@ use Rattle.shape.specs.Counts.{operands}
 use Rattle.operate.specs.Operation.{operationValue}
 use Rattle.operate.specs.declared.Value.{Value}
 use Rattle.operate.specs.declared.Value.the-variants.{Word, Trap}
-use Rattle.registers.specs.declared.Areas.{Areas}
+use Rattle.registers.specs.declared.Attributes.{Attributes}
 use Rattle.registers.specs.declared.Registers.{Registers}
 use Rattle.registers.specs.Program.{Program, program}
 use Rattle.registers.specs.Memory.{read}
@@ -32,7 +32,7 @@ use Rattle.fast.proofs.Forms.{Ends, gives-one}
 use Rattle.fast.proofs.Data.{nop-goes}
 use Rattle.fast.proofs.Decoding.{decodes}
 
-module _ (code : List ℕ) (A : Areas) (q : Registers) (pc h : ℕ) (m s : List ℕ)
+module _ (code : List ℕ) (A : Attributes) (q : Registers) (pc h : ℕ) (m s : List ℕ)
     (f : fits A (stateAt q (spot pc h m s)) ≡ true) where
   abbrev P : Program
   P = program code A

@@ -5,7 +5,7 @@ use mathlib.Core.List.{List}
 use Prim.Native.Nat.{ℕ, _+_, _<_}
 use lib.ListN.{length}
 use Rattle.words.specs.Bytes.{byteAt}
-use Rattle.registers.specs.declared.Areas.{Areas}
+use Rattle.registers.specs.declared.Attributes.{Attributes}
 use Rattle.registers.specs.declared.Registers.{Registers}
 use Rattle.registers.specs.Program.{program}
 use Rattle.state.specs.Fits.{fits}
@@ -14,5 +14,5 @@ use Rattle.fast.specs.Fast.{Spot, stateAt, Did}
 -- In every program where b and another byte stand at the place, and every state that fits.
 abbrev pub DoesByte : Bool → (b : ℕ) (T T' : Spot) → Type 0
 DoesByte done b T T' =
-    (code : List ℕ) (A : Areas) (q : Registers) → T .pc + 1 < length code → b ≡ byteAt code (T .pc)
+    (code : List ℕ) (A : Attributes) (q : Registers) → T .pc + 1 < length code → b ≡ byteAt code (T .pc)
     → fits A (stateAt q T) ≡ true → Did done (program code A) q T T'

@@ -41,10 +41,11 @@ WritesBelowHeight =
 
 -- A step leaves a state that fits, so that a spent run can be continued.
 abbrev pub StaysFit : Type 0
-StaysFit = (P : Program) (S : State) → fits (P .areas) S ≡ true → fits (P .areas) (stepOf P S .state) ≡ true
+StaysFit = (P : Program) (S : State) → fits (P .attributes) S ≡ true → fits (P .attributes) (stepOf P S .state) ≡ true
 
 -- 01: "Header words, constants and the link words of active calls are protected: read, never stored to."
 abbrev pub KeepsProtected : Type 0
 KeepsProtected =
-    (P : Program) (S : State) → fits (P .areas) S ≡ true → (a : ℕ) → protects (P .areas) (S .registers) (S .memory) a ≡ true
+    (P : Program) (S : State) → fits (P .attributes) S ≡ true → (a : ℕ)
+    → protects (P .attributes) (S .registers) (S .memory) a ≡ true
     → getD (stepOf P S .state .memory) a 0 ≡ getD (S .memory) a 0

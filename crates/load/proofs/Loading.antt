@@ -17,9 +17,9 @@ use Rattle.record.specs.declared.Reading.the-variants.{Sound, Refused as NotRea
 use Rattle.header.specs.declared.Header.{Header}
 use Rattle.header.specs.Header.{headerOf, constantsAt}
 use Rattle.record.specs.Number.{recordNumber, readingOf}
-use Rattle.registers.specs.declared.Areas.{Areas}
+use Rattle.registers.specs.declared.Attributes.{Attributes}
 use Rattle.registers.specs.Memory.{read}
-use Rattle.registers.specs.Program.{areasIn, areasOf, programOf, framesStart}
+use Rattle.registers.specs.Program.{attributesIn, attributesOf, programOf, framesStart}
 use Rattle.load.specs.declared.Loaded.the-variants.{Refused, Ready}
 use Rattle.state.specs.Fits.{sizesTaken}
 use Rattle.state.proofs.Fitting.{sizes-taken}
@@ -120,9 +120,9 @@ module _ (r ps : List ℕ) (h : Header) (e : h ≡ headerOf r) where
 
 pub loaded-word : (r ps : List ℕ) (size i : ℕ) → read (loadedMemory r ps size) i ≡ read (initialData r ps) i
 unfolding loadedMemory
-loaded-word r ps size i = zeros-behind (initialData r ps) (size - framesStart (areasOf r)) i
+loaded-word r ps size i = zeros-behind (initialData r ps) (size - framesStart (attributesOf r)) i
 
-pub loaded-length : (r ps : List ℕ) (size : ℕ) → length ps ≤ headerOf r .globals → framesStart (areasOf r) ≤ size →
+pub loaded-length : (r ps : List ℕ) (size : ℕ) → length ps ≤ headerOf r .globals → framesStart (attributesOf r) ≤ size →
     length (loadedMemory r ps size) ≡ size
 unfolding loadedMemory initialData constantWords
 loaded-length r ps size h f = simp (length-append, length-replicate, series-length) (omega arith)
@@ -133,7 +133,8 @@ module _ (r ps m s : List ℕ) where
   unfolding loadNumber
   number-refused some = rw (ne-eqb (recordNumber r) 0 some)
 
-  number-taken : (t : Bool) → recordNumber r ≡ 0 → (leb (length ps) (headerOf r .globals) && sizesTaken (areasOf r) m s) ≡ t →
+  number-taken : (t : Bool) → recordNumber r ≡ 0 → (leb (length ps) (headerOf r .globals)
+      && sizesTaken (attributesOf r) m s) ≡ t →
       loadNumber r ps m s ≡ cond t 0 8
   unfolding loadNumber
   number-taken true none e = rw (eq-eqb (recordNumber r) 0 none, e)
@@ -171,15 +172,16 @@ module _ (r ps m s : List ℕ) where
         (number-taken false none (rw (← sound-header r h sound .1, lt-leb (length ps) (h .globals) l)))
         (λ z. omega arith)
 
-    -- With the areas of the header, and what is answered about the sizes.
-    module _ (A : Areas) (t : Bool) (areas : A ≡ areasIn h) (sizes : t ≡ sizesTaken A m s) (l : length ps ≤ h .globals) where
-      taken : (leb (length ps) (headerOf r .globals) && sizesTaken (areasOf r) m s) ≡ t
-      taken = rw (← sound-header r h sound .1, le-leb (length ps) (h .globals) l, ← areas, sizes)
+    -- With the attributes of the header, and what is answered about the sizes.
+    module _ (A : Attributes) (t : Bool) (attributes : A ≡ attributesIn h) (sizes : t ≡ sizesTaken A m s)
+        (l : length ps ≤ h .globals) where
+      taken : (leb (length ps) (headerOf r .globals) && sizesTaken (attributesOf r) m s) ≡ t
+      taken = rw (← sound-header r h sound .1, le-leb (length ps) (h .globals) l, ← attributes, sizes)
 
-      pub load-frames : t ≡ true → (framesStart (areasOf r) ≤ length m) × (framesStart A ≤ 16384)
+      pub load-frames : t ≡ true → (framesStart (attributesOf r) ≤ length m) × (framesStart A ≤ 16384)
       load-frames f =
           let k = sizes-taken A m s (sym sizes ∙ f) in
-          (rw (areas, sound-header r h sound .1) at (k .0), omega (arith, k .0, k .1))
+          (rw (attributes, sound-header r h sound .1) at (k .0), omega (arith, k .0, k .1))
 
       pub load-sizes : t ≡ false → loading (Refused 8) m ≡ loadOf r ps m s
       load-sizes f = refuses 8 (number-taken false none (taken ∙ f)) (λ z. omega arith)

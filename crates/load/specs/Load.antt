@@ -13,7 +13,7 @@ use Rattle.record.specs.Number.{afterRecord}
 use Rattle.registers.specs.declared.Registers.{Registers}
 use Rattle.load.specs.declared.Loaded.{Loaded}
 use Rattle.load.specs.declared.Loaded.the-variants.{Refused, Ready}
-use Rattle.registers.specs.Program.{Program, programOf, areasOf, globalsStart, constantsStart, framesStart}
+use Rattle.registers.specs.Program.{Program, programOf, attributesOf, globalsStart, constantsStart, framesStart}
 use Rattle.state.specs.Fits.{sizesTaken}
 
 unfoldable pub constantWords : List ℕ → List ℕ
@@ -22,21 +22,29 @@ constantWords r = wordsFrom r (constantsAt (headerOf r)) (headerOf r .constants)
 -- Header words, parameters, the other globals, constants.
 unfoldable pub initialData : List ℕ → List ℕ → List ℕ
 initialData r parameters =
-    0 ∷ 0 ∷ constantsStart (areasOf r)
-    ∷ (parameters ++ (replicate (areasOf r .globals - length parameters) 0 ++ constantWords r))
+    0 ∷ 0 ∷ constantsStart (attributesOf r)
+    ∷ (parameters ++ (replicate (attributesOf r .globals - length parameters) 0 ++ constantWords r))
 
 -- The memory of a size that load leaves: "the rest is 0".
 unfoldable pub loadedMemory : List ℕ → List ℕ → ℕ → List ℕ
-loadedMemory r parameters size = initialData r parameters ++ replicate (size - framesStart (areasOf r)) 0
+loadedMemory r parameters size = initialData r parameters ++ replicate (size - framesStart (attributesOf r)) 0
 
 -- 01: "The stack starts empty, PC at procedure 0's entry, no call active."
 unfoldable pub startOf : Program → Registers
 startOf P =
-    record { pc = entryAt (P .code) 0; fp = framesStart (P .areas); mp = framesStart (P .areas); gp = globalsStart; height = 0; calls = 0 }
+    record {
+      pc = entryAt (P .code) 0;
+      fp = framesStart (P .attributes);
+      mp = framesStart (P .attributes);
+      gp = globalsStart;
+      height = 0;
+      calls = 0;
+    }
 
 -- 8, after the record's 1 to 7.
 abbrev pub loadTests : List ℕ → List ℕ → List ℕ → List ℕ → List Test
-loadTests r parameters m s = 8 when not (leb (length parameters) (areasOf r .globals) && sizesTaken (areasOf r) m s) ∷ []
+loadTests r parameters m s = 8 when not (leb (length parameters) (attributesOf r .globals)
+    && sizesTaken (attributesOf r) m s) ∷ []
 
 unfoldable pub loadNumber : List ℕ → List ℕ → List ℕ → List ℕ → ℕ
 loadNumber r parameters m s = afterRecord r (loadTests r parameters m s)

@@ -4,11 +4,11 @@ ghost use Prim.Native.Nat.{_≤_};
 ghost use lib.ListN.{length};
 ghost use Rattle.header.specs.Header.{headerOf};
 ghost use Rattle.registers.specs.Memory.{read};
-ghost use Rattle.registers.specs.Program.{areasIn, areasOf, framesStart, program};
+ghost use Rattle.registers.specs.Program.{attributesIn, attributesOf, framesStart, program};
 ghost use Rattle.load.specs.Load.{initialData, loadedMemory, startOf, loading, loadOf};
 use header::Header;
 use record::Reading;
-use registers::Areas;
+use registers::Attributes;
 use registers::Registers;
 
 pub enum Loaded {
@@ -16,10 +16,10 @@ pub enum Loaded {
     Ready(Registers),
 }
 
-pub fn areas_in(h: Header) -> Areas
-    ensures { λ a. ⌜ a ≡ areasIn h ⌝ }
+pub fn attributes_in(h: Header) -> Attributes
+    ensures { λ a. ⌜ a ≡ attributesIn h ⌝ }
 {
-    Areas {
+    Attributes {
         globals: h.globals,
         constants: h.constants,
     }
@@ -57,7 +57,7 @@ fn fill(r: &[u8], h: Header, parameters: &[u32], memory: &mut [u32])
     requires { ⌜ h ≡ headerOf (now r) ⌝ }
     requires { ⌜ h .globals ≤ 1024 ⌝ }
     requires { ⌜ length (now parameters) ≤ h .globals ⌝ }
-    requires { ⌜ framesStart (areasOf (now r)) ≤ length (now memory) ⌝ }
+    requires { ⌜ framesStart (attributesOf (now r)) ≤ length (now memory) ⌝ }
     ensures { λ _. ⌜ now (memory .exit) ≡ loadedMemory (now (r .entry)) (now (parameters .entry)) (length (now (memory .entry))) ⌝ }
 {
     for i in 0..memory.len() {
@@ -65,11 +65,11 @@ fn fill(r: &[u8], h: Header, parameters: &[u32], memory: &mut [u32])
     }
 }
 
-fn start_of(code: &[u8], areas: Areas) -> Registers
-    requires { ⌜ framesStart areas ≤ 16384 ⌝ }
-    ensures { λ q. ⌜ q ≡ startOf (program (now (code .entry)) areas) ⌝ }
+fn start_of(code: &[u8], attributes: Attributes) -> Registers
+    requires { ⌜ framesStart attributes ≤ 16384 ⌝ }
+    ensures { λ q. ⌜ q ≡ startOf (program (now (code .entry)) attributes) ⌝ }
 {
-    let frames = areas.frames_start() as u32;
+    let frames = attributes.frames_start() as u32;
     Registers {
         pc: entries::entry_at(code, 0) as u32,
         fp: frames,
@@ -88,15 +88,15 @@ pub fn load(r: &[u8], parameters: &[u32], memory: &mut [u32], stack: &[u32]) -> 
     match reading {
         Reading::Refused(number) => Loaded::Refused(number),
         Reading::Sound(h) => {
-            let areas = areas_in(h);
+            let attributes = attributes_in(h);
             if (h.globals as usize) < parameters.len() {
                 return Loaded::Refused(8);
             }
-            if !state::sizes_taken(areas, memory, stack) {
+            if !state::sizes_taken(attributes, memory, stack) {
                 return Loaded::Refused(8);
             }
             fill(r, h, parameters, memory);
-            Loaded::Ready(start_of(header::code_of(r), areas))
+            Loaded::Ready(start_of(header::code_of(r), attributes))
         }
     }
 }

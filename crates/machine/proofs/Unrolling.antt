@@ -12,8 +12,8 @@ use Rattle.record.specs.declared.Reading.the-variants.{Refused as NotRead, Soun
 use Rattle.header.specs.Header.{codeOf}
 use Rattle.record.specs.Number.{recordNumber, readingOf}
 use Rattle.record.proofs.Sound.{sound-code}
-use Rattle.registers.specs.declared.Areas.{Areas}
-use Rattle.registers.specs.Program.{Program, program, areasIn, areasOf}
+use Rattle.registers.specs.declared.Attributes.{Attributes}
+use Rattle.registers.specs.Program.{Program, program, attributesIn, attributesOf}
 use Rattle.registers.specs.State.{State}
 use Rattle.load.proofs.Loading.{sound-header, refused-number}
 use Rattle.state.specs.Fits.{fits}
@@ -28,12 +28,12 @@ use Rattle.machine.specs.Run.{Result, ended, proceed, runFrom, runNumber
 -- So many steps have come from S₀, where `done` were made before, to S.
 pub record Running (P : Program) (budget done : ℕ) (S₀ S : State) (steps : ℕ) : Type 0 where
   pub count : steps ≤ budget
-  pub fit : fits (P .areas) S ≡ true
+  pub fit : fits (P .attributes) S ≡ true
   pub same : runFrom P (budget - done) done S₀ ≡ runFrom P (budget - steps) steps S
   pub memory : length (S .memory) ≡ length (S₀ .memory)
   pub stack : length (S .stack) ≡ length (S₀ .stack)
 
-pub running-start : (P : Program) (budget done : ℕ) (S : State) → done ≤ budget → fits (P .areas) S ≡ true
+pub running-start : (P : Program) (budget done : ℕ) (S : State) → done ≤ budget → fits (P .attributes) S ≡ true
     → Running P budget done S S done
 running-start P budget done S l h = record { count = l; fit = h; same = refl; memory = refl; stack = refl }
 
@@ -82,8 +82,8 @@ module _ (P : Program) (budget done : ℕ) (S₀ S : State) (steps : ℕ) (R : R
     pub trapped : (n : ℕ) → a .outcome ≡ Trapped n → ended (stop n) steps (a .state) ≡ runFrom P (budget - done) done S₀
     trapped n o = sym (turn ∙ rw o)
 
-    pub still-fits : fits (P .areas) (a .state) ≡ true
-    still-fits = let H : Holds (P .areas) S a = rw e (step-holds P S (R .fit)) in H .fit
+    pub still-fits : fits (P .attributes) (a .state) ≡ true
+    still-fits = let H : Holds (P .attributes) S a = rw e (step-holds P S (R .fit)) in H .fit
 
     pub went : a .outcome ≡ Went → (most left : ℕ) (S' : State) → most ≤ budget - (steps + 1) → Ahead P (a .state) most left S'
         → length (S' .memory) ≡ length (S .memory) → length (S' .stack) ≡ length (S .stack)
@@ -109,8 +109,8 @@ module _ (r : List ℕ) (budget : ℕ) (S : State) where
       let t = refused-number r n e in
       rw (t .1) (simp (ne-eqb (recordNumber r) 0 (t .0)))
 
-  module _ (h : Header) (e : readingOf r ≡ Sound h) (A : Areas) (a : A ≡ areasIn h) (t : Bool) (f : t ≡ fits A S) where
-    tested : t ≡ fits (areasOf r) S
+  module _ (h : Header) (e : readingOf r ≡ Sound h) (A : Attributes) (a : A ≡ attributesIn h) (t : Bool) (f : t ≡ fits A S) where
+    tested : t ≡ fits (attributesOf r) S
     tested = f ∙ rw (a, sound-header r h e .1)
 
     pub run-unfit : t ≡ false → refused 24 ≡ runOf r budget S

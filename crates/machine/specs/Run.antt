@@ -14,7 +14,7 @@ use Rattle.machine.specs.declared.run.End.the-variants.{Finished as fini
 use Rattle.machine.specs.declared.run.Ended.{Ended as Ending}
 use Rattle.machine.specs.declared.run.Answer.{Answer}
 use Rattle.machine.specs.declared.run.Answer.the-variants.{Refused, Ended}
-use Rattle.registers.specs.Program.{Program, programOf, areasOf}
+use Rattle.registers.specs.Program.{Program, programOf, attributesOf}
 use Rattle.registers.specs.State.{State, state}
 use Rattle.step.specs.Step.{stepOf}
 use Rattle.state.specs.Fits.{fits}
@@ -61,7 +61,7 @@ runFrom P (suc left) count S =
 
 -- "run [makes tests] 1 to 7 and then 24": "a state that does not fit".
 abbrev pub runTests : List ℕ → State → List Test
-runTests r S = 24 when not (fits (areasOf r) S) ∷ []
+runTests r S = 24 when not (fits (attributesOf r) S) ∷ []
 
 unfoldable pub runNumber : List ℕ → State → ℕ
 runNumber r S = afterRecord r (runTests r S)

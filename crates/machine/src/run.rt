@@ -8,7 +8,7 @@ ghost use Rattle.registers.specs.Program.{program};
 ghost use Rattle.registers.specs.State.{state};
 ghost use Rattle.machine.specs.Run.{ran, endedAt, runFrom, runOf, endNumber};
 use record::Reading;
-use registers::Areas;
+use registers::Attributes;
 use registers::Registers;
 use step::Machine;
 use step::Outcome;
@@ -64,7 +64,7 @@ fn lesser(a: u32, b: u32) -> u32
 // Goes on after so many steps: a general step, and then again what can be done at once.
 fn run_on(
     code: &[u8],
-    areas: Areas,
+    attributes: Attributes,
     at_once: u32,
     budget: u32,
     done: u32,
@@ -74,16 +74,16 @@ fn run_on(
 ) -> Ended
     requires { ⌜ length (now code) ≤ 4096 ⌝ }
     requires { ⌜ done ≤ budget ⌝ }
-    requires { ⌜ fits areas (state (start .registers) (now memory) (now stack)) ≡ true ⌝ }
+    requires { ⌜ fits attributes (state (start .registers) (now memory) (now stack)) ≡ true ⌝ }
     ensures { λ e. ⌜ ran (start .registers) (Answer.Ended e) (now (memory .exit)) (now (stack .exit))
-        ≡ runFrom (program (now (code .entry)) areas) (budget - done) done
+        ≡ runFrom (program (now (code .entry)) attributes) (budget - done) done
         (state (start .registers) (now (memory .entry)) (now (stack .entry))) ⌝ }
 {
     let formats = opcode::format::formats();
     let mut machine = start;
     let mut steps = done;
     while steps < budget {
-        let stepped = machine.step(&formats, code, areas, memory, stack);
+        let stepped = machine.step(&formats, code, attributes, memory, stack);
         let after = stepped.machine;
         let outcome = stepped.outcome;
         machine = after;
@@ -93,7 +93,7 @@ fn run_on(
                 let most = lesser(at_once, rest);
                 let reached = fast_loop::fast_steps(
                     code,
-                    areas,
+                    attributes,
                     machine.registers,
                     memory,
                     stack,
@@ -118,7 +118,7 @@ fn run_on(
 // instructions a step.
 fn run_steps(
     code: &[u8],
-    areas: Areas,
+    attributes: Attributes,
     at_once: u32,
     budget: u32,
     start: Machine,
@@ -126,17 +126,26 @@ fn run_steps(
     stack: &mut [u32],
 ) -> Ended
     requires { ⌜ length (now code) ≤ 4096 ⌝ }
-    requires { ⌜ fits areas (state (start .registers) (now memory) (now stack)) ≡ true ⌝ }
+    requires { ⌜ fits attributes (state (start .registers) (now memory) (now stack)) ≡ true ⌝ }
     ensures { λ e. ⌜ ran (start .registers) (Answer.Ended e) (now (memory .exit)) (now (stack .exit))
-        ≡ runFrom (program (now (code .entry)) areas) budget 0
+        ≡ runFrom (program (now (code .entry)) attributes) budget 0
         (state (start .registers) (now (memory .entry)) (now (stack .entry))) ⌝ }
 {
     let most = lesser(at_once, budget);
-    let reached = fast_loop::fast_steps(code, areas, start.registers, memory, stack, most);
+    let reached = fast_loop::fast_steps(code, attributes, start.registers, memory, stack, most);
     let registers = reached.registers;
     let machine = Machine { registers };
     let done = most - reached.left;
-    run_on(code, areas, at_once, budget, done, machine, memory, stack)
+    run_on(
+        code,
+        attributes,
+        at_once,
+        budget,
+        done,
+        machine,
+        memory,
+        stack,
+    )
 }
 
 // Gives numbers 1 to 7 and 24, or runs from a state; refused, it changes nothing. At most `at_once` steps are done by the fast
@@ -156,13 +165,13 @@ pub fn run_by(
     match reading {
         Reading::Refused(number) => Answer::Refused(number),
         Reading::Sound(h) => {
-            let areas = load::areas_in(h);
-            if !state::state_fits(areas, q, memory, stack) {
+            let attributes = load::attributes_in(h);
+            if !state::state_fits(attributes, q, memory, stack) {
                 return Answer::Refused(24);
             }
             let start = Machine { registers: q };
             let code = header::code_of(r);
-            Answer::Ended(run_steps(code, areas, at_once, budget, start, memory, stack))
+            Answer::Ended(run_steps(code, attributes, at_once, budget, start, memory, stack))
         }
     }
 }

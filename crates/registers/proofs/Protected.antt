@@ -7,13 +7,13 @@ use mathlib.Core.List.{List}
 use native.Mathlib.Omega.{arith}
 use lib.Dec.{ltb, leb}
 use borrow.Author.Tests.{lt-ltb, le-ltb, le-leb, lt-leb, leb-true, leb-false}
-use Rattle.registers.specs.declared.Areas.{Areas}
+use Rattle.registers.specs.declared.Attributes.{Attributes}
 use Rattle.registers.specs.declared.Registers.{Registers}
 use Rattle.registers.specs.Memory.{live, isLink, chained, protects}
 use Rattle.registers.specs.Program.{constantsStart, framesStart}
 use Rattle.registers.proofs.Links.{chain-start, link-above, link-under}
 
-module _ (A : Areas) (q : Registers) (m : List ℕ) (a : ℕ) (h : chained m (framesStart A) (q .fp) (q .calls) ≡ true) where
+module _ (A : Attributes) (q : Registers) (m : List ℕ) (a : ℕ) (h : chained m (framesStart A) (q .fp) (q .calls) ≡ true) where
   pub free-above : q .fp ≤ a → protects A q m a ≡ false
   unfolding protects
   free-above l =

@@ -5,7 +5,7 @@ use Prim.Native.Nat.{ℕ, zero, suc, _+_, _-_}
 use lib.Dec.{eqb, leb, ltb}
 use lib.ListN.{getD}
 use Rattle.registers.specs.declared.Registers.{Registers}
-use Rattle.registers.specs.declared.Areas.{Areas}
+use Rattle.registers.specs.declared.Attributes.{Attributes}
 use Rattle.registers.specs.Program.{globalsStart, constantsStart, framesStart}
 
 -- The word at a place; 0 past the end.
@@ -32,5 +32,5 @@ chained m start fp zero = eqb fp start
 chained m start fp (suc n) = leb (savedFp m fp + 2) fp && chained m start (savedFp m fp) n
 
 -- 01: "Header words, constants and the link words of active calls are protected: read, never stored to."
-unfoldable pub protects : Areas → Registers → List ℕ → ℕ → Bool
+unfoldable pub protects : Attributes → Registers → List ℕ → ℕ → Bool
 protects A q m a = ltb a globalsStart || ((leb (constantsStart A) a && ltb a (framesStart A)) || isLink m (q .fp) (q .calls) a)

@@ -3,7 +3,7 @@ ghost use mathlib.Core.Path.{_≡_};
 ghost use mathlib.Core.Bool.{true};
 ghost use Rattle.registers.specs.Memory.{read, live, isLink, chained, protects};
 ghost use Rattle.registers.specs.Program.{framesStart};
-use crate::Areas;
+use crate::Attributes;
 use crate::Registers;
 
 // The word at a place; 0 past the end.
@@ -43,19 +43,19 @@ fn is_link(m: &[u32], start: usize, fp: u32, calls: u32, a: usize) -> bool
 }
 
 // Whether a store to `a` is refused. Only an address among the frames below FP takes a walk.
-pub fn is_protected(areas: Areas, q: Registers, m: &[u32], a: usize) -> bool
-    requires { ⌜ chained (now m) (framesStart areas) (q .fp) (q .calls) ≡ true ⌝ }
-    ensures { λ b. ⌜ b ≡ protects areas q (now (m .entry)) a ⌝ }
+pub fn is_protected(attributes: Attributes, q: Registers, m: &[u32], a: usize) -> bool
+    requires { ⌜ chained (now m) (framesStart attributes) (q .fp) (q .calls) ≡ true ⌝ }
+    ensures { λ b. ⌜ b ≡ protects attributes q (now (m .entry)) a ⌝ }
 {
     let fp = q.fp;
     if (fp as usize) <= a {
         return false;
     }
-    let constants = 3 + (areas.globals as usize);
+    let constants = 3 + (attributes.globals as usize);
     if a < constants {
         return a < 3;
     }
-    let start = constants + (areas.constants as usize);
+    let start = constants + (attributes.constants as usize);
     if a < start {
         return true;
     }

@@ -15,13 +15,13 @@ pub struct Registers {
     pub calls: u32,
 }
 
-// The sizes of the data areas, in words.
-pub struct Areas {
+// What a run knows of a module besides its code: the sizes of its data areas, in words.
+pub struct Attributes {
     pub globals: u32,
     pub constants: u32,
 }
 
-impl Areas {
+impl Attributes {
     // Where frames begin: behind header words, globals and constants.
     pub fn frames_start(self) -> usize
         ensures { λ n. ⌜ n ≡ framesStart self ⌝ }

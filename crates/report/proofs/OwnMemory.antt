@@ -9,7 +9,7 @@ use borrow.Author.Tests.{leb-true, leb-false, lt-leb}
 use lib.Dec.{leb, eqb·suc-zero}
 use lib.ListN.{length, take, length-replicate}
 use Rattle.record.specs.Number.{recordNumber}
-use Rattle.registers.specs.Program.{areasOf, framesStart}
+use Rattle.registers.specs.Program.{attributesOf, framesStart}
 use Rattle.state.specs.Fits.{sizesTaken}
 use Rattle.load.specs.Load.{loadNumber, loadOf}
 use Rattle.load.specs.declared.Loaded.the-variants.{Refused as NotLoaded}
@@ -44,7 +44,7 @@ none-holds false b c = refl
 too-deep : (r ps m s : List ℕ) → recordNumber r ≡ 0 → 1024 < length s → loadOf r ps m s .answer ≡ NotLoaded 8
 unfolding loadOf loadNumber sizesTaken
 too-deep r ps m s e h =
-    let A = areasOf r in
+    let A = attributesOf r in
     rw (
       e,
       lt-leb (length s) 1024 h,

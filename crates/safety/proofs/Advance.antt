@@ -13,7 +13,7 @@ use Rattle.shape.specs.declared.Shape.{Shape}
 use Rattle.shape.specs.declared.Shape.the-variants.{Straight, Pop, Jump, JumpC, JumpTF, Iter}
 use Rattle.shape.specs.declared.Shape.the-variants.{Next, Switch, Leave, Call, Enter, Rtn}
 use Rattle.shape.specs.Linkage.{Linkage, inside, calling, entering, returning, linkageOf}
-use Rattle.registers.specs.declared.Areas.{Areas}
+use Rattle.registers.specs.declared.Attributes.{Attributes}
 use Rattle.registers.specs.declared.Registers.{Registers}
 use Rattle.registers.specs.Program.{framesStart}
 use Rattle.stackmap.specs.Ways.{Subject, ways}
@@ -54,7 +54,7 @@ shape-is (Call p) = refl
 shape-is (Enter par) = tt
 shape-is Rtn = refl
 
-module _ (U : Subject) (C : Checked U) (A : Areas) (c : Configuration) (I : Inv U A c) where
+module _ (U : Subject) (C : Checked U) (A : Attributes) (c : Configuration) (I : Inv U A c) where
   abbrev q : Registers
   q = registersOf c
 

@@ -21,7 +21,7 @@ use Rattle.effect.specs.declared.effect.Effect.the-variants.{Trap, Finish, Go}
 use Rattle.effect.specs.declared.effect.Push.{Push}
 use Rattle.effect.specs.declared.effect.Write.{Write}
 use Rattle.effect.specs.Data.{pushes}
-use Rattle.registers.specs.declared.Areas.{Areas}
+use Rattle.registers.specs.declared.Attributes.{Attributes}
 use Rattle.registers.specs.declared.Registers.{Registers}
 use Rattle.registers.specs.Changes.{raised}
 use Rattle.execute.specs.Execute.{executed}
@@ -40,7 +40,7 @@ pub data Good (code : List ℕ) (c : Configuration) (Done : Type 0) (Then : Regi
       (pushed push)))
       → Good code c Done Then (Go pops push write q)
 
-module _ (U : Subject) (A : Areas) (c : Configuration) (out : List Way) (k : Linkage) where
+module _ (U : Subject) (A : Attributes) (c : Configuration) (out : List Way) (k : Linkage) where
   abbrev Leaves : After → Type 0
   Leaves a = Left U c out k a (a .outcome)
 

@@ -5,8 +5,8 @@ use Prim.Native.Nat.{ℕ, zero, suc, _+_}
 use native.Mathlib.Omega.{arith}
 use Rattle.shape.specs.Shape.{shapeOf}
 use Rattle.shape.specs.Linkage.{linkageOf}
-use Rattle.registers.specs.declared.Areas.{Areas}
-use Rattle.registers.specs.Program.{Program, areasOf}
+use Rattle.registers.specs.declared.Attributes.{Attributes}
+use Rattle.registers.specs.Program.{Program, attributesOf}
 use Rattle.registers.specs.State.{state}
 use Rattle.operate.specs.Traps.{DataTrap}
 use Rattle.stackmap.specs.Ways.{Subject}
@@ -25,7 +25,7 @@ use Rattle.safety.proofs.Places.{Checked, checked}
 use Rattle.safety.proofs.Advance.{at-place, steps}
 use Rattle.safety.proofs.Safety.{keeps, at-load, run-safe}
 
-module _ (U : Subject) (C : Checked U) (A : Areas) (first : Configuration) (I : Inv U A first) where
+module _ (U : Subject) (C : Checked U) (A : Attributes) (first : Configuration) (I : Inv U A first) where
   abbrev P : Program
   P = programIn U A
 
@@ -58,7 +58,7 @@ claim r results w parameters m s q b accepted ready =
     let I = at-load r results w parameters m s q b accepted ready R in (
       R,
       record {
-        runs = λ budget. rw (R .record-sound, I .fitted) (ended (subject r results R) C (areasOf r) first I budget at-first);
+        runs = λ budget. rw (R .record-sound, I .fitted) (ended (subject r results R) C (attributesOf r) first I budget at-first);
         safe = run-safe r results w parameters m s q b accepted ready R;
       },
     )

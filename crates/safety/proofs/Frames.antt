@@ -14,7 +14,7 @@ use Rattle.shape.specs.Linkage.{Linkage, inside, calling, entering, returning, 
 use Rattle.effect.specs.declared.effect.Effect.the-variants.{Go}
 use Rattle.effect.specs.declared.effect.Push.{Push}
 use Rattle.effect.specs.declared.effect.Write.{Write}
-use Rattle.registers.specs.declared.Areas.{Areas}
+use Rattle.registers.specs.declared.Attributes.{Attributes}
 use Rattle.registers.specs.declared.Registers.{Registers}
 use Rattle.registers.specs.Memory.{read, savedFp, isLink}
 use Rattle.registers.specs.Program.{Program, framesStart}
@@ -55,7 +55,7 @@ did-go S k F pops push write q (does-go l p) =
       calls = refl;
     }
 
-pub step-did : (U : Subject) (A : Areas) (c : Configuration) (i : Instruction) (next : ℕ) → Doing U c i next
+pub step-did : (U : Subject) (A : Attributes) (c : Configuration) (i : Instruction) (next : ℕ) → Doing U c i next
     → stepIn U A c .outcome ≡ Went
     → Did (Framing (registersOf c) (c .state .memory) next (linkageOf (shapeOf i))) (c .state .memory) (stepIn U A c)
 unfolding stepOf

@@ -16,7 +16,7 @@ use Rattle.shape.specs.declared.Shape.the-variants as shape
 use Rattle.shape.specs.Linkage.{Linkage, inside, calling, entering, returning, linkageOf}
 use Rattle.registers.specs.Memory.{read}
 use Rattle.registers.specs.Program.{Program, program, framesStart}
-use Rattle.registers.specs.declared.Areas.{Areas}
+use Rattle.registers.specs.declared.Attributes.{Attributes}
 use Rattle.registers.specs.declared.Registers.{Registers}
 use Rattle.stackmap.specs.Slots.{Slot, pushWords}
 use Rattle.stackmap.specs.Ways.{Subject, Way, resultsIn, ways}
@@ -31,14 +31,14 @@ use Rattle.safety.specs.Demand3.{Holds, SameFrom, Unread}
 abbrev pub registersOf : Configuration → Registers
 registersOf c = c .state .registers
 
--- The code under check runs with these data areas.
-abbrev pub programIn : Subject → Areas → Program
+-- The code under check runs with these attributes.
+abbrev pub programIn : Subject → Attributes → Program
 programIn U A = program (U .code) A
 
-abbrev pub stepIn : Subject → Areas → Configuration → After
+abbrev pub stepIn : Subject → Attributes → Configuration → After
 stepIn U A c = stepOn (programIn U A) c
 
-abbrev pub advanceIn : Subject → Areas → Configuration → Configuration
+abbrev pub advanceIn : Subject → Attributes → Configuration → Configuration
 advanceIn U A c = advance (programIn U A) U c
 
 -- The frames of the active calls, from FP down to where frames begin: each call's link words as it wrote them.
@@ -65,7 +65,7 @@ pub record Placed (U : Subject) (calls : List Call) (q : Registers) (s : List �
   pub suspended : Suspended U s calls
 
 -- The invariant.
-pub record Inv (U : Subject) (A : Areas) (c : Configuration) : Type 0 where
+pub record Inv (U : Subject) (A : Attributes) (c : Configuration) : Type 0 where
   pub fitted : fits A (c .state) ≡ true
   pub framed : Framed (c .state .memory) (framesStart A) (registersOf c .fp) (c .calls)
   pub counted : length (c .calls) ≡ registersOf c .calls
@@ -78,7 +78,7 @@ pub record Doing (U : Subject) (c : Configuration) (i : Instruction) (next : ℕ
 -- Part 1: a completed step keeps the frames in step with the active calls.
 abbrev pub FramesKept : Type 0
 FramesKept =
-    (U : Subject) (A : Areas) (c : Configuration) (i : Instruction) (next : ℕ) → Doing U c i next
+    (U : Subject) (A : Attributes) (c : Configuration) (i : Instruction) (next : ℕ) → Doing U c i next
     → fits A (c .state) ≡ true → Framed (c .state .memory) (framesStart A) (registersOf c .fp) (c .calls)
     → length (c .calls) ≡ registersOf c .calls → stepIn U A c .outcome ≡ Went
     → Framed (advanceIn U A c .state .memory) (framesStart A) (registersOf (advanceIn U A c) .fp) (advanceIn U A c .calls)
@@ -87,7 +87,7 @@ FramesKept =
 -- Part 2: a step whose words lie in the share reads and changes nothing below it.
 abbrev pub StepUnread : Type 0
 StepUnread =
-    (U : Subject) (A : Areas) (c : Configuration) (i : Instruction) (next : ℕ) → Doing U c i next
+    (U : Subject) (A : Attributes) (c : Configuration) (i : Instruction) (next : ℕ) → Doing U c i next
     → shareOf (c .calls) + needed i ≤ registersOf c .height → (s' : List ℕ) → SameFrom (shareOf (c .calls)) (c .state .stack) s'
     → Unread (programIn U A) c s'
 
@@ -116,7 +116,7 @@ Left U c out k a Went = Moves U c out (a .state .registers) (a .state .stack) k
 Left U c out k a Finished = k ≡ returning
 Left U c out k a (Trapped n) = DataTrap n
 
-abbrev pub Steps : Subject → Areas → Configuration → List Way → Linkage → Outcome → Type 0
+abbrev pub Steps : Subject → Attributes → Configuration → List Way → Linkage → Outcome → Type 0
 Steps U A c out k o = Left U c out k (stepIn U A c) o
 
 -- Every way out lies in the code; and a procedure that can be called: there is one, and it begins in the code.
@@ -128,7 +128,7 @@ Callable code d = (0 < d) × (d < entryCount code) × (entryAt code d < length c
 
 abbrev pub SlotsKept : Type 0
 SlotsKept =
-    (U : Subject) (A : Areas) (c : Configuration) (i : Instruction) (next p : ℕ) (l : List Slot) (out : List Way)
+    (U : Subject) (A : Attributes) (c : Configuration) (i : Instruction) (next p : ℕ) (l : List Slot) (out : List Way)
     → Doing U c i next
     → fits A (c .state) ≡ true
     → registersOf c .height ≡ shareOf (c .calls) + length l → Holds (U .code) (c .state .stack) (shareOf (c .calls)) l

@@ -15,7 +15,7 @@ use Rattle.header.specs.Header.{headerOf, codeOf}
 use Rattle.entries.specs.Entries.{entryCount}
 use Rattle.record.specs.Number.{recordNumber}
 use Rattle.registers.specs.declared.Registers.{Registers}
-use Rattle.registers.specs.Program.{areasOf, programOf, framesStart}
+use Rattle.registers.specs.Program.{attributesOf, programOf, framesStart}
 use Rattle.registers.specs.State.{state}
 use Rattle.load.specs.declared.Loaded.the-variants.{Refused, Ready}
 use Rattle.state.specs.Fits.{sizesTaken}
@@ -29,8 +29,8 @@ use Rattle.safety.proofs.Invariant.{no-frame, no-caller, Inv}
 
 -- What load took, and what it left.
 pub record Taken (r parameters m s : List ℕ) (q : Registers) : Type 0 where
-  pub few : length parameters ≤ areasOf r .globals
-  pub sizes : sizesTaken (areasOf r) m s ≡ true
+  pub few : length parameters ≤ attributesOf r .globals
+  pub sizes : sizesTaken (attributesOf r) m s ≡ true
   pub start : q ≡ startOf (programOf r)
   pub memory : loadOf r parameters m s .memory ≡ loadedMemory r parameters (length m)
 
@@ -38,12 +38,12 @@ pub refused-not : {A : Type 0} (n : ℕ) (q : Registers) → Refused n ≡ Ready
 refused-not n q e = let z : _≡_ {A = ℕ} 0 1 = cc in absurd (omega arith)
 
 module _ (r parameters m s : List ℕ) (q : Registers) (sound : recordNumber r ≡ 0) where
-  no-number : loadNumber r parameters m s ≡ 0 → (leb (length parameters) (areasOf r .globals) ≡ true) ×
-      (sizesTaken (areasOf r) m s ≡ true)
+  no-number : loadNumber r parameters m s ≡ 0 → (leb (length parameters) (attributesOf r .globals) ≡ true) ×
+      (sizesTaken (attributesOf r) m s ≡ true)
   unfolding loadNumber
   no-number e =
-      let few : Bool = leb (length parameters) (areasOf r .globals) in
-      let sizes : Bool = sizesTaken (areasOf r) m s in
+      let few : Bool = leb (length parameters) (attributesOf r .globals) in
+      let sizes : Bool = sizesTaken (attributesOf r) m s in
       and-eq-true-iff few sizes .0 (not-false (few && sizes) (cleared (8 when not (few && sizes) ∷ []) refl
       (rw (eq-eqb (recordNumber r) 0 sound) at e) .0))
 
@@ -53,20 +53,20 @@ module _ (r parameters m s : List ℕ) (q : Registers) (sound : recordNumber r �
       by-test (λ (l : Loading). l .answer ≡ Ready q → Taken r parameters m s q) (eqb (loadNumber r parameters m s) 0) _ _
       (λ e ready.
       let (few, sizes) = no-number (eqb-true (loadNumber r parameters m s) 0 e) in
-      record { few = leb-true (length parameters) (areasOf r .globals) few; sizes = sizes; start = cc; memory = rw e })
+      record { few = leb-true (length parameters) (attributesOf r .globals) few; sizes = sizes; start = cc; memory = rw e })
       (λ e. refused-not (loadNumber r parameters m s) q)
 
   module _ (ready : loadOf r parameters m s .answer ≡ Ready q) where
-    loaded-fits : Fitting (areasOf r) (state q (loadOf r parameters m s .memory) s)
+    loaded-fits : Fitting (attributesOf r) (state q (loadOf r parameters m s .memory) s)
     unfolding startOf
     loaded-fits =
         let T = load-taken ready in
-        let A = areasOf r in
-        let (areas, room, deep) = sizes-taken A m s (T .sizes) in
+        let A = attributesOf r in
+        let (attributes, room, deep) = sizes-taken A m s (T .sizes) in
         let size : length (loadedMemory r parameters (length m)) ≡ length m = loaded-length r parameters (length m) (T .few)
-        areas in
+        attributes in
         rw (T .start, T .memory) (record {
-          areas = rw size areas;
+          attributes = rw size attributes;
           room = rw size room;
           deep = deep;
           word0 = loaded-word r parameters (length m) 0 ∙ word-low r parameters (headerOf r) refl 0 (omega arith);
@@ -74,18 +74,18 @@ module _ (r parameters m s : List ℕ) (q : Registers) (sound : recordNumber r �
           word2 = loaded-word r parameters (length m) 2 ∙ word-third r parameters (headerOf r) refl 2 refl;
           global = refl;
           frame = omega arith;
-          within = rw size areas;
+          within = rw size attributes;
           height = omega arith;
           depth = omega arith;
           links = eq-eqb (framesStart A) (framesStart A) refl;
         })
 
     pub loaded-holds : (U : Subject) → U .code ≡ codeOf r → 0 < entryCount (U .code)
-        → Inv U (areasOf r) (loadedConfiguration (state q (loadOf r parameters m s .memory) s))
+        → Inv U (attributesOf r) (loadedConfiguration (state q (loadOf r parameters m s .memory) s))
     unfolding startOf
     loaded-holds U same some =
         let T = load-taken ready in
-        let F = fitted (areasOf r) (state q (loadOf r parameters m s .memory) s) loaded-fits in
+        let F = fitted (attributesOf r) (state q (loadOf r parameters m s .memory) s) loaded-fits in
         record {
           fitted = F;
           framed = no-frame {fp = q .fp} (rw (T .start));

@@ -5,7 +5,7 @@ use mathlib.Core.Path.{_≡_}
 use Prim.Native.Nat.{ℕ, _≤_, _<_}
 use lib.Dec.{leb, ltb}
 use borrow.Author.Tests.{lt-ltb}
-use Rattle.registers.specs.declared.Areas.{Areas}
+use Rattle.registers.specs.declared.Attributes.{Attributes}
 use Rattle.registers.specs.declared.Registers.{Registers}
 use Rattle.registers.specs.Memory.{read, isLink, protects}
 use Rattle.registers.specs.Program.{constantsStart, framesStart}
@@ -17,16 +17,17 @@ use Rattle.step.proofs.Preservation.{step-holds}
 use Rattle.safety.specs.Active.{Configuration}
 use Rattle.safety.proofs.Invariant.{registersOf, programIn, stepIn}
 
-header-protected : (A : Areas) (q : Registers) (m : List ℕ) (a : ℕ) → a < 3 → protects A q m a ≡ true
+header-protected : (A : Attributes) (q : Registers) (m : List ℕ) (a : ℕ) → a < 3 → protects A q m a ≡ true
 unfolding protects
 header-protected A q m a l = rw (lt-ltb a 3 l)
 
-link-protected : (A : Areas) (q : Registers) (m : List ℕ) (a : ℕ) → isLink m (q .fp) (q .calls) a ≡ true → protects A q m a ≡ true
+link-protected : (A : Attributes) (q : Registers) (m : List ℕ) (a : ℕ) → isLink m (q .fp) (q .calls) a ≡ true
+    → protects A q m a ≡ true
 unfolding protects
 link-protected A q m a h =
     rw (h, or-true (leb (constantsStart A) a && ltb a (framesStart A))) (or-true (ltb a 3))
 
-module _ (U : Subject) (A : Areas) (c : Configuration) (f : fits A (c .state) ≡ true) where
+module _ (U : Subject) (A : Attributes) (c : Configuration) (f : fits A (c .state) ≡ true) where
   protected-kept : (a : ℕ) → protects A (registersOf c) (c .state .memory) a ≡ true
       → read (stepIn U A c .state .memory) a ≡ read (c .state .memory) a
   protected-kept a p = step-holds (programIn U A) (c .state) f .spared a p

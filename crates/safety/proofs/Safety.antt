@@ -3,10 +3,10 @@
 use mathlib.Core.List.{List, [], _∷_}
 use mathlib.Core.Path.{_≡_, _∙_, refl}
 use Prim.Native.Nat.{ℕ, _≤_, _<_}
-use Rattle.registers.specs.declared.Areas.{Areas}
+use Rattle.registers.specs.declared.Attributes.{Attributes}
 use Rattle.registers.specs.declared.Registers.{Registers}
 use Rattle.registers.specs.Memory.{read}
-use Rattle.registers.specs.Program.{programOf, areasOf, constantsStart, framesStart}
+use Rattle.registers.specs.Program.{programOf, attributesOf, constantsStart, framesStart}
 use Rattle.registers.specs.State.{State, state}
 use Rattle.stackmap.specs.Ways.{Subject}
 use Rattle.verifier.specs.Check.{checkOf}
@@ -29,12 +29,12 @@ linked m start fp [] (no-frame e) = tt
 linked m start fp (c ∷ calls) (a-frame e saved back rest) = (saved, back, linked m start (c .savedFp) calls rest)
 
 -- The invariant, with the protected data as they were.
-pub record Keeps (U : Subject) (A : Areas) (m0 : List ℕ) (c : Configuration) : Type 0 where
+pub record Keeps (U : Subject) (A : Attributes) (m0 : List ℕ) (c : Configuration) : Type 0 where
   pub inv : Inv U A c
   pub header : (a : ℕ) → a < 3 → read (c .state .memory) a ≡ read m0 a
   pub constants : (a : ℕ) → constantsStart A ≤ a → a < framesStart A → read (c .state .memory) a ≡ read m0 a
 
-module _ (U : Subject) (C : Checked U) (A : Areas) (first : Configuration) (I : Inv U A first) where
+module _ (U : Subject) (C : Checked U) (A : Attributes) (first : Configuration) (I : Inv U A first) where
   pub keeps : {n : ℕ} {c : Configuration} → Visits (programIn U A) U first n c → Keeps U A (first .state .memory) c
   keeps at-first = record { inv = I; header = λ a l. refl; constants = λ a l h. refl }
   keeps (one-more {c = c} v w) =
@@ -53,12 +53,12 @@ module _ (r results w parameters m s : List ℕ) (q : Registers) (b : Bytes r) (
   abbrev S : State
   S = state q (loadOf r parameters m s .memory) s
 
-  pub at-load : Inv U (areasOf r) (loadedConfiguration S)
+  pub at-load : Inv U (attributesOf r) (loadedConfiguration S)
   at-load = loaded-holds r parameters m s q (R .record-sound) ready U refl (checked r results w b accepted R .cutted .some)
 
   pub run-keeps : {n : ℕ} {c : Configuration} → Visits (programOf r) U (loadedConfiguration S) n c
-      → Keeps U (areasOf r) (S .memory) c
-  run-keeps = keeps U (checked r results w b accepted R) (areasOf r) (loadedConfiguration S) at-load
+      → Keeps U (attributesOf r) (S .memory) c
+  run-keeps = keeps U (checked r results w b accepted R) (attributesOf r) (loadedConfiguration S) at-load
 
   pub run-safe : (n : ℕ) (c : Configuration) → Visits (programOf r) U (loadedConfiguration S) n c
       → Safe (programOf r) U (checkOf r results w .workspace) (S .memory) c
@@ -77,6 +77,6 @@ module _ (r results w parameters m s : List ℕ) (q : Registers) (b : Bytes r) (
             (p .reached);
         header = k .header;
         constants = k .constants;
-        links = linked (c .state .memory) (framesStart (areasOf r)) (registersOf c .fp) (c .calls) (i .framed);
-        unread = unread U (checked r results w b accepted R) (areasOf r) c i;
+        links = linked (c .state .memory) (framesStart (attributesOf r)) (registersOf c .fp) (c .calls) (i .framed);
+        unread = unread U (checked r results w b accepted R) (attributesOf r) c i;
       }

@@ -16,7 +16,7 @@ use Rattle.shape.specs.declared.Shape.the-variants as shape
 use Rattle.shape.specs.Linkage.{linkageOf}
 use Rattle.effect.specs.declared.effect.Effect.{Effect}
 use Rattle.effect.specs.declared.effect.Push.the-variants.{NoPush}
-use Rattle.registers.specs.declared.Areas.{Areas}
+use Rattle.registers.specs.declared.Attributes.{Attributes}
 use Rattle.registers.specs.Memory.{read}
 use Rattle.registers.specs.Changes.{called, returned}
 use Rattle.execute.specs.Execute.{finding}
@@ -39,7 +39,7 @@ callee code d (z, k, h) e =
     let there : noCallee code d ≡ false = rw (ne-eqb d 0 (λ n. omega arith), lt-leb (entryCount code) d k) in
     absurd (true≢false (sym e ∙ there))
 
-module _ (U : Subject) (A : Areas) (c : Configuration) (i : Instruction) (next p : ℕ) (l : List Slot) (out : List Way)
+module _ (U : Subject) (A : Attributes) (c : Configuration) (i : Instruction) (next p : ℕ) (l : List Slot) (out : List Way)
     (D : Doing U c i next) (S : Start (U .code) c l out) where
   acts-go : (s : Shape) (e : Effect) → shapeOf i ≡ s → ways U p (registersOf c .pc) next s l ≡ some out
       → ((d : ℕ) → s ≡ shape.Call d → Callable (U .code) d)

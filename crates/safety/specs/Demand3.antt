@@ -74,7 +74,8 @@ pub record Safe (P : Program) (U : Subject) (w m0 : List ℕ) (c : Configuration
   pub shown : Shows w (c .state .registers .pc) slots
   -- "Header words and constants are as loaded"
   pub header : (a : ℕ) → a < globalsStart → read (c .state .memory) a ≡ read m0 a
-  pub constants : (a : ℕ) → constantsStart (P .areas) ≤ a → a < framesStart (P .areas) → read (c .state .memory) a ≡ read m0 a
+  pub constants : (a : ℕ) → constantsStart (P .attributes) ≤ a → a < framesStart (P .attributes)
+      → read (c .state .memory) a ≡ read m0 a
   -- "each active call's link words are as that call wrote them"
   pub links : Linked (c .state .memory) (c .calls)
   -- "No step, a trapped one included, reads or changes a stack word below the share that it starts with": with the run's own stack for

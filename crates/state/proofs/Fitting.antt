@@ -6,15 +6,15 @@ use mathlib.Core.List.{List}
 use lib.Dec.{eqb, leb}
 use lib.ListN.{length}
 use borrow.Author.Tests.{eqb-true, leb-true, eq-eqb, le-leb}
-use Rattle.registers.specs.declared.Areas.{Areas}
+use Rattle.registers.specs.declared.Attributes.{Attributes}
 use Rattle.registers.specs.declared.Registers.{Registers}
 use Rattle.registers.specs.Program.{constantsStart, framesStart}
 use Rattle.registers.specs.State.{State}
 use Rattle.registers.specs.Memory.{read, chained}
 use Rattle.state.specs.Fits.{sizesTaken, headerKept, registersFit, fits}
 
-pub record Fitting (A : Areas) (S : State) : Type 0 where
-  pub areas : framesStart A ≤ length (S .memory)
+pub record Fitting (A : Attributes) (S : State) : Type 0 where
+  pub attributes : framesStart A ≤ length (S .memory)
   pub room : length (S .memory) ≤ 16384
   pub deep : length (S .stack) ≤ 1024
   pub word0 : read (S .memory) 0 ≡ 0
@@ -40,14 +40,14 @@ five a b c d f e =
     (p .0, p .1, q .0, q .1, q .2)
 
 -- Sizes that load takes hold the data areas, and are at most the largest.
-pub sizes-taken : (A : Areas) (m s : List ℕ) → sizesTaken A m s ≡ true
+pub sizes-taken : (A : Attributes) (m s : List ℕ) → sizesTaken A m s ≡ true
     → (framesStart A ≤ length m) × (length m ≤ 16384) × (length s ≤ 1024)
 unfolding sizesTaken
 sizes-taken A m s h =
     let z = three (leb (framesStart A) (length m)) (leb (length m) 16384) (leb (length s) 1024) h in
     (leb-true (framesStart A) (length m) (z .0), leb-true (length m) 16384 (z .1), leb-true (length s) 1024 (z .2))
 
-module _ (A : Areas) (S : State) where
+module _ (A : Attributes) (S : State) where
   abbrev q : Registers
   q = S .registers
 
@@ -62,13 +62,13 @@ module _ (A : Areas) (S : State) where
   fitting h =
       let w = three (sizesTaken A m s) (headerKept A m) (registersFit q m s && chained m (framesStart A) (q .fp) (q .calls)) h in
       let l = and-eq-true-iff (registersFit q m s) (chained m (framesStart A) (q .fp) (q .calls)) .0 (w .2) in
-      let (areas, room, deep) = sizes-taken A m s (w .0) in
+      let (attributes, room, deep) = sizes-taken A m s (w .0) in
       let k = three (eqb (read m 0) 0) (eqb (read m 1) 0) (eqb (read m 2) (constantsStart A)) (w .1) in
       let r =
       five (eqb (q .gp) 3) (leb (q .fp) (q .mp)) (leb (q .mp) (length m)) (leb (q .height) (length s)) (leb (q .calls) 64)
       (l .0) in
       record {
-        areas = areas;
+        attributes = attributes;
         room = room;
         deep = deep;
         word0 = eqb-true (read m 0) 0 (k .0);
@@ -86,7 +86,7 @@ module _ (A : Areas) (S : State) where
   unfolding fits sizesTaken headerKept registersFit
   fitted f =
       rw (
-        le-leb (framesStart A) (length m) (f .areas),
+        le-leb (framesStart A) (length m) (f .attributes),
         le-leb (length m) 16384 (f .room),
         le-leb (length s) 1024 (f .deep),
         eq-eqb (read m 0) 0 (f .word0),

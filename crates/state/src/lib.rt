@@ -3,15 +3,15 @@ ghost use mathlib.Core.Path.{_≡_};
 ghost use Rattle.state.specs.Fits.{sizesTaken, headerKept, registersFit, fits};
 ghost use Rattle.registers.specs.State.{state};
 ghost use Rattle.registers.specs.Memory.{chained};
-use registers::Areas;
+use registers::Attributes;
 use registers::Registers;
 use registers::access;
 
 // Whether memory and stack have sizes that load takes.
-pub fn sizes_taken(areas: Areas, memory: &[u32], stack: &[u32]) -> bool
-    ensures { λ b. ⌜ b ≡ sizesTaken areas (now (memory .entry)) (now (stack .entry)) ⌝ }
+pub fn sizes_taken(attributes: Attributes, memory: &[u32], stack: &[u32]) -> bool
+    ensures { λ b. ⌜ b ≡ sizesTaken attributes (now (memory .entry)) (now (stack .entry)) ⌝ }
 {
-    if memory.len() < areas.frames_start() {
+    if memory.len() < attributes.frames_start() {
         return false;
     }
     if 16384 < memory.len() {
@@ -39,8 +39,8 @@ fn is_chained(memory: &[u32], start: usize, fp: u32, calls: u32) -> bool
 }
 
 // Whether the header words are as load writes them.
-fn header_kept(areas: Areas, memory: &[u32]) -> bool
-    ensures { λ b. ⌜ b ≡ headerKept areas (now (memory .entry)) ⌝ }
+fn header_kept(attributes: Attributes, memory: &[u32]) -> bool
+    ensures { λ b. ⌜ b ≡ headerKept attributes (now (memory .entry)) ⌝ }
 {
     if access::word_at(memory, 0) != 0 {
         return false;
@@ -48,7 +48,7 @@ fn header_kept(areas: Areas, memory: &[u32]) -> bool
     if access::word_at(memory, 1) != 0 {
         return false;
     }
-    (access::word_at(memory, 2) as usize) == 3 + (areas.globals as usize)
+    (access::word_at(memory, 2) as usize) == 3 + (attributes.globals as usize)
 }
 
 // Whether the registers stay within memory and stack.
@@ -70,17 +70,17 @@ fn registers_fit(q: Registers, memory: &[u32], stack: &[u32]) -> bool
     q.calls <= 64
 }
 
-pub fn state_fits(areas: Areas, q: Registers, memory: &[u32], stack: &[u32]) -> bool
-    ensures { λ b. ⌜ b ≡ fits areas (state q (now (memory .entry)) (now (stack .entry))) ⌝ }
+pub fn state_fits(attributes: Attributes, q: Registers, memory: &[u32], stack: &[u32]) -> bool
+    ensures { λ b. ⌜ b ≡ fits attributes (state q (now (memory .entry)) (now (stack .entry))) ⌝ }
 {
-    if !sizes_taken(areas, memory, stack) {
+    if !sizes_taken(attributes, memory, stack) {
         return false;
     }
-    if !header_kept(areas, memory) {
+    if !header_kept(attributes, memory) {
         return false;
     }
     if !registers_fit(q, memory, stack) {
         return false;
     }
-    is_chained(memory, areas.frames_start(), q.fp, q.calls)
+    is_chained(memory, attributes.frames_start(), q.fp, q.calls)
 }

@@ -17,7 +17,7 @@ use Rattle.effect.specs.declared.effect.Effect.{Effect}
 use Rattle.effect.specs.declared.effect.Effect.the-variants.{Trap, Finish, Go}
 use Rattle.effect.specs.declared.effect.Push.{Push}
 use Rattle.effect.specs.declared.effect.Write.the-variants.{NoWrite, WriteOne, WriteTwo, WritePopped}
-use Rattle.registers.specs.declared.Areas.{Areas}
+use Rattle.registers.specs.declared.Attributes.{Attributes}
 use Rattle.registers.specs.declared.Registers.{Registers}
 use Rattle.registers.specs.Program.{constantsStart, framesStart}
 use Rattle.registers.specs.State.{state}
@@ -32,7 +32,7 @@ use Rattle.step.proofs.Intact.{apart, Intact, intact-none, intact-then,
 use Rattle.step.proofs.Intact.{stored as stored-one}
 
 -- The registers q lie rightly in the memory n, which came of m under the registers q₀ with each protected word as it was.
-pub record Steady (A : Areas) (q₀ q : Registers) (m n : List ℕ) : Type 0 where
+pub record Steady (A : Attributes) (q₀ q : Registers) (m n : List ℕ) : Type 0 where
   pub size : length n ≡ length m
   pub word0 : read n 0 ≡ 0
   pub word1 : read n 1 ≡ 0
@@ -45,12 +45,12 @@ pub record Steady (A : Areas) (q₀ q : Registers) (m n : List ℕ) : Type 0 whe
   pub spared : (a : ℕ) → protects A q₀ m a ≡ true → read n a ≡ read m a
 
 -- An effect leaves registers and memory so, whatever words go.
-abbrev pub Keeps : Areas → Registers → List ℕ → Effect → Type 0
+abbrev pub Keeps : Attributes → Registers → List ℕ → Effect → Type 0
 Keeps A q₀ m (Trap n) = Unit {0}
 Keeps A q₀ m Finish = Unit {0}
 Keeps A q₀ m (Go pops push write q) = (vs : List ℕ) → Steady A q₀ q m (written m vs write)
 
-module _ (A : Areas) (q : Registers) (m s : List ℕ) (F : Fitting A (state q m s)) where
+module _ (A : Attributes) (q : Registers) (m s : List ℕ) (F : Fitting A (state q m s)) where
   -- Memory intact, and MP where it was or moved within memory.
   intact-sized : (n : List ℕ) (place mp : ℕ) → Intact m n (framesStart A) (q .fp) (q .calls) → q .fp ≤ mp → mp ≤ length m
       → ((a : ℕ) → protects A q m a ≡ true → read n a ≡ read m a) → Steady A q (sized q place mp) m n

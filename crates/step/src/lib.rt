@@ -14,7 +14,7 @@ use effect::effect::Effect;
 use effect::effect::Push;
 use effect::effect::Write;
 use opcode::Decoded;
-use registers::Areas;
+use registers::Attributes;
 use registers::Registers;
 
 // The words of `src` copied to the front of `dst`, as many as it has room for.
@@ -132,13 +132,15 @@ impl Machine {
     fn apply(
         mut self,
         code: &[u8],
-        areas: Areas,
+        attributes: Attributes,
         memory: &mut [u32],
         stack: &mut [u32],
         e: Effect,
     ) -> Stepped
         requires { ⌜ length (now stack) ≤ 1024 ⌝ }
-        ensures { λ r. ⌜ left r (now (memory .exit)) (now (stack .exit)) ≡ apply (program (now (code .entry)) areas) (state (self .registers) (now (memory .entry)) (now (stack .entry))) e ⌝ }
+        ensures { λ r. ⌜ left r (now (memory .exit)) (now (stack .exit))
+            ≡ apply (program (now (code .entry)) attributes)
+            (state (self .registers) (now (memory .entry)) (now (stack .entry))) e ⌝ }
     {
         match e {
             Effect::Trap(n) => self.trapped(n),
@@ -171,14 +173,16 @@ impl Machine {
         mut self,
         formats: &[u16],
         code: &[u8],
-        areas: Areas,
+        attributes: Attributes,
         memory: &mut [u32],
         stack: &mut [u32],
     ) -> Stepped
         requires { ⌜ Sheet (now formats) ⌝ }
         requires { ⌜ length (now code) ≤ 4096 ⌝ }
-        requires { ⌜ fits areas (state (self .registers) (now memory) (now stack)) ≡ true ⌝ }
-        ensures { λ r. ⌜ left r (now (memory .exit)) (now (stack .exit)) ≡ stepOf (program (now (code .entry)) areas) (state (self .registers) (now (memory .entry)) (now (stack .entry))) ⌝ }
+        requires { ⌜ fits attributes (state (self .registers) (now memory) (now stack)) ≡ true ⌝ }
+        ensures { λ r. ⌜ left r (now (memory .exit)) (now (stack .exit))
+            ≡ stepOf (program (now (code .entry)) attributes)
+            (state (self .registers) (now (memory .entry)) (now (stack .entry))) ⌝ }
     {
         let q = self.registers;
         let decoded = opcode::decode(formats, code, code.len(), q.pc as usize);
@@ -189,8 +193,8 @@ impl Machine {
                 if q.height < shape::needed_words(i) {
                     return self.trapped(22);
                 }
-                let e = execute::execute(code, areas, q, memory, stack, next as u32, i);
-                self.apply(code, areas, memory, stack, e)
+                let e = execute::execute(code, attributes, q, memory, stack, next as u32, i);
+                self.apply(code, attributes, memory, stack, e)
             }
         }
     }

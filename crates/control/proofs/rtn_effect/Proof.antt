@@ -16,7 +16,7 @@ returned-requires c κs =
     let if1 = c .if1 in
     let a = c .before .before .before .args in
     let pre = c .before .before .before .pre in
-    (framed (a .m .now) (framesStart (a .areas)) (a .q .fp) (a .q .calls) (pre) (if1 .left), omega arith)
+    (framed (a .m .now) (framesStart (a .attributes)) (a .q .fp) (a .q .calls) (pre) (if1 .left), omega arith)
 
 returns-2 : tie.Need-returns-2
 unfolding rtnEffect

@@ -15,7 +15,7 @@ returns c =
     let a = c .before .before .before .before .before .before .before .args in
     let pre = c .before .before .before .before .before .before .before .pre in
     λ code. rw (
-      iter-found (program code (a .areas)) (a .q) (a .m .now) (a .s .now) (a .next) (a .distance) (pre .1),
+      iter-found (program code (a .attributes)) (a .q) (a .m .now) (a .s .now) (a .next) (a .distance) (pre .1),
       iter-effect .ensures,
       peek .ensures,
       peek2 .ensures,

@@ -15,7 +15,7 @@ returns c =
     let a = c .before .before .before .before .before .before .before .args in
     let pre = c .before .before .before .before .before .before .before .pre in
     λ code. rw (
-      next-found (program code (a .areas)) (a .q) (a .m .now) (a .s .now) (a .next) (pre .1),
+      next-found (program code (a .attributes)) (a .q) (a .m .now) (a .s .now) (a .next) (pre .1),
       next-effect .ensures,
       peek .ensures,
       peek2 .ensures,

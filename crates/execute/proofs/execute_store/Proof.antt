@@ -36,7 +36,7 @@ returns c =
     let m = a .m .now in
     let s = a .s .now in
     λ code. rw (
-      store-found (program code (a .areas)) q m s (a .next) (a .base) (a .mode) (a .offset) (pre .1),
+      store-found (program code (a .attributes)) q m s (a .next) (a .base) (a .mode) (a .offset) (pre .1),
       store-effect .ensures,
       peek .ensures,
       peek2 .ensures,

@@ -24,10 +24,10 @@ load-two-requires c κs =
     .before .args in
     let pre = c .before .before .before .before .before .before .before .before .before .before .before .before .before .before
     .before .pre in
-    let F = fitting (a .areas) (stateAt (a .q) (spot (a .pc .now) (a .height .now) (a .memory .now) (a .stack .now)))
+    let F = fitting (a .attributes) (stateAt (a .q) (spot (a .pc .now) (a .height .now) (a .memory .now) (a .stack .now)))
     (pre .1 .1 .1) in (
       F .within,
-      rw (word-at .ensures) (small-constant (a .areas) (a .q)
+      rw (word-at .ensures) (small-constant (a .attributes) (a .q)
           (spot (a .pc .now) (a .height .now) (a .memory .now) (a .stack .now)) (pre .1 .1 .1) (pair .result) (pair .ok)),
     )
 
@@ -42,7 +42,7 @@ returns-2 c =
     let if1 = earlier .before .before .before .before .if1 in
     let a = earlier .before .before .before .before .before .before .before .before .before .args in
     let pre = earlier .before .before .before .before .before .before .before .before .before .pre in
-    load-two-constant-arm (a .code .now) (a .areas) (a .q) (a .pc .now) (a .height .now) (a .memory .now) (a .stack .now)
+    load-two-constant-arm (a .code .now) (a .attributes) (a .q) (a .pc .now) (a .height .now) (a .memory .now) (a .stack .now)
     (pre .1 .1 .1)
     (load-two .result) (spot (load-two .last .1 .1 .0) (load-two .last .1 .1 .1 .0) (a .memory .now) (load-two .last .1 .0))
     (a .pc .now + 1 + 3) (if1 .left) (pair .result)
@@ -58,7 +58,7 @@ load-two-popped-requires c κs =
     .args in
     let pre = c .before .before .before .before .before .before .before .before .before .before .before .before .before .before
     .pre in
-    let F = fitting (a .areas) (stateAt (a .q) (spot (a .pc .now) (a .height .now) (a .memory .now) (a .stack .now)))
+    let F = fitting (a .attributes) (stateAt (a .q) (spot (a .pc .now) (a .height .now) (a .memory .now) (a .stack .now)))
     (pre .1 .1 .1) in
     (F .within, (F .height, (pair .ok)))
 
@@ -72,7 +72,7 @@ returns-3 c =
     let if1 = earlier .before .before .before .before .if1 in
     let a = earlier .before .before .before .before .before .before .before .before .before .args in
     let pre = earlier .before .before .before .before .before .before .before .before .before .pre in
-    load-two-popped-arm (a .code .now) (a .areas) (a .q) (a .pc .now) (a .height .now) (a .memory .now) (a .stack .now)
+    load-two-popped-arm (a .code .now) (a .attributes) (a .q) (a .pc .now) (a .height .now) (a .memory .now) (a .stack .now)
     (pre .1 .1 .1)
     (load-two-popped .result) (spot (load-two-popped .last .1 .1 .0) (load-two-popped .last .1 .1 .1 .0) (a .memory .now)
     (load-two-popped .last .1 .0))
@@ -89,7 +89,7 @@ store-two-popped-requires c κs =
     .before .args in
     let pre = c .before .before .before .before .before .before .before .before .before .before .before .before
     .before .pre in
-    reaches (a .areas) (a .q) (spot (a .pc .now) (a .height .now) (a .memory .now) (a .stack .now)) (pre .1 .1 .1)
+    reaches (a .attributes) (a .q) (spot (a .pc .now) (a .height .now) (a .memory .now) (a .stack .now)) (pre .1 .1 .1)
     (pair .result) (pair .ok)
 
 returns-4 : tie.Need-returns-4
@@ -102,7 +102,7 @@ returns-4 c =
     let if1 = earlier .before .before .before .before .if1 in
     let a = earlier .before .before .before .before .before .before .before .before .before .args in
     let pre = earlier .before .before .before .before .before .before .before .before .before .pre in
-    store-two-popped-arm (a .code .now) (a .areas) (a .q) (a .pc .now) (a .height .now) (a .memory .now) (a .stack .now)
+    store-two-popped-arm (a .code .now) (a .attributes) (a .q) (a .pc .now) (a .height .now) (a .memory .now) (a .stack .now)
     (pre .1 .1 .1)
     (store-two-popped .result) (spot (store-two-popped .last .1 .1 .1 .1 .0) (store-two-popped .last .1 .1 .1 .1 .1 .0)
     (store-two-popped .last .1 .1 .0) (a .stack .now))

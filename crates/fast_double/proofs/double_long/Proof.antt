@@ -23,10 +23,10 @@ load-two-requires c κs =
     let byte-at = c .before .before .before .before .before .before .before .byte-at in
     let a = c .before .before .before .before .before .before .before .before .before .before .before .before .before .args in
     let pre = c .before .before .before .before .before .before .before .before .before .before .before .before .before .pre in
-    let F = fitting (a .areas) (stateAt (a .q) (spot (a .pc .now) (a .height .now) (a .memory .now) (a .stack .now)))
+    let F = fitting (a .attributes) (stateAt (a .q) (spot (a .pc .now) (a .height .now) (a .memory .now) (a .stack .now)))
     (pre .1 .1 .1) in (
       F .within,
-      rw (word-at .ensures) (small-constant (a .areas) (a .q)
+      rw (word-at .ensures) (small-constant (a .attributes) (a .q)
           (spot (a .pc .now) (a .height .now) (a .memory .now) (a .stack .now)) (pre .1 .1 .1) (byte-at .result)
           (byte-small (byte-at .result) (byte-at .ok))),
     )
@@ -42,7 +42,7 @@ returns-2 c =
     let if1 = earlier .before .before .if1 in
     let a = earlier .before .before .before .before .before .before .before .args in
     let pre = earlier .before .before .before .before .before .before .before .pre in
-    load-two-constant-arm (a .code .now) (a .areas) (a .q) (a .pc .now) (a .height .now) (a .memory .now) (a .stack .now)
+    load-two-constant-arm (a .code .now) (a .attributes) (a .q) (a .pc .now) (a .height .now) (a .memory .now) (a .stack .now)
     (pre .1 .1 .1)
     (load-two .result) (spot (load-two .last .1 .1 .0) (load-two .last .1 .1 .1 .0) (a .memory .now) (load-two .last .1 .0))
     (a .pc .now + 1 + 2) (if1 .left) (byte-at .result)
@@ -56,10 +56,10 @@ load-two-requires-2 c κs =
     let byte-at = c .before .before .before .before .before .before .before .byte-at in
     let a = c .before .before .before .before .before .before .before .before .before .before .before .before .before .args in
     let pre = c .before .before .before .before .before .before .before .before .before .before .before .before .before .pre in
-    let F = fitting (a .areas) (stateAt (a .q) (spot (a .pc .now) (a .height .now) (a .memory .now) (a .stack .now)))
+    let F = fitting (a .attributes) (stateAt (a .q) (spot (a .pc .now) (a .height .now) (a .memory .now) (a .stack .now)))
     (pre .1 .1 .1) in (
       F .within,
-      small-local (a .areas) (a .q) (spot (a .pc .now) (a .height .now) (a .memory .now) (a .stack .now))
+      small-local (a .attributes) (a .q) (spot (a .pc .now) (a .height .now) (a .memory .now) (a .stack .now))
           (pre .1 .1 .1) (byte-at .result) (byte-small (byte-at .result) (byte-at .ok)),
     )
 
@@ -73,7 +73,7 @@ returns-3 c =
     let if1 = earlier .before .before .if1 in
     let a = earlier .before .before .before .before .before .before .before .args in
     let pre = earlier .before .before .before .before .before .before .before .pre in
-    load-two-local-arm (a .code .now) (a .areas) (a .q) (a .pc .now) (a .height .now) (a .memory .now) (a .stack .now)
+    load-two-local-arm (a .code .now) (a .attributes) (a .q) (a .pc .now) (a .height .now) (a .memory .now) (a .stack .now)
     (pre .1 .1 .1)
     (load-two2 .result) (spot (load-two2 .last .1 .1 .0) (load-two2 .last .1 .1 .1 .0) (a .memory .now) (load-two2 .last .1 .0))
     (a .pc .now + 1 + 2) (if1 .left) (byte-at .result)
@@ -87,10 +87,10 @@ load-two-requires-3 c κs =
     let byte-at = c .before .before .before .before .before .before .before .byte-at in
     let a = c .before .before .before .before .before .before .before .before .before .before .before .before .before .args in
     let pre = c .before .before .before .before .before .before .before .before .before .before .before .before .before .pre in
-    let F = fitting (a .areas) (stateAt (a .q) (spot (a .pc .now) (a .height .now) (a .memory .now) (a .stack .now)))
+    let F = fitting (a .attributes) (stateAt (a .q) (spot (a .pc .now) (a .height .now) (a .memory .now) (a .stack .now)))
     (pre .1 .1 .1) in (
       F .within,
-      small-global (a .areas) (a .q) (spot (a .pc .now) (a .height .now) (a .memory .now) (a .stack .now))
+      small-global (a .attributes) (a .q) (spot (a .pc .now) (a .height .now) (a .memory .now) (a .stack .now))
           (pre .1 .1 .1) (byte-at .result) (byte-small (byte-at .result) (byte-at .ok)),
     )
 
@@ -104,7 +104,7 @@ returns-4 c =
     let if1 = earlier .before .before .if1 in
     let a = earlier .before .before .before .before .before .before .before .args in
     let pre = earlier .before .before .before .before .before .before .before .pre in
-    load-two-global-arm (a .code .now) (a .areas) (a .q) (a .pc .now) (a .height .now) (a .memory .now) (a .stack .now)
+    load-two-global-arm (a .code .now) (a .attributes) (a .q) (a .pc .now) (a .height .now) (a .memory .now) (a .stack .now)
     (pre .1 .1 .1)
     (load-two3 .result) (spot (load-two3 .last .1 .1 .0) (load-two3 .last .1 .1 .1 .0) (a .memory .now) (load-two3 .last .1 .0))
     (a .pc .now + 1 + 2) (if1 .left) (byte-at .result)
@@ -118,7 +118,7 @@ load-two-popped-requires c κs =
     let byte-at = c .before .before .before .before .before .before .byte-at in
     let a = c .before .before .before .before .before .before .before .before .before .before .before .before .args in
     let pre = c .before .before .before .before .before .before .before .before .before .before .before .before .pre in
-    let F = fitting (a .areas) (stateAt (a .q) (spot (a .pc .now) (a .height .now) (a .memory .now) (a .stack .now)))
+    let F = fitting (a .attributes) (stateAt (a .q) (spot (a .pc .now) (a .height .now) (a .memory .now) (a .stack .now)))
     (pre .1 .1 .1) in
     (F .within, (F .height, (byte-small (byte-at .result) (byte-at .ok))))
 
@@ -132,7 +132,7 @@ returns-5 c =
     let if1 = earlier .before .before .if1 in
     let a = earlier .before .before .before .before .before .before .before .args in
     let pre = earlier .before .before .before .before .before .before .before .pre in
-    load-two-popped-arm (a .code .now) (a .areas) (a .q) (a .pc .now) (a .height .now) (a .memory .now) (a .stack .now)
+    load-two-popped-arm (a .code .now) (a .attributes) (a .q) (a .pc .now) (a .height .now) (a .memory .now) (a .stack .now)
     (pre .1 .1 .1)
     (load-two-popped .result) (spot (load-two-popped .last .1 .1 .0) (load-two-popped .last .1 .1 .1 .0) (a .memory .now)
     (load-two-popped .last .1 .0))
@@ -148,12 +148,12 @@ store-two-requires c κs =
     let byte-at = earlier .byte-at in
     let a = earlier .before .before .before .before .before .before .args in
     let pre = earlier .before .before .before .before .before .before .pre in
-    let F = fitting (a .areas) (stateAt (a .q) (spot (a .pc .now) (a .height .now) (a .memory .now) (a .stack .now)))
+    let F = fitting (a .attributes) (stateAt (a .q) (spot (a .pc .now) (a .height .now) (a .memory .now) (a .stack .now)))
     (pre .1 .1 .1) in (
       F .within,
       (
         F .height,
-        small-local (a .areas) (a .q) (spot (a .pc .now) (a .height .now) (a .memory .now) (a .stack .now))
+        small-local (a .attributes) (a .q) (spot (a .pc .now) (a .height .now) (a .memory .now) (a .stack .now))
             (pre .1 .1 .1) (byte-at .result) (byte-small (byte-at .result) (byte-at .ok)),
       ),
     )
@@ -168,7 +168,7 @@ returns-6 c =
     let if1 = earlier .before .before .if1 in
     let a = earlier .before .before .before .before .before .before .before .args in
     let pre = earlier .before .before .before .before .before .before .before .pre in
-    store-two-local-arm (a .code .now) (a .areas) (a .q) (a .pc .now) (a .height .now) (a .memory .now) (a .stack .now)
+    store-two-local-arm (a .code .now) (a .attributes) (a .q) (a .pc .now) (a .height .now) (a .memory .now) (a .stack .now)
     (pre .1 .1 .1)
     (store-two .result) (spot (store-two .last .1 .1 .1 .0) (store-two .last .1 .1 .1 .1 .0) (store-two .last .1 .0)
     (a .stack .now))
@@ -184,12 +184,12 @@ store-two-requires-2 c κs =
     let byte-at = earlier .byte-at in
     let a = earlier .before .before .before .before .before .before .args in
     let pre = earlier .before .before .before .before .before .before .pre in
-    let F = fitting (a .areas) (stateAt (a .q) (spot (a .pc .now) (a .height .now) (a .memory .now) (a .stack .now)))
+    let F = fitting (a .attributes) (stateAt (a .q) (spot (a .pc .now) (a .height .now) (a .memory .now) (a .stack .now)))
     (pre .1 .1 .1) in (
       F .within,
       (
         F .height,
-        small-global (a .areas) (a .q) (spot (a .pc .now) (a .height .now) (a .memory .now) (a .stack .now))
+        small-global (a .attributes) (a .q) (spot (a .pc .now) (a .height .now) (a .memory .now) (a .stack .now))
             (pre .1 .1 .1) (byte-at .result) (byte-small (byte-at .result) (byte-at .ok)),
       ),
     )
@@ -204,7 +204,7 @@ returns-7 c =
     let if1 = earlier .before .before .if1 in
     let a = earlier .before .before .before .before .before .before .before .args in
     let pre = earlier .before .before .before .before .before .before .before .pre in
-    store-two-global-arm (a .code .now) (a .areas) (a .q) (a .pc .now) (a .height .now) (a .memory .now) (a .stack .now)
+    store-two-global-arm (a .code .now) (a .attributes) (a .q) (a .pc .now) (a .height .now) (a .memory .now) (a .stack .now)
     (pre .1 .1 .1)
     (store-two2 .result) (spot (store-two2 .last .1 .1 .1 .0) (store-two2 .last .1 .1 .1 .1 .0) (store-two2 .last .1 .0)
     (a .stack .now))
@@ -219,7 +219,7 @@ store-two-popped-requires c κs =
     let byte-at = c .before .before .before .before .before .byte-at in
     let a = c .before .before .before .before .before .before .before .before .before .before .before .args in
     let pre = c .before .before .before .before .before .before .before .before .before .before .before .pre in
-    reaches (a .areas) (a .q) (spot (a .pc .now) (a .height .now) (a .memory .now) (a .stack .now)) (pre .1 .1 .1)
+    reaches (a .attributes) (a .q) (spot (a .pc .now) (a .height .now) (a .memory .now) (a .stack .now)) (pre .1 .1 .1)
     (byte-at .result) (byte-small (byte-at .result) (byte-at .ok))
 
 returns-8 : tie.Need-returns-8
@@ -232,7 +232,7 @@ returns-8 c =
     let if1 = earlier .before .before .if1 in
     let a = earlier .before .before .before .before .before .before .before .args in
     let pre = earlier .before .before .before .before .before .before .before .pre in
-    store-two-popped-arm (a .code .now) (a .areas) (a .q) (a .pc .now) (a .height .now) (a .memory .now) (a .stack .now)
+    store-two-popped-arm (a .code .now) (a .attributes) (a .q) (a .pc .now) (a .height .now) (a .memory .now) (a .stack .now)
     (pre .1 .1 .1)
     (store-two-popped .result) (spot (store-two-popped .last .1 .1 .1 .1 .0) (store-two-popped .last .1 .1 .1 .1 .1 .0)
     (store-two-popped .last .1 .1 .0) (a .stack .now))

@@ -20,10 +20,10 @@ load-two-requires : tie.Need-load-two-requires
 load-two-requires c κs =
     let a = c .before .before .before .before .before .before .before .before .before .before .before .args in
     let pre = c .before .before .before .before .before .before .before .before .before .before .before .pre in
-    let F = fitting (a .areas) (stateAt (a .q) (spot (a .pc .now) (a .height .now) (a .memory .now) (a .stack .now)))
+    let F = fitting (a .attributes) (stateAt (a .q) (spot (a .pc .now) (a .height .now) (a .memory .now) (a .stack .now)))
     (pre .1 .1 .1 .1) in (
       F .within,
-      small-local (a .areas) (a .q) (spot (a .pc .now) (a .height .now) (a .memory .now) (a .stack .now))
+      small-local (a .attributes) (a .q) (spot (a .pc .now) (a .height .now) (a .memory .now) (a .stack .now))
           (pre .1 .1 .1 .1) (a .b % 16) (digit-small (a .b)),
     )
 
@@ -34,7 +34,7 @@ returns c =
     let match = earlier .match in
     let a = earlier .before .before .before .before .before .args in
     let pre = earlier .before .before .before .before .before .pre in
-    load-two-local-arm (a .code .now) (a .areas) (a .q) (a .pc .now) (a .height .now) (a .memory .now) (a .stack .now)
+    load-two-local-arm (a .code .now) (a .attributes) (a .q) (a .pc .now) (a .height .now) (a .memory .now) (a .stack .now)
     (pre .1 .1 .1 .1)
     (load-two .result) (spot (load-two .last .1 .1 .0) (load-two .last .1 .1 .1 .0) (a .memory .now) (load-two .last .1 .0))
     (a .pc .now + 1 + 1) (pre .0) (a .b % 16)
@@ -46,10 +46,10 @@ load-two-requires-2 : tie.Need-load-two-requires-2
 load-two-requires-2 c κs =
     let a = c .before .before .before .before .before .before .before .before .before .before .before .args in
     let pre = c .before .before .before .before .before .before .before .before .before .before .before .pre in
-    let F = fitting (a .areas) (stateAt (a .q) (spot (a .pc .now) (a .height .now) (a .memory .now) (a .stack .now)))
+    let F = fitting (a .attributes) (stateAt (a .q) (spot (a .pc .now) (a .height .now) (a .memory .now) (a .stack .now)))
     (pre .1 .1 .1 .1) in (
       F .within,
-      small-global (a .areas) (a .q) (spot (a .pc .now) (a .height .now) (a .memory .now) (a .stack .now))
+      small-global (a .attributes) (a .q) (spot (a .pc .now) (a .height .now) (a .memory .now) (a .stack .now))
           (pre .1 .1 .1 .1) (a .b % 16) (digit-small (a .b)),
     )
 
@@ -60,7 +60,7 @@ returns-2 c =
     let match = earlier .match in
     let a = earlier .before .before .before .before .before .args in
     let pre = earlier .before .before .before .before .before .pre in
-    load-two-global-arm (a .code .now) (a .areas) (a .q) (a .pc .now) (a .height .now) (a .memory .now) (a .stack .now)
+    load-two-global-arm (a .code .now) (a .attributes) (a .q) (a .pc .now) (a .height .now) (a .memory .now) (a .stack .now)
     (pre .1 .1 .1 .1)
     (load-two2 .result) (spot (load-two2 .last .1 .1 .0) (load-two2 .last .1 .1 .1 .0) (a .memory .now) (load-two2 .last .1 .0))
     (a .pc .now + 1 + 1) (pre .0) (a .b % 16)
@@ -72,7 +72,7 @@ load-two-popped-requires : tie.Need-load-two-popped-requires
 load-two-popped-requires c κs =
     let a = c .before .before .before .before .before .before .before .before .before .before .args in
     let pre = c .before .before .before .before .before .before .before .before .before .before .pre in
-    let F = fitting (a .areas) (stateAt (a .q) (spot (a .pc .now) (a .height .now) (a .memory .now) (a .stack .now)))
+    let F = fitting (a .attributes) (stateAt (a .q) (spot (a .pc .now) (a .height .now) (a .memory .now) (a .stack .now)))
     (pre .1 .1 .1 .1) in
     (F .within, (F .height, (digit-small (a .b))))
 
@@ -83,7 +83,7 @@ returns-3 c =
     let match = earlier .match in
     let a = earlier .before .before .before .before .before .args in
     let pre = earlier .before .before .before .before .before .pre in
-    load-two-popped-arm (a .code .now) (a .areas) (a .q) (a .pc .now) (a .height .now) (a .memory .now) (a .stack .now)
+    load-two-popped-arm (a .code .now) (a .attributes) (a .q) (a .pc .now) (a .height .now) (a .memory .now) (a .stack .now)
     (pre .1 .1 .1 .1)
     (load-two-popped .result) (spot (load-two-popped .last .1 .1 .0) (load-two-popped .last .1 .1 .1 .0) (a .memory .now)
     (load-two-popped .last .1 .0))
@@ -96,12 +96,12 @@ store-two-requires : tie.Need-store-two-requires
 store-two-requires c κs =
     let a = c .before .before .before .before .before .before .before .before .before .before .before .before .args in
     let pre = c .before .before .before .before .before .before .before .before .before .before .before .before .pre in
-    let F = fitting (a .areas) (stateAt (a .q) (spot (a .pc .now) (a .height .now) (a .memory .now) (a .stack .now)))
+    let F = fitting (a .attributes) (stateAt (a .q) (spot (a .pc .now) (a .height .now) (a .memory .now) (a .stack .now)))
     (pre .1 .1 .1 .1) in (
       F .within,
       (
         F .height,
-        small-local (a .areas) (a .q) (spot (a .pc .now) (a .height .now) (a .memory .now) (a .stack .now))
+        small-local (a .attributes) (a .q) (spot (a .pc .now) (a .height .now) (a .memory .now) (a .stack .now))
             (pre .1 .1 .1 .1) (a .b % 16) (digit-small (a .b)),
       ),
     )
@@ -113,7 +113,7 @@ returns-4 c =
     let match = earlier .match in
     let a = earlier .before .before .before .before .before .args in
     let pre = earlier .before .before .before .before .before .pre in
-    store-two-local-arm (a .code .now) (a .areas) (a .q) (a .pc .now) (a .height .now) (a .memory .now) (a .stack .now)
+    store-two-local-arm (a .code .now) (a .attributes) (a .q) (a .pc .now) (a .height .now) (a .memory .now) (a .stack .now)
     (pre .1 .1 .1 .1)
     (store-two .result) (spot (store-two .last .1 .1 .1 .0) (store-two .last .1 .1 .1 .1 .0) (store-two .last .1 .0)
     (a .stack .now))
@@ -126,12 +126,12 @@ store-two-requires-2 : tie.Need-store-two-requires-2
 store-two-requires-2 c κs =
     let a = c .before .before .before .before .before .before .before .before .before .before .before .before .args in
     let pre = c .before .before .before .before .before .before .before .before .before .before .before .before .pre in
-    let F = fitting (a .areas) (stateAt (a .q) (spot (a .pc .now) (a .height .now) (a .memory .now) (a .stack .now)))
+    let F = fitting (a .attributes) (stateAt (a .q) (spot (a .pc .now) (a .height .now) (a .memory .now) (a .stack .now)))
     (pre .1 .1 .1 .1) in (
       F .within,
       (
         F .height,
-        small-global (a .areas) (a .q) (spot (a .pc .now) (a .height .now) (a .memory .now) (a .stack .now))
+        small-global (a .attributes) (a .q) (spot (a .pc .now) (a .height .now) (a .memory .now) (a .stack .now))
             (pre .1 .1 .1 .1) (a .b % 16) (digit-small (a .b)),
       ),
     )
@@ -143,7 +143,7 @@ returns-5 c =
     let match = earlier .match in
     let a = earlier .before .before .before .before .before .args in
     let pre = earlier .before .before .before .before .before .pre in
-    store-two-global-arm (a .code .now) (a .areas) (a .q) (a .pc .now) (a .height .now) (a .memory .now) (a .stack .now)
+    store-two-global-arm (a .code .now) (a .attributes) (a .q) (a .pc .now) (a .height .now) (a .memory .now) (a .stack .now)
     (pre .1 .1 .1 .1)
     (store-two2 .result) (spot (store-two2 .last .1 .1 .1 .0) (store-two2 .last .1 .1 .1 .1 .0) (store-two2 .last .1 .0)
     (a .stack .now))
@@ -156,7 +156,7 @@ store-two-popped-requires : tie.Need-store-two-popped-requires
 store-two-popped-requires c κs =
     let a = c .before .before .before .before .before .before .before .before .before .args in
     let pre = c .before .before .before .before .before .before .before .before .before .pre in
-    reaches (a .areas) (a .q) (spot (a .pc .now) (a .height .now) (a .memory .now) (a .stack .now)) (pre .1 .1 .1 .1)
+    reaches (a .attributes) (a .q) (spot (a .pc .now) (a .height .now) (a .memory .now) (a .stack .now)) (pre .1 .1 .1 .1)
     (a .b % 16) (digit-small (a .b))
 
 returns-6 : tie.Need-returns-6
@@ -166,7 +166,7 @@ returns-6 c =
     let match = earlier .match in
     let a = earlier .before .before .before .before .before .args in
     let pre = earlier .before .before .before .before .before .pre in
-    store-two-popped-arm (a .code .now) (a .areas) (a .q) (a .pc .now) (a .height .now) (a .memory .now) (a .stack .now)
+    store-two-popped-arm (a .code .now) (a .attributes) (a .q) (a .pc .now) (a .height .now) (a .memory .now) (a .stack .now)
     (pre .1 .1 .1 .1)
     (store-two-popped .result) (spot (store-two-popped .last .1 .1 .1 .1 .0) (store-two-popped .last .1 .1 .1 .1 .1 .0)
     (store-two-popped .last .1 .1 .0) (a .stack .now))

@@ -10,7 +10,7 @@ iter-requires : tie.Need-iter-requires
 iter-requires c κs =
     let a = c .before .before .before .before .before .before .before .before .args in
     let pre = c .before .before .before .before .before .before .before .before .pre in
-    let F = fitting (a .areas) (stateAt (a .q) (spot (a .pc .now) (a .height .now) (a .memory .now) (a .stack .now)))
+    let F = fitting (a .attributes) (stateAt (a .q) (spot (a .pc .now) (a .height .now) (a .memory .now) (a .stack .now)))
     (pre .1 .1 .1) in
     (pre .0, (pre .1 .0, (F .height, (F .within, pre .1 .1 .1))))
 
@@ -18,7 +18,7 @@ next-requires : tie.Need-next-requires
 next-requires c κs =
     let a = c .before .before .before .before .before .before .before .before .args in
     let pre = c .before .before .before .before .before .before .before .before .pre in
-    let F = fitting (a .areas) (stateAt (a .q) (spot (a .pc .now) (a .height .now) (a .memory .now) (a .stack .now)))
+    let F = fitting (a .attributes) (stateAt (a .q) (spot (a .pc .now) (a .height .now) (a .memory .now) (a .stack .now)))
     (pre .1 .1 .1) in
     (pre .1 .0, (F .height, (F .within, pre .1 .1 .1)))
 
@@ -26,7 +26,7 @@ jump-step-requires : tie.Need-jump-step-requires
 jump-step-requires c κs =
     let a = c .before .before .before .before .before .before .before .args in
     let pre = c .before .before .before .before .before .before .before .pre in
-    let F = fitting (a .areas) (stateAt (a .q) (spot (a .pc .now) (a .height .now) (a .memory .now) (a .stack .now)))
+    let F = fitting (a .attributes) (stateAt (a .q) (spot (a .pc .now) (a .height .now) (a .memory .now) (a .stack .now)))
     (pre .1 .1 .1) in
     (pre .0, (pre .1 .0, F .height))
 
@@ -50,7 +50,7 @@ returns-3 c =
     let jump-step = c .before .before .jump-step in
     let a = c .before .before .before .before .before .before .before .before .before .before .args in
     let pre = c .before .before .before .before .before .before .before .before .before .before .pre in
-    jump-step .ensures (a .memory .now) (a .areas) (a .q) (pre .1 .1 .1) (sym (pre .1 .1 .0))
+    jump-step .ensures (a .memory .now) (a .attributes) (a .q) (pre .1 .1 .1) (sym (pre .1 .1 .0))
 
 pub flow-step-spec : {M : Type 1} → statement M
 flow-step-spec =

@@ -12,19 +12,19 @@ use Rattle.fast_loop.proofs.data_steps.Statement.{statement}
 use Rattle.fast_loop.proofs.data_steps.Tie as tie
 
 abbrev Inv-loop : tie.InvT-loop
-Inv-loop code areas q memory₀ stack₀ pc₀ height₀ budget left₀ limit memory stack pc height left =
-    (limit ≡ length code - 1) × Reaching (program code areas) (stateAt q (spot pc₀ height₀ memory₀ stack₀)) budget left
+Inv-loop code attributes q memory₀ stack₀ pc₀ height₀ budget left₀ limit memory stack pc height left =
+    (limit ≡ length code - 1) × Reaching (program code attributes) (stateAt q (spot pc₀ height₀ memory₀ stack₀)) budget left
     (stateAt q (spot pc height memory stack))
 
 abbrev μ-loop : tie.MeasureT-loop
-μ-loop code areas q memory₀ stack₀ pc₀ height₀ budget left₀ limit memory stack pc height left = left
+μ-loop code attributes q memory₀ stack₀ pc₀ height₀ budget left₀ limit memory stack pc height left = left
 
 returns : tie.Need-returns Inv-loop μ-loop
 returns c =
     let a = c .before .before .before .before .args in
     let pre = c .before .before .before .before .pre in (
       pre .1 .0,
-      ahead-start (program (a .code .now) (a .areas))
+      ahead-start (program (a .code .now) (a .attributes))
           (stateAt (a .q) (spot (a .pc .now) (a .height .now) (a .memory .now) (a .stack .now))) (a .budget) (pre .1 .1),
     )
 
@@ -33,7 +33,7 @@ loop-holds c =
     let a = c .before .before .before .before .args in
     let pre = c .before .before .before .before .pre in (
       refl,
-      reaching-start (program (a .code .now) (a .areas))
+      reaching-start (program (a .code .now) (a .attributes))
           (stateAt (a .q) (spot (a .pc .now) (a .height .now) (a .memory .now) (a .stack .now))) (a .budget) (pre .1 .1)
           (pre .1 .0),
     )
@@ -82,7 +82,7 @@ returns-3 c =
     let loop = earlier .loop in
     let a = earlier .before .before .before .before .before .args in
     let r =
-    reaching-same (program (a .code .now) (a .areas))
+    reaching-same (program (a .code .now) (a .attributes))
     (stateAt (a .q) (spot (a .pc .now) (a .height .now) (a .memory .now) (a .stack .now))) (a .budget) (loop .left)
     (stateAt (a .q) (spot (loop .pc) (loop .height) (loop .memory) (loop .stack))) (loop .inv .1)
     (stateAt (a .q)
@@ -113,7 +113,7 @@ loop-again c =
     let a = earlier .before .before .before .before .before .before .args in
     let pre = earlier .before .before .before .before .before .before .pre in (
       loop .inv .0,
-      reaching-next (program (a .code .now) (a .areas))
+      reaching-next (program (a .code .now) (a .attributes))
           (stateAt (a .q) (spot (a .pc .now) (a .height .now) (a .memory .now) (a .stack .now))) (a .budget) (loop .left)
           (stateAt (a .q) (spot (loop .pc) (loop .height) (loop .memory) (loop .stack))) (loop .inv .1) (loop-test .taken)
           (pre .0)

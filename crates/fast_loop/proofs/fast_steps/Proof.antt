@@ -14,12 +14,14 @@ use Rattle.fast_loop.proofs.fast_steps.Statement.{statement}
 use Rattle.fast_loop.proofs.fast_steps.Tie as tie
 
 abbrev Inv-loop : tie.InvT-loop
-Inv-loop code areas memory₀ stack₀ budget pc₀ fp₀ mp₀ gp height₀ calls₀ left₀ count memory stack pc fp mp height calls left =
-    (count ≡ entryCount code) × Reaching (program code areas) (framed pc₀ fp₀ mp₀ gp height₀ calls₀ memory₀ stack₀) budget left
+Inv-loop code attributes memory₀ stack₀ budget pc₀ fp₀ mp₀ gp height₀ calls₀ left₀ count memory stack pc fp mp height calls left =
+    (count ≡ entryCount code) × Reaching (program code attributes) (framed pc₀ fp₀ mp₀ gp height₀ calls₀ memory₀ stack₀)
+    budget left
     (framed pc fp mp gp height calls memory stack)
 
 abbrev μ-loop : tie.MeasureT-loop
-μ-loop code areas memory₀ stack₀ budget pc₀ fp₀ mp₀ gp height₀ calls₀ left₀ count memory stack pc fp mp height calls left = left
+μ-loop code attributes memory₀ stack₀ budget pc₀ fp₀ mp₀ gp height₀ calls₀ left₀ count memory stack pc fp mp height calls
+    left = left
 
 -- What the inner loop reached.
 made : (c : tie.After-slice-known4 Inv-loop μ-loop)
@@ -27,7 +29,7 @@ made : (c : tie.After-slice-known4 Inv-loop μ-loop)
     .before .before .before .before .before .before .before .before .before .before .args in
     let loop = c .before .before .before .before .before .before .before .before .before .before .before .before .loop in
     let d = c .before .before .before .before .data-steps in
-    Reaching (program (a .code .now) (a .areas)) (state (a .q) (a .memory .now) (a .stack .now)) (a .budget) (d .result)
+    Reaching (program (a .code .now) (a .attributes)) (state (a .q) (a .memory .now) (a .stack .now)) (a .budget) (d .result)
     (framed (d .last .1 .1 .1 .1 .1 .0) (loop .fp) (loop .mp) (a .q .gp) (d .last .1 .1 .1 .1 .1 .1 .0) (loop .calls)
     (d .last .1 .1 .1 .0) (d .last .1 .1 .1 .1 .0))
 made c =
@@ -35,7 +37,7 @@ made c =
     .before .before .before .before .before .before .before .before .before .before .args in
     let loop = c .before .before .before .before .before .before .before .before .before .before .before .before .loop in
     let d = c .before .before .before .before .data-steps in
-    reaching-data (program (a .code .now) (a .areas)) (state (a .q) (a .memory .now) (a .stack .now)) (a .budget)
+    reaching-data (program (a .code .now) (a .attributes)) (state (a .q) (a .memory .now) (a .stack .now)) (a .budget)
     (loop .left) (loop .pc) (loop .fp) (loop .mp)
     (a .q .gp) (loop .height) (loop .calls) (loop .memory) (loop .stack)
     (c .before .before .before .before .before .before .before .before .before .before .reached-at .result .registers)
@@ -51,7 +53,7 @@ loop-holds c =
     let a = c .before .before .before .before .before .before .before .before .before .before .args in
     let pre = c .before .before .before .before .before .before .before .before .before .before .pre in (
       entry-count .ensures,
-      reaching-start (program (a .code .now) (a .areas))
+      reaching-start (program (a .code .now) (a .attributes))
           (state (a .q) (a .memory .now) (a .stack .now)) (a .budget) (pre .1) (struct-known .given .0 .fits),
     )
 
@@ -60,7 +62,7 @@ reached-at-requires c κs =
     let loop = c .before .loop in
     let a = c .before .before .before .before .before .before .before .before .before .before .before .before .args in
     let fits = c .before .before .before .before .before .before .before .before .before .before .before .before .fits in
-    reaching-words (program (a .code .now) (a .areas))
+    reaching-words (program (a .code .now) (a .attributes))
     (state (a .q) (a .memory .now) (a .stack .now)) (a .budget) (loop .left)
     (framed (loop .pc) (loop .fp) (loop .mp) (a .q .gp) (loop .height) (loop .calls)
     (loop .memory) (loop .stack)) (loop .inv .1) (fits .budget .fits)
@@ -76,7 +78,7 @@ data-steps-requires c κs =
       pre .0,
       (
         loop .inv .1 .small,
-        inner-fits (program (a .code .now) (a .areas))
+        inner-fits (program (a .code .now) (a .attributes))
             (state (a .q) (a .memory .now) (a .stack .now)) (a .budget) (loop .left) (loop .pc) (loop .fp) (loop .mp)
             (a .q .gp) (loop .height)
             (loop .calls) (loop .memory) (loop .stack) (reached-at .result .registers) (reached-at .ensures .1) (loop .inv .1),
@@ -90,7 +92,7 @@ reached-at-requires-2 c κs =
     let loop = earlier .loop in
     let a = earlier .before .before .before .before .before .before .before .before .before .before .before .args in
     let fits = earlier .before .before .before .before .before .before .before .before .before .before .before .fits in
-    reaching-words (program (a .code .now) (a .areas))
+    reaching-words (program (a .code .now) (a .attributes))
     (state (a .q) (a .memory .now) (a .stack .now)) (a .budget) (data-steps .result)
     (framed (data-steps .last .1 .1 .1 .1 .1 .0) (loop .fp) (loop .mp) (a .q .gp) (data-steps .last .1 .1 .1 .1 .1 .1 .0)
     (loop .calls)
@@ -126,7 +128,7 @@ reached-at-requires-3 c κs =
     let loop = first .loop in
     let a = first .before .before .before .before .before .before .before .before .before .before .before .args in
     let fits = first .before .before .before .before .before .before .before .before .before .before .before .fits in
-    let r = reaching-same (program (a .code .now) (a .areas))
+    let r = reaching-same (program (a .code .now) (a .attributes))
     (state (a .q) (a .memory .now) (a .stack .now)) (a .budget) (data-steps .result)
     (framed (data-steps .last .1 .1 .1 .1 .1 .0) (loop .fp) (loop .mp) (a .q .gp) (data-steps .last .1 .1 .1 .1 .1 .1 .0)
     (loop .calls)
@@ -136,7 +138,7 @@ reached-at-requires-3 c κs =
     (a .q .gp) (frame-step .last .1 .1 .1 .1 .1 .1 .1 .1 .0) (frame-step .last .1 .1 .1 .1 .1 .1 .1 .1 .1 .0)
     (frame-step .last .1 .1 .0) (frame-step .last .1 .1 .1 .0))
     (rw (not-true (frame-step .result) (if2 .taken)) at (frame-step .ensures)) in
-    reaching-words (program (a .code .now) (a .areas))
+    reaching-words (program (a .code .now) (a .attributes))
     (state (a .q) (a .memory .now) (a .stack .now)) (a .budget) (data-steps .result)
     (framed (frame-step .last .1 .1 .1 .1 .0) (frame-step .last .1 .1 .1 .1 .1 .0) (frame-step .last .1 .1 .1 .1 .1 .1 .0)
     (a .q .gp) (frame-step .last .1 .1 .1 .1 .1 .1 .1 .1 .0) (frame-step .last .1 .1 .1 .1 .1 .1 .1 .1 .1 .0)
@@ -167,7 +169,7 @@ returns-2 c =
     let first = earlier .before .before .before .before .before .before .before .before in
     let loop = first .loop in
     let a = first .before .before .before .before .before .before .before .before .before .before .before .args in
-    let r = reaching-same (program (a .code .now) (a .areas))
+    let r = reaching-same (program (a .code .now) (a .attributes))
     (state (a .q) (a .memory .now) (a .stack .now)) (a .budget) (data-steps .result)
     (framed (data-steps .last .1 .1 .1 .1 .1 .0) (loop .fp) (loop .mp) (a .q .gp) (data-steps .last .1 .1 .1 .1 .1 .1 .0)
     (loop .calls)
@@ -205,7 +207,7 @@ loop-again c =
     let a = first .before .before .before .before .before .before .before .before .before .before .before .args in
     let pre = first .before .before .before .before .before .before .before .before .before .before .before .pre in (
       loop .inv .0,
-      reaching-next (program (a .code .now) (a .areas))
+      reaching-next (program (a .code .now) (a .attributes))
           (state (a .q) (a .memory .now) (a .stack .now)) (a .budget) (data-steps .result)
           (framed (data-steps .last .1 .1 .1 .1 .1 .0) (loop .fp) (loop .mp) (a .q .gp)
           (data-steps .last .1 .1 .1 .1 .1 .1 .0) (loop .calls)
@@ -225,7 +227,7 @@ reached-at-requires-4 c κs =
     let loop = c .before .loop in
     let a = c .before .before .before .before .before .before .before .before .before .before .before .before .args in
     let fits = c .before .before .before .before .before .before .before .before .before .before .before .before .fits in
-    reaching-words (program (a .code .now) (a .areas))
+    reaching-words (program (a .code .now) (a .attributes))
     (state (a .q) (a .memory .now) (a .stack .now)) (a .budget) (loop .left)
     (framed (loop .pc) (loop .fp) (loop .mp) (a .q .gp) (loop .height) (loop .calls)
     (loop .memory) (loop .stack)) (loop .inv .1) (fits .budget .fits)

@@ -19,7 +19,7 @@ returns-2 c =
     let if2 = c .if2 in
     let sizes-taken = c .before .sizes-taken in
     let if1 = c .before .before .before .if1 in
-    let areas-in = c .before .before .before .before .before .areas-in in
+    let attributes-in = c .before .before .before .before .before .attributes-in in
     let reading2 = c .before .before .before .before .before .before .before .reading2 in
     let earlier = c .before .before .before .before .before .before .before .before .before in
     let read = earlier .read in
@@ -28,7 +28,7 @@ returns-2 c =
     let k = reading2 .given in
     let s = sym (read .ensures) ∙ k .1 in
     let t = sizes-taken in
-    let b = areas-in in
+    let b = attributes-in in
     load-sizes (a .r .now) (a .parameters .now) (a .memory .now) (a .stack .now) (k .0 .0) s (b .result) (t .result)
     (b .ensures) (t .ensures) (if1 .left) (not-true (t .result) (if2 .taken))
 
@@ -37,7 +37,7 @@ fill-requires c κs =
     let if2 = c .before .if2 in
     let sizes-taken = c .before .before .sizes-taken in
     let if1 = c .before .before .before .before .if1 in
-    let areas-in = c .before .before .before .before .before .before .areas-in in
+    let attributes-in = c .before .before .before .before .before .before .attributes-in in
     let earlier = c .before .before .before .before .before .before .before .before in
     let reading2 = earlier .reading2 in
     let read = earlier .before .before .read in
@@ -46,7 +46,7 @@ fill-requires c κs =
     let k = reading2 .given in
     let s = sym (read .ensures) ∙ k .1 in
     let t = sizes-taken in
-    let b = areas-in in (
+    let b = attributes-in in (
       sound-header (a .r .now) (k .0 .0) s .1,
       (
         load-globals (a .r .now) (a .parameters .now) (a .memory .now) (a .stack .now)
@@ -65,7 +65,7 @@ start-of-requires c κs =
     let sizes-taken = c .before .before .before .before .before .before .sizes-taken in
     let earlier = c .before .before .before .before .before .before .before .before in
     let if1 = earlier .if1 in
-    let areas-in = earlier .before .before .areas-in in
+    let attributes-in = earlier .before .before .attributes-in in
     let reading2 = earlier .before .before .before .before .reading2 in
     let read = earlier .before .before .before .before .before .before .read in
     let args = earlier .before .before .before .before .before .before .before .before .before .before .before .args in
@@ -73,7 +73,7 @@ start-of-requires c κs =
     let k = reading2 .given in
     let s = sym (read .ensures) ∙ k .1 in
     let t = sizes-taken in
-    let b = areas-in in
+    let b = attributes-in in
     load-frames (a .r .now) (a .parameters .now) (a .memory .now) (a .stack .now) (k .0 .0) s (b .result) (t .result)
     (b .ensures) (t .ensures) (if1 .left) (not-false (t .result) (if2 .left)) .1
 
@@ -93,7 +93,7 @@ returns-4 c =
     let sizes-taken = c .before .before .before .before .before .before .before .sizes-taken in
     let earlier = c .before .before .before .before .before .before .before .before .before in
     let if1 = earlier .if1 in
-    let areas-in = earlier .before .before .areas-in in
+    let attributes-in = earlier .before .before .attributes-in in
     let reading2 = earlier .before .before .before .before .reading2 in
     let read = earlier .before .before .before .before .before .before .read in
     let args = earlier .before .before .before .before .before .before .before .before .before .before .before .args in
@@ -101,7 +101,7 @@ returns-4 c =
     let k = reading2 .given in
     let s = sym (read .ensures) ∙ k .1 in
     let t = sizes-taken in
-    let b = areas-in in
+    let b = attributes-in in
     rw (start-of .ensures, code-of .ensures, b .ensures, sound-header (a .r .now) (k .0 .0) s .1, fill .ensures)
     (load-ready (a .r .now) (a .parameters .now) (a .memory .now) (a .stack .now) (k .0 .0) s (b .result) (t .result)
     (b .ensures) (t .ensures) (if1 .left) (not-false (t .result) (if2 .left)))

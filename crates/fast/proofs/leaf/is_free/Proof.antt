@@ -12,7 +12,7 @@ returns c =
     let is-plain = c .before .is-plain in
     let a = c .before .before .before .before .args in
     let pre = c .before .before .before .before .pre in
-    rw (plain-free (a .areas) (a .q) (a .memory .now) (a .a) (pre .0) (sym (is-plain .ensures) ∙ if1 .taken))
+    rw (plain-free (a .attributes) (a .q) (a .memory .now) (a .a) (pre .0) (sym (is-plain .ensures) ∙ if1 .taken))
 
 returns-2 : tie.Need-returns-2
 returns-2 c =
@@ -21,7 +21,7 @@ returns-2 c =
     let is-plain = c .before .before .before .before .is-plain in
     let a = c .before .before .before .before .before .before .before .args in
     let pre = c .before .before .before .before .before .before .before .pre in
-    rw (plain-kept (a .areas) (a .q) (a .memory .now) (a .a) (pre .0)
+    rw (plain-kept (a .attributes) (a .q) (a .memory .now) (a .a) (pre .0)
     (sym (is-plain .ensures) ∙ if1 .left) (if2 .taken))
 
 returns-3 : tie.Need-returns-3
@@ -30,7 +30,7 @@ returns-3 c =
     let if2 = c .before .before .before .if2 in
     let a = c .before .before .before .before .before .before .before .before .before .before .args in
     let pre = c .before .before .before .before .before .before .before .before .before .before .pre in
-    rw (is-link .ensures, framed (a .areas) (a .q) (a .memory .now) (a .a) (pre .0) (if2 .left))
+    rw (is-link .ensures, framed (a .attributes) (a .q) (a .memory .now) (a .a) (pre .0) (if2 .left))
 
 is-link-requires : tie.Need-is-link-requires
 is-link-requires c κs = search needs

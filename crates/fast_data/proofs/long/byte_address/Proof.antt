@@ -18,7 +18,7 @@ cast-push-2 c =
     let a = c .before .before .before .before .before .before .before .before .before .before .before .args in
     let pre = c .before .before .before .before .before .before .before .before .before .before .before .pre in
     record {
-      fits = small-local (a .areas) (a .q) (spot (a .pc .now) (a .height .now) (a .memory .now) (a .stack .now)) (pre .1 .1)
+      fits = small-local (a .attributes) (a .q) (spot (a .pc .now) (a .height .now) (a .memory .now) (a .stack .now)) (pre .1 .1)
           (byte-at .result) (byte-small (byte-at .result) (byte-at .ok));
     }
 
@@ -32,14 +32,14 @@ returns-2 c =
     let if1 = earlier .before .if1 in
     let a = earlier .before .before .before .before .before .before .args in
     let pre = earlier .before .before .before .before .before .before .pre in
-    address-local-arm (a .code .now) (a .areas) (a .q) (a .pc .now) (a .height .now) (a .memory .now) (a .stack .now)
+    address-local-arm (a .code .now) (a .attributes) (a .q) (a .pc .now) (a .height .now) (a .memory .now) (a .stack .now)
     (pre .1 .1)
     (push .result) (spot (push .last .1 .0) (push .last .1 .1 .0) (a .memory .now) (push .last .0))
     (a .pc .now + 2) (if1 .left) (byte-at .result)
     (byte-form (a .code .now) (a .pc .now) normal _ Normal _ 0x8D _
     (started (a .code .now) (a .pc .now) 0x8D (sym (pre .1 .0) ∙ match .keys1) refl)
     (sym (pre .1 .0) ∙ match .keys1) refl refl (byte-at .ensures) (if1 .left))
-    (small-local (a .areas) (a .q) (spot (a .pc .now) (a .height .now) (a .memory .now) (a .stack .now)) (pre .1 .1)
+    (small-local (a .attributes) (a .q) (spot (a .pc .now) (a .height .now) (a .memory .now) (a .stack .now)) (pre .1 .1)
     (byte-at .result) (byte-small (byte-at .result) (byte-at .ok)))
     (push .ensures (a .memory .now))
 
@@ -49,7 +49,7 @@ cast-push-4 c =
     let a = c .before .before .before .before .before .before .before .before .before .before .before .args in
     let pre = c .before .before .before .before .before .before .before .before .before .before .before .pre in
     record {
-      fits = small-global (a .areas) (a .q) (spot (a .pc .now) (a .height .now) (a .memory .now) (a .stack .now)) (pre .1 .1)
+      fits = small-global (a .attributes) (a .q) (spot (a .pc .now) (a .height .now) (a .memory .now) (a .stack .now)) (pre .1 .1)
           (byte-at .result) (byte-small (byte-at .result) (byte-at .ok));
     }
 
@@ -63,14 +63,14 @@ returns-3 c =
     let if1 = earlier .before .if1 in
     let a = earlier .before .before .before .before .before .before .args in
     let pre = earlier .before .before .before .before .before .before .pre in
-    address-global-arm (a .code .now) (a .areas) (a .q) (a .pc .now) (a .height .now) (a .memory .now) (a .stack .now)
+    address-global-arm (a .code .now) (a .attributes) (a .q) (a .pc .now) (a .height .now) (a .memory .now) (a .stack .now)
     (pre .1 .1)
     (push2 .result) (spot (push2 .last .1 .0) (push2 .last .1 .1 .0) (a .memory .now) (push2 .last .0))
     (a .pc .now + 2) (if1 .left) (byte-at .result)
     (byte-form (a .code .now) (a .pc .now) normal _ Normal _ 0x8E _
     (started (a .code .now) (a .pc .now) 0x8E (sym (pre .1 .0) ∙ match .keys2) refl)
     (sym (pre .1 .0) ∙ match .keys2) refl refl (byte-at .ensures) (if1 .left))
-    (small-global (a .areas) (a .q) (spot (a .pc .now) (a .height .now) (a .memory .now) (a .stack .now)) (pre .1 .1)
+    (small-global (a .attributes) (a .q) (spot (a .pc .now) (a .height .now) (a .memory .now) (a .stack .now)) (pre .1 .1)
     (byte-at .result) (byte-small (byte-at .result) (byte-at .ok)))
     (push2 .ensures (a .memory .now))
 
@@ -79,7 +79,7 @@ address-popped-requires c κs =
     let byte-at = c .before .before .before .before .byte-at in
     let a = c .before .before .before .before .before .before .before .before .before .before .args in
     let pre = c .before .before .before .before .before .before .before .before .before .before .pre in (
-      fitting (a .areas) (stateAt (a .q) (spot (a .pc .now) (a .height .now) (a .memory .now) (a .stack .now))) (pre .1 .1)
+      fitting (a .attributes) (stateAt (a .q) (spot (a .pc .now) (a .height .now) (a .memory .now) (a .stack .now))) (pre .1 .1)
           .height,
       (byte-small (byte-at .result) (byte-at .ok)),
     )
@@ -94,7 +94,7 @@ returns-4 c =
     let if1 = earlier .if1 in
     let a = earlier .before .before .before .before .before .args in
     let pre = earlier .before .before .before .before .before .pre in
-    address-popped-arm (a .code .now) (a .areas) (a .q) (a .pc .now) (a .height .now) (a .memory .now) (a .stack .now)
+    address-popped-arm (a .code .now) (a .attributes) (a .q) (a .pc .now) (a .height .now) (a .memory .now) (a .stack .now)
     (pre .1 .1)
     (address-popped .result)
     (spot (address-popped .last .1 .0) (address-popped .last .1 .1 .0) (a .memory .now) (address-popped .last .0))
@@ -112,7 +112,7 @@ cast-push-6 c =
     let pre = c .before .before .before .before .before .before .before .before .before .before .before .pre in
     record {
       fits = rw (word-at .ensures)
-          (small-constant (a .areas) (a .q) (spot (a .pc .now) (a .height .now) (a .memory .now) (a .stack .now)) (pre .1 .1)
+          (small-constant (a .attributes) (a .q) (spot (a .pc .now) (a .height .now) (a .memory .now) (a .stack .now)) (pre .1 .1)
           (byte-at .result) (byte-small (byte-at .result) (byte-at .ok)));
     }
 
@@ -127,14 +127,14 @@ returns-5 c =
     let if1 = earlier .before .if1 in
     let a = earlier .before .before .before .before .before .before .args in
     let pre = earlier .before .before .before .before .before .before .pre in
-    address-constant-arm (a .code .now) (a .areas) (a .q) (a .pc .now) (a .height .now) (a .memory .now) (a .stack .now)
+    address-constant-arm (a .code .now) (a .attributes) (a .q) (a .pc .now) (a .height .now) (a .memory .now) (a .stack .now)
     (pre .1 .1)
     (push3 .result) (spot (push3 .last .1 .0) (push3 .last .1 .1 .0) (a .memory .now) (push3 .last .0))
     (a .pc .now + 2) (if1 .left) (byte-at .result)
     (byte-form (a .code .now) (a .pc .now) normal _ Normal _ 0x92 _
     (started (a .code .now) (a .pc .now) 0x92 (sym (pre .1 .0) ∙ match .keys4) refl)
     (sym (pre .1 .0) ∙ match .keys4) refl refl (byte-at .ensures) (if1 .left))
-    (small-constant (a .areas) (a .q) (spot (a .pc .now) (a .height .now) (a .memory .now) (a .stack .now)) (pre .1 .1)
+    (small-constant (a .attributes) (a .q) (spot (a .pc .now) (a .height .now) (a .memory .now) (a .stack .now)) (pre .1 .1)
     (byte-at .result) (byte-small (byte-at .result) (byte-at .ok)))
     (rw (word-at .ensures) at (push3 .ensures (a .memory .now)))
 

@@ -18,7 +18,7 @@ load-requires : tie.Need-load-requires
 load-requires c κs =
     let a = c .before .before .before .before .before .before .before .before .before .before .before .before .args in
     let pre = c .before .before .before .before .before .before .before .before .before .before .before .before .pre in
-    fitting (a .areas) (stateAt (a .q) (spot (a .pc .now) (a .height .now) (a .memory .now) (a .stack .now))) (pre .1 .1)
+    fitting (a .attributes) (stateAt (a .q) (spot (a .pc .now) (a .height .now) (a .memory .now) (a .stack .now))) (pre .1 .1)
     .within
 
 returns-2 : tie.Need-returns-2
@@ -32,7 +32,7 @@ returns-2 c =
     let if1 = earlier .before .before .if1 in
     let a = earlier .before .before .before .before .before .before .before .args in
     let pre = earlier .before .before .before .before .before .before .before .pre in
-    load-constant-arm (a .code .now) (a .areas) (a .q) (a .pc .now) (a .height .now) (a .memory .now) (a .stack .now)
+    load-constant-arm (a .code .now) (a .attributes) (a .q) (a .pc .now) (a .height .now) (a .memory .now) (a .stack .now)
     (pre .1 .1)
     (load .result) (spot (load .last .1 .1 .0) (load .last .1 .1 .1 .0) (a .memory .now) (load .last .1 .0))
     (a .pc .now + 2) (if1 .left) (byte-at .result)
@@ -52,7 +52,7 @@ returns-3 c =
     let if1 = earlier .before .if1 in
     let a = earlier .before .before .before .before .before .before .args in
     let pre = earlier .before .before .before .before .before .before .pre in
-    constant-arm (a .code .now) (a .areas) (a .q) (a .pc .now) (a .height .now) (a .memory .now) (a .stack .now)
+    constant-arm (a .code .now) (a .attributes) (a .q) (a .pc .now) (a .height .now) (a .memory .now) (a .stack .now)
     (pre .1 .1)
     (push .result) (spot (push .last .1 .0) (push .last .1 .1 .0) (a .memory .now) (push .last .0))
     (a .pc .now + 2) (if1 .left) (extend-byte .result)
@@ -66,7 +66,7 @@ load-requires-2 : tie.Need-load-requires-2
 load-requires-2 c κs =
     let a = c .before .before .before .before .before .before .before .before .before .before .before .before .args in
     let pre = c .before .before .before .before .before .before .before .before .before .before .before .before .pre in
-    fitting (a .areas) (stateAt (a .q) (spot (a .pc .now) (a .height .now) (a .memory .now) (a .stack .now))) (pre .1 .1)
+    fitting (a .attributes) (stateAt (a .q) (spot (a .pc .now) (a .height .now) (a .memory .now) (a .stack .now))) (pre .1 .1)
     .within
 
 returns-4 : tie.Need-returns-4
@@ -79,7 +79,7 @@ returns-4 c =
     let if1 = earlier .before .before .if1 in
     let a = earlier .before .before .before .before .before .before .before .args in
     let pre = earlier .before .before .before .before .before .before .before .pre in
-    load-local-arm (a .code .now) (a .areas) (a .q) (a .pc .now) (a .height .now) (a .memory .now) (a .stack .now)
+    load-local-arm (a .code .now) (a .attributes) (a .q) (a .pc .now) (a .height .now) (a .memory .now) (a .stack .now)
     (pre .1 .1)
     (load2 .result) (spot (load2 .last .1 .1 .0) (load2 .last .1 .1 .1 .0) (a .memory .now) (load2 .last .1 .0))
     (a .pc .now + 2) (if1 .left) (byte-at .result)
@@ -92,7 +92,7 @@ load-requires-3 : tie.Need-load-requires-3
 load-requires-3 c κs =
     let a = c .before .before .before .before .before .before .before .before .before .before .before .before .args in
     let pre = c .before .before .before .before .before .before .before .before .before .before .before .before .pre in
-    fitting (a .areas) (stateAt (a .q) (spot (a .pc .now) (a .height .now) (a .memory .now) (a .stack .now))) (pre .1 .1)
+    fitting (a .attributes) (stateAt (a .q) (spot (a .pc .now) (a .height .now) (a .memory .now) (a .stack .now))) (pre .1 .1)
     .within
 
 returns-5 : tie.Need-returns-5
@@ -105,7 +105,7 @@ returns-5 c =
     let if1 = earlier .before .before .if1 in
     let a = earlier .before .before .before .before .before .before .before .args in
     let pre = earlier .before .before .before .before .before .before .before .pre in
-    load-global-arm (a .code .now) (a .areas) (a .q) (a .pc .now) (a .height .now) (a .memory .now) (a .stack .now)
+    load-global-arm (a .code .now) (a .attributes) (a .q) (a .pc .now) (a .height .now) (a .memory .now) (a .stack .now)
     (pre .1 .1)
     (load3 .result) (spot (load3 .last .1 .1 .0) (load3 .last .1 .1 .1 .0) (a .memory .now) (load3 .last .1 .0))
     (a .pc .now + 2) (if1 .left) (byte-at .result)
@@ -119,7 +119,7 @@ load-popped-requires c κs =
     let byte-at = c .before .before .before .before .before .byte-at in
     let a = c .before .before .before .before .before .before .before .before .before .before .before .args in
     let pre = c .before .before .before .before .before .before .before .before .before .before .before .pre in
-    let F = fitting (a .areas) (stateAt (a .q) (spot (a .pc .now) (a .height .now) (a .memory .now) (a .stack .now)))
+    let F = fitting (a .attributes) (stateAt (a .q) (spot (a .pc .now) (a .height .now) (a .memory .now) (a .stack .now)))
     (pre .1 .1) in
     (F .within, (F .height, (byte-small (byte-at .result) (byte-at .ok))))
 
@@ -133,7 +133,7 @@ returns-6 c =
     let if1 = earlier .before .if1 in
     let a = earlier .before .before .before .before .before .before .args in
     let pre = earlier .before .before .before .before .before .before .pre in
-    load-popped-arm (a .code .now) (a .areas) (a .q) (a .pc .now) (a .height .now) (a .memory .now) (a .stack .now)
+    load-popped-arm (a .code .now) (a .attributes) (a .q) (a .pc .now) (a .height .now) (a .memory .now) (a .stack .now)
     (pre .1 .1)
     (load-popped .result)
     (spot (load-popped .last .1 .1 .0) (load-popped .last .1 .1 .1 .0) (a .memory .now) (load-popped .last .1 .0))

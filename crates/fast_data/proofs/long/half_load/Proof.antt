@@ -22,7 +22,7 @@ load-requires c κs =
     .args in
     let pre = c .before .before .before .before .before .before .before .before .before .before .before .before .before
     .before .pre in
-    fitting (a .areas) (stateAt (a .q) (spot (a .pc .now) (a .height .now) (a .memory .now) (a .stack .now))) (pre .1 .1)
+    fitting (a .attributes) (stateAt (a .q) (spot (a .pc .now) (a .height .now) (a .memory .now) (a .stack .now))) (pre .1 .1)
     .within
 
 returns-2 : tie.Need-returns-2
@@ -36,7 +36,7 @@ returns-2 c =
     let if1 = earlier .before .before .before .before .if1 in
     let a = earlier .before .before .before .before .before .before .before .before .before .args in
     let pre = earlier .before .before .before .before .before .before .before .before .before .pre in
-    load-constant-arm (a .code .now) (a .areas) (a .q) (a .pc .now) (a .height .now) (a .memory .now) (a .stack .now)
+    load-constant-arm (a .code .now) (a .attributes) (a .q) (a .pc .now) (a .height .now) (a .memory .now) (a .stack .now)
     (pre .1 .1)
     (load .result) (spot (load .last .1 .1 .0) (load .last .1 .1 .1 .0) (a .memory .now) (load .last .1 .0))
     (a .pc .now + 3) (if1 .left) (pair .result)
@@ -56,7 +56,7 @@ returns-3 c =
     let if1 = earlier .before .before .before .if1 in
     let a = earlier .before .before .before .before .before .before .before .before .args in
     let pre = earlier .before .before .before .before .before .before .before .before .pre in
-    constant-arm (a .code .now) (a .areas) (a .q) (a .pc .now) (a .height .now) (a .memory .now) (a .stack .now)
+    constant-arm (a .code .now) (a .attributes) (a .q) (a .pc .now) (a .height .now) (a .memory .now) (a .stack .now)
     (pre .1 .1)
     (push .result) (spot (push .last .1 .0) (push .last .1 .1 .0) (a .memory .now) (push .last .0))
     (a .pc .now + 3) (if1 .left) (extend-halfword .result)
@@ -71,7 +71,7 @@ load-popped-requires c κs =
     let pair = c .before .before .before .before .before .pair in
     let a = c .before .before .before .before .before .before .before .before .before .before .before .before .before .args in
     let pre = c .before .before .before .before .before .before .before .before .before .before .before .before .before .pre in
-    let F = fitting (a .areas) (stateAt (a .q) (spot (a .pc .now) (a .height .now) (a .memory .now) (a .stack .now)))
+    let F = fitting (a .attributes) (stateAt (a .q) (spot (a .pc .now) (a .height .now) (a .memory .now) (a .stack .now)))
     (pre .1 .1) in
     (F .within, (F .height, (pair .ok)))
 
@@ -85,7 +85,7 @@ returns-4 c =
     let if1 = earlier .before .before .before .if1 in
     let a = earlier .before .before .before .before .before .before .before .before .args in
     let pre = earlier .before .before .before .before .before .before .before .before .pre in
-    load-popped-arm (a .code .now) (a .areas) (a .q) (a .pc .now) (a .height .now) (a .memory .now) (a .stack .now)
+    load-popped-arm (a .code .now) (a .attributes) (a .q) (a .pc .now) (a .height .now) (a .memory .now) (a .stack .now)
     (pre .1 .1)
     (load-popped .result)
     (spot (load-popped .last .1 .1 .0) (load-popped .last .1 .1 .1 .0) (a .memory .now) (load-popped .last .1 .0))
@@ -100,7 +100,7 @@ address-popped-requires c κs =
     let pair = c .before .before .before .before .pair in
     let a = c .before .before .before .before .before .before .before .before .before .before .before .before .args in
     let pre = c .before .before .before .before .before .before .before .before .before .before .before .before .pre in (
-      fitting (a .areas) (stateAt (a .q) (spot (a .pc .now) (a .height .now) (a .memory .now) (a .stack .now))) (pre .1 .1)
+      fitting (a .attributes) (stateAt (a .q) (spot (a .pc .now) (a .height .now) (a .memory .now) (a .stack .now))) (pre .1 .1)
           .height,
       (pair .ok),
     )
@@ -115,7 +115,7 @@ returns-5 c =
     let if1 = earlier .if1 in
     let a = earlier .before .before .before .before .before .args in
     let pre = earlier .before .before .before .before .before .pre in
-    address-popped-arm (a .code .now) (a .areas) (a .q) (a .pc .now) (a .height .now) (a .memory .now) (a .stack .now)
+    address-popped-arm (a .code .now) (a .attributes) (a .q) (a .pc .now) (a .height .now) (a .memory .now) (a .stack .now)
     (pre .1 .1)
     (address-popped .result)
     (spot (address-popped .last .1 .0) (address-popped .last .1 .1 .0) (a .memory .now) (address-popped .last .0))
@@ -133,7 +133,7 @@ cast-push-2 c =
     let pre = c .before .before .before .before .before .before .before .before .before .before .before .before .before .pre in
     record {
       fits = rw (word-at2 .ensures)
-          (small-constant (a .areas) (a .q) (spot (a .pc .now) (a .height .now) (a .memory .now) (a .stack .now)) (pre .1 .1)
+          (small-constant (a .attributes) (a .q) (spot (a .pc .now) (a .height .now) (a .memory .now) (a .stack .now)) (pre .1 .1)
           (pair .result) (pair .ok));
     }
 
@@ -148,14 +148,14 @@ returns-6 c =
     let if1 = earlier .before .before .before .if1 in
     let a = earlier .before .before .before .before .before .before .before .before .args in
     let pre = earlier .before .before .before .before .before .before .before .before .pre in
-    address-constant-arm (a .code .now) (a .areas) (a .q) (a .pc .now) (a .height .now) (a .memory .now) (a .stack .now)
+    address-constant-arm (a .code .now) (a .attributes) (a .q) (a .pc .now) (a .height .now) (a .memory .now) (a .stack .now)
     (pre .1 .1)
     (push2 .result) (spot (push2 .last .1 .0) (push2 .last .1 .1 .0) (a .memory .now) (push2 .last .0))
     (a .pc .now + 3) (if1 .left) (pair .result)
     (half-form (a .code .now) (a .pc .now) normal _ Normal _ 0x93 _
     (started (a .code .now) (a .pc .now) 0x93 (sym (pre .1 .0) ∙ match .keys5) refl)
     (sym (pre .1 .0) ∙ match .keys5) refl refl (pair .ensures) (if1 .left))
-    (small-constant (a .areas) (a .q) (spot (a .pc .now) (a .height .now) (a .memory .now) (a .stack .now)) (pre .1 .1)
+    (small-constant (a .attributes) (a .q) (spot (a .pc .now) (a .height .now) (a .memory .now) (a .stack .now)) (pre .1 .1)
     (pair .result) (pair .ok))
     (rw (word-at2 .ensures) at (push2 .ensures (a .memory .now)))
 

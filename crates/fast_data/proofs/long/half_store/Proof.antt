@@ -17,7 +17,7 @@ store-popped-requires c κs =
     let pair = c .before .before .before .pair in
     let a = c .before .before .before .before .before .before .before .before .before .before .before .args in
     let pre = c .before .before .before .before .before .before .before .before .before .before .before .pre in
-    reaches (a .areas) (a .q) (spot (a .pc .now) (a .height .now) (a .memory .now) (a .stack .now)) (pre .1 .1)
+    reaches (a .attributes) (a .q) (spot (a .pc .now) (a .height .now) (a .memory .now) (a .stack .now)) (pre .1 .1)
     (pair .result) (pair .ok)
 
 returns-2 : tie.Need-returns-2
@@ -29,7 +29,7 @@ returns-2 c =
     let if1 = earlier .before .before .before .if1 in
     let a = earlier .before .before .before .before .before .before .before .before .args in
     let pre = earlier .before .before .before .before .before .before .before .before .pre in
-    store-popped-arm (a .code .now) (a .areas) (a .q) (a .pc .now) (a .height .now) (a .memory .now) (a .stack .now)
+    store-popped-arm (a .code .now) (a .attributes) (a .q) (a .pc .now) (a .height .now) (a .memory .now) (a .stack .now)
     (pre .1 .1)
     (store-popped .result)
     (spot (store-popped .last .1 .1 .1 .1 .0) (store-popped .last .1 .1 .1 .1 .1 .0) (store-popped .last .1 .1 .0)

@@ -17,7 +17,7 @@ swap-requires : tie.Need-swap-requires
 swap-requires c κs =
     let a = c .before .before .before .before .before .before .before .args in
     let pre = c .before .before .before .before .before .before .before .pre in
-    fitting (a .areas) (stateAt (a .q) (spot (a .pc .now) (a .height .now) (a .memory .now) (a .stack .now))) (pre .1 .1)
+    fitting (a .attributes) (stateAt (a .q) (spot (a .pc .now) (a .height .now) (a .memory .now) (a .stack .now))) (pre .1 .1)
     .height
 
 returns : tie.Need-returns
@@ -26,7 +26,7 @@ returns c =
     let swap = c .before .before .swap in
     let a = c .before .before .before .before .before .before .before .before .before .before .args in
     let pre = c .before .before .before .before .before .before .before .before .before .before .pre in
-    swap-arm (a .code .now) (a .areas) (a .q) (a .pc .now) (a .height .now) (a .memory .now) (a .stack .now) (pre .1 .1)
+    swap-arm (a .code .now) (a .attributes) (a .q) (a .pc .now) (a .height .now) (a .memory .now) (a .stack .now) (pre .1 .1)
     (swap .result) (spot (swap .last .1 .0) (swap .last .1 .1 .0) (a .memory .now) (swap .last .0))
     (a .pc .now + 1) (pre .0)
     (long-form (a .code .now) (a .pc .now) none normal _ Normal _ _ 0x9F _

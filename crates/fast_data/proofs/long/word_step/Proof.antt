@@ -26,7 +26,7 @@ returns-2 c =
     let a = earlier .before .before .before .before .before .before .before .before .args in
     let pre = earlier .before .before .before .before .before .before .before .before .pre in
     let same : join .result ≡ wordAt (a .code .now) (a .pc .now + 1) = rw (join .ensures, pair .ensures, pair2 .ensures) refl in
-    constant-arm (a .code .now) (a .areas) (a .q) (a .pc .now) (a .height .now) (a .memory .now) (a .stack .now) (pre .1 .1)
+    constant-arm (a .code .now) (a .attributes) (a .q) (a .pc .now) (a .height .now) (a .memory .now) (a .stack .now) (pre .1 .1)
     (push .result) (spot (push .last .1 .0) (push .last .1 .1 .0) (a .memory .now) (push .last .0))
     (a .pc .now + 5) (omega (arith, if1 .left)) (join .result)
     (long-form (a .code .now) (a .pc .now) (signed word) normal _ Normal _ _ 0x84 _

@@ -21,8 +21,8 @@ returns c =
     let match = c .before .before .before .before .before .before .match in
     let a = c .before .before .before .before .before .before .before .before .before .before .before .args in
     let pre = c .before .before .before .before .before .before .before .before .before .before .before .pre in
-    constant-arm (a .code .now) (a .areas) (a .q) (a .pc .now) (a .height .now) (a .memory .now) (a .stack .now) (pre .1 .1 .1)
-    (push .result) (spot (push .last .1 .0) (push .last .1 .1 .0) (a .memory .now) (push .last .0))
+    constant-arm (a .code .now) (a .attributes) (a .q) (a .pc .now) (a .height .now) (a .memory .now) (a .stack .now)
+    (pre .1 .1 .1) (push .result) (spot (push .last .1 .0) (push .last .1 .1 .0) (a .memory .now) (push .last .0))
     (a .pc .now + 1) (pre .0) (a .b % 16)
     (short-form (a .code .now) (a .pc .now) normal _ Normal _ (a .b) 0 (at-once (λ z. omega (arith, pre .1 .0, pre .1 .1 .0)))
     (pre .1 .0) (pre .1 .1 .0) (match .keys1) refl refl (pre .0))
@@ -32,7 +32,7 @@ load-requires : tie.Need-load-requires
 load-requires c κs =
     let a = c .before .before .before .before .before .before .before .before .before .before .before .args in
     let pre = c .before .before .before .before .before .before .before .before .before .before .before .pre in
-    fitting (a .areas) (stateAt (a .q) (spot (a .pc .now) (a .height .now) (a .memory .now) (a .stack .now))) (pre .1 .1 .1)
+    fitting (a .attributes) (stateAt (a .q) (spot (a .pc .now) (a .height .now) (a .memory .now) (a .stack .now))) (pre .1 .1 .1)
     .within
 
 returns-2 : tie.Need-returns-2
@@ -42,7 +42,7 @@ returns-2 c =
     let match = earlier .match in
     let a = earlier .before .before .before .before .before .args in
     let pre = earlier .before .before .before .before .before .pre in
-    load-local-arm (a .code .now) (a .areas) (a .q) (a .pc .now) (a .height .now) (a .memory .now) (a .stack .now)
+    load-local-arm (a .code .now) (a .attributes) (a .q) (a .pc .now) (a .height .now) (a .memory .now) (a .stack .now)
     (pre .1 .1 .1)
     (load .result) (spot (load .last .1 .1 .0) (load .last .1 .1 .1 .0) (a .memory .now) (load .last .1 .0))
     (a .pc .now + 1) (pre .0) (a .b % 16)
@@ -54,7 +54,7 @@ load-requires-2 : tie.Need-load-requires-2
 load-requires-2 c κs =
     let a = c .before .before .before .before .before .before .before .before .before .before .before .args in
     let pre = c .before .before .before .before .before .before .before .before .before .before .before .pre in
-    fitting (a .areas) (stateAt (a .q) (spot (a .pc .now) (a .height .now) (a .memory .now) (a .stack .now))) (pre .1 .1 .1)
+    fitting (a .attributes) (stateAt (a .q) (spot (a .pc .now) (a .height .now) (a .memory .now) (a .stack .now))) (pre .1 .1 .1)
     .within
 
 returns-3 : tie.Need-returns-3
@@ -64,7 +64,7 @@ returns-3 c =
     let match = earlier .match in
     let a = earlier .before .before .before .before .before .args in
     let pre = earlier .before .before .before .before .before .pre in
-    load-global-arm (a .code .now) (a .areas) (a .q) (a .pc .now) (a .height .now) (a .memory .now) (a .stack .now)
+    load-global-arm (a .code .now) (a .attributes) (a .q) (a .pc .now) (a .height .now) (a .memory .now) (a .stack .now)
     (pre .1 .1 .1)
     (load2 .result) (spot (load2 .last .1 .1 .0) (load2 .last .1 .1 .1 .0) (a .memory .now) (load2 .last .1 .0))
     (a .pc .now + 1) (pre .0) (a .b % 16)
@@ -76,7 +76,7 @@ load-popped-requires : tie.Need-load-popped-requires
 load-popped-requires c κs =
     let a = c .before .before .before .before .before .before .before .before .before .before .args in
     let pre = c .before .before .before .before .before .before .before .before .before .before .pre in
-    let F = fitting (a .areas) (stateAt (a .q) (spot (a .pc .now) (a .height .now) (a .memory .now) (a .stack .now)))
+    let F = fitting (a .attributes) (stateAt (a .q) (spot (a .pc .now) (a .height .now) (a .memory .now) (a .stack .now)))
     (pre .1 .1 .1) in
     (F .within, (F .height, (digit-small (a .b))))
 
@@ -87,7 +87,7 @@ returns-4 c =
     let match = earlier .match in
     let a = earlier .before .before .before .before .before .args in
     let pre = earlier .before .before .before .before .before .pre in
-    load-popped-arm (a .code .now) (a .areas) (a .q) (a .pc .now) (a .height .now) (a .memory .now) (a .stack .now)
+    load-popped-arm (a .code .now) (a .attributes) (a .q) (a .pc .now) (a .height .now) (a .memory .now) (a .stack .now)
     (pre .1 .1 .1)
     (load-popped .result) (spot (load-popped .last .1 .1 .0) (load-popped .last .1 .1 .1 .0) (a .memory .now)
     (load-popped .last .1 .0))
@@ -100,7 +100,7 @@ store-requires : tie.Need-store-requires
 store-requires c κs =
     let a = c .before .before .before .before .before .before .before .before .before .before .before .before .args in
     let pre = c .before .before .before .before .before .before .before .before .before .before .before .before .pre in
-    let F = fitting (a .areas) (stateAt (a .q) (spot (a .pc .now) (a .height .now) (a .memory .now) (a .stack .now)))
+    let F = fitting (a .attributes) (stateAt (a .q) (spot (a .pc .now) (a .height .now) (a .memory .now) (a .stack .now)))
     (pre .1 .1 .1) in
     (F .within, F .height)
 
@@ -111,7 +111,7 @@ returns-5 c =
     let match = earlier .match in
     let a = earlier .before .before .before .before .before .args in
     let pre = earlier .before .before .before .before .before .pre in
-    store-local-arm (a .code .now) (a .areas) (a .q) (a .pc .now) (a .height .now) (a .memory .now) (a .stack .now)
+    store-local-arm (a .code .now) (a .attributes) (a .q) (a .pc .now) (a .height .now) (a .memory .now) (a .stack .now)
     (pre .1 .1 .1)
     (store .result) (spot (store .last .1 .1 .1 .0) (store .last .1 .1 .1 .1 .0) (store .last .1 .0) (a .stack .now))
     (a .pc .now + 1) (pre .0) (a .b % 16)
@@ -123,7 +123,7 @@ store-requires-2 : tie.Need-store-requires-2
 store-requires-2 c κs =
     let a = c .before .before .before .before .before .before .before .before .before .before .before .before .args in
     let pre = c .before .before .before .before .before .before .before .before .before .before .before .before .pre in
-    let F = fitting (a .areas) (stateAt (a .q) (spot (a .pc .now) (a .height .now) (a .memory .now) (a .stack .now)))
+    let F = fitting (a .attributes) (stateAt (a .q) (spot (a .pc .now) (a .height .now) (a .memory .now) (a .stack .now)))
     (pre .1 .1 .1) in
     (F .within, F .height)
 
@@ -134,7 +134,7 @@ returns-6 c =
     let match = earlier .match in
     let a = earlier .before .before .before .before .before .args in
     let pre = earlier .before .before .before .before .before .pre in
-    store-global-arm (a .code .now) (a .areas) (a .q) (a .pc .now) (a .height .now) (a .memory .now) (a .stack .now)
+    store-global-arm (a .code .now) (a .attributes) (a .q) (a .pc .now) (a .height .now) (a .memory .now) (a .stack .now)
     (pre .1 .1 .1)
     (store2 .result) (spot (store2 .last .1 .1 .1 .0) (store2 .last .1 .1 .1 .1 .0) (store2 .last .1 .0) (a .stack .now))
     (a .pc .now + 1) (pre .0) (a .b % 16)
@@ -146,7 +146,7 @@ store-popped-requires : tie.Need-store-popped-requires
 store-popped-requires c κs =
     let a = c .before .before .before .before .before .before .before .before .before .args in
     let pre = c .before .before .before .before .before .before .before .before .before .pre in
-    reaches (a .areas) (a .q) (spot (a .pc .now) (a .height .now) (a .memory .now) (a .stack .now)) (pre .1 .1 .1)
+    reaches (a .attributes) (a .q) (spot (a .pc .now) (a .height .now) (a .memory .now) (a .stack .now)) (pre .1 .1 .1)
     (a .b % 16) (digit-small (a .b))
 
 returns-7 : tie.Need-returns-7
@@ -156,7 +156,7 @@ returns-7 c =
     let match = earlier .match in
     let a = earlier .before .before .before .before .before .args in
     let pre = earlier .before .before .before .before .before .pre in
-    store-popped-arm (a .code .now) (a .areas) (a .q) (a .pc .now) (a .height .now) (a .memory .now) (a .stack .now)
+    store-popped-arm (a .code .now) (a .attributes) (a .q) (a .pc .now) (a .height .now) (a .memory .now) (a .stack .now)
     (pre .1 .1 .1)
     (store-popped .result)
     (spot (store-popped .last .1 .1 .1 .1 .0) (store-popped .last .1 .1 .1 .1 .1 .0) (store-popped .last .1 .1 .0)

@@ -32,8 +32,9 @@ returns-3 c =
     let pc = a .pc .now in
     let m = a .memory .now in
     let s = a .stack .now in
-    iter-skips (program code (a .areas)) (a .q) pc (a .height .now) m s (pc + 3) _ refl (pre .1 .1 .0) _
-    (stands code (a .areas) pc 0xE0 (unsigned halfword) _ 3 refl refl (omega arith) (omega arith) (omega (arith, if1 .left)) k)
+    iter-skips (program code (a .attributes)) (a .q) pc (a .height .now) m s (pc + 3) _ refl (pre .1 .1 .0) _
+    (stands code (a .attributes) pc 0xE0 (unsigned halfword) _ 3 refl refl (omega arith) (omega arith)
+    (omega (arith, if1 .left)) k)
     (if2 .left) (sym (is-beyond .ensures) ∙ if3 .taken) (go .result) (spot (go .last .0) (go .last .1 .0) m s)
     (rw (place-from .ensures, half .ensures) at (go .ensures m s))
 
@@ -55,7 +56,7 @@ returns-6 c =
     let pre = first .before .before .before .before .before .before .before .before .before .before .before .before .pre in
     λ k.
     let code = a .code .now in
-    let A = a .areas in
+    let A = a .attributes in
     let pc = a .pc .now in
     let h = a .height .now in
     let m = a .memory .now in

@@ -39,7 +39,7 @@ returns-4 c =
     let pre = first .before .before .before .before .before .before .before .before .pre in
     λ k.
     let code = a .code .now in
-    let A = a .areas in
+    let A = a .attributes in
     let q = a .q in
     let pc = a .pc .now in
     let h = a .height .now in

@@ -14,7 +14,7 @@ mul-top : tie.Need-mul-top
 mul-top c =
     let a = c .before .before .args in
     let pre = c .before .before .pre in
-    let F = fitting (a .areas)
+    let F = fitting (a .attributes)
     (framed (a .pc .now) (a .fp) (a .mp .now) (a .gp) (a .height) (a .calls) (a .memory .now) (a .stack .now))
     (pre .1 .1 .1) in
     record { fits = omega (arith, F .height, F .deep) }
@@ -24,7 +24,7 @@ slice-read-top c =
     let if1 = c .before .before .if1 in
     let a = c .before .before .before .args in
     let pre = c .before .before .before .pre in
-    let F = fitting (a .areas)
+    let F = fitting (a .attributes)
     (framed (a .pc .now) (a .fp) (a .mp .now) (a .gp) (a .height) (a .calls) (a .memory .now) (a .stack .now))
     (pre .1 .1 .1) in
     omega (arith, F .height, if1 .left)
@@ -40,7 +40,7 @@ add-top c =
     let slice-known = c .slice-known in
     let a = c .before .before .before .args in
     let pre = c .before .before .before .pre in
-    let F = fitting (a .areas)
+    let F = fitting (a .attributes)
     (framed (a .pc .now) (a .fp) (a .mp .now) (a .gp) (a .height) (a .calls) (a .memory .now) (a .stack .now))
     (pre .1 .1 .1) in
     record { fits = omega (arith, F .within, F .room, slice-known .given (a .height - 1) .fits) }
@@ -49,7 +49,7 @@ cast-stack : tie.Need-cast-stack
 cast-stack c =
     let a = c .before .before .before .before .args in
     let pre = c .before .before .before .before .pre in
-    let F = fitting (a .areas)
+    let F = fitting (a .attributes)
     (framed (a .pc .now) (a .fp) (a .mp .now) (a .gp) (a .height) (a .calls) (a .memory .now) (a .stack .now))
     (pre .1 .1 .1) in
     record { fits = omega (arith, F .within, F .room) }
@@ -58,7 +58,7 @@ mul-stack : tie.Need-mul-stack
 mul-stack c =
     let a = c .before .before .before .before .args in
     let pre = c .before .before .before .before .pre in
-    let F = fitting (a .areas)
+    let F = fitting (a .attributes)
     (framed (a .pc .now) (a .fp) (a .mp .now) (a .gp) (a .height) (a .calls) (a .memory .now) (a .stack .now))
     (pre .1 .1 .1) in
     record { fits = omega (arith, F .height, F .deep) }
@@ -68,7 +68,7 @@ slice-write-stack c =
     let if1 = c .before .before .before .if1 in
     let a = c .before .before .before .before .args in
     let pre = c .before .before .before .before .pre in
-    let F = fitting (a .areas)
+    let F = fitting (a .attributes)
     (framed (a .pc .now) (a .fp) (a .mp .now) (a .gp) (a .height) (a .calls) (a .memory .now) (a .stack .now))
     (pre .1 .1 .1) in
     omega (arith, F .height, if1 .left)
@@ -79,10 +79,10 @@ returns-3 c =
     let if1 = c .before .before .before .if1 in
     let a = c .before .before .before .before .args in
     let pre = c .before .before .before .before .pre in
-    let F = fitting (a .areas)
+    let F = fitting (a .attributes)
     (framed (a .pc .now) (a .fp) (a .mp .now) (a .gp) (a .height) (a .calls) (a .memory .now) (a .stack .now))
     (pre .1 .1 .1) in
-    alloc-done (program (a .code .now) (a .areas)) (a .pc .now) (a .fp) (a .mp .now) (a .gp)
+    alloc-done (program (a .code .now) (a .attributes)) (a .pc .now) (a .fp) (a .mp .now) (a .gp)
     (a .height) (a .calls) (a .memory .now) (a .stack .now) F (a .next) _ (pre .1 .1 .0) (omega (arith, if1 .left)) refl
     (if2 .left) (pre .1 .0)
 

@@ -14,7 +14,7 @@ mul-size : tie.Need-mul-size
 mul-size c =
     let a = c .before .before .before .args in
     let pre = c .before .before .before .pre in
-    let F = fitting (a .areas)
+    let F = fitting (a .attributes)
     (framed (a .pc .now) (a .fp) (a .mp .now) (a .gp) (a .height .now) (a .calls) (a .memory .now) (a .stack .now))
     (pre .1 .1 .1) in
     record { fits = omega (arith, F .height, F .deep) }
@@ -24,7 +24,7 @@ shared-slice-read-size c =
     let if1 = c .before .before .if1 in
     let a = c .before .before .before .before .args in
     let pre = c .before .before .before .before .pre in
-    let F = fitting (a .areas)
+    let F = fitting (a .attributes)
     (framed (a .pc .now) (a .fp) (a .mp .now) (a .gp) (a .height .now) (a .calls) (a .memory .now) (a .stack .now))
     (pre .1 .1 .1) in
     omega (arith, F .height, if1 .left)
@@ -40,7 +40,7 @@ add-if2 c =
     let shared-slice-known = c .shared-slice-known in
     let a = c .before .before .before .before .args in
     let pre = c .before .before .before .before .pre in
-    let F = fitting (a .areas)
+    let F = fitting (a .attributes)
     (framed (a .pc .now) (a .fp) (a .mp .now) (a .gp) (a .height .now) (a .calls) (a .memory .now) (a .stack .now))
     (pre .1 .1 .1) in
     record { fits = omega (arith, F .frame, F .within, F .room, shared-slice-known .given (a .height .now - 1) .fits) }
@@ -51,10 +51,10 @@ returns-3 c =
     let if1 = c .before .before .before .if1 in
     let a = c .before .before .before .before .before .args in
     let pre = c .before .before .before .before .before .pre in
-    let F = fitting (a .areas)
+    let F = fitting (a .attributes)
     (framed (a .pc .now) (a .fp) (a .mp .now) (a .gp) (a .height .now) (a .calls) (a .memory .now) (a .stack .now))
     (pre .1 .1 .1) in
-    free-done (program (a .code .now) (a .areas)) (a .pc .now) (a .fp) (a .mp .now) (a .gp)
+    free-done (program (a .code .now) (a .attributes)) (a .pc .now) (a .fp) (a .mp .now) (a .gp)
     (a .height .now) (a .calls) (a .memory .now) (a .stack .now) F (a .next) _ (pre .1 .1 .0)
     (omega (arith, if1 .left)) refl (if2 .left) (pre .1 .0)
 

@@ -14,7 +14,7 @@ add-if4 : tie.Need-add-if4
 add-if4 c =
     let a = c .before .before .before .before .before .before .before .before .args in
     let pre = c .before .before .before .before .before .before .before .before .pre in
-    let F = fitting (a .areas)
+    let F = fitting (a .attributes)
     (framed (a .pc .now) (a .fp .now) (a .mp .now) (a .gp) (a .height) (a .calls .now) (a .memory .now) (a .stack .now))
     (pre .1 .1 .1 .1) in
     record { fits = omega (arith, F .within, F .room) }
@@ -25,7 +25,7 @@ cast-memory c =
     .before .before .args in
     let pre = c .before .before .before .before .before .before .before .before .before .before .before .before .before
     .before .before .pre in
-    let F = fitting (a .areas)
+    let F = fitting (a .attributes)
     (framed (a .pc .now) (a .fp .now) (a .mp .now) (a .gp) (a .height) (a .calls .now) (a .memory .now) (a .stack .now))
     (pre .1 .1 .1 .1) in
     record { fits = omega (arith, F .frame, F .within, F .room) }
@@ -50,10 +50,10 @@ returns-7 c =
     let if1 = earlier .before .before .before .if1 in
     let a = earlier .before .before .before .before .before .before .before .args in
     let pre = earlier .before .before .before .before .before .before .before .pre in
-    let F = fitting (a .areas)
+    let F = fitting (a .attributes)
     (framed (a .pc .now) (a .fp .now) (a .mp .now) (a .gp) (a .height) (a .calls .now) (a .memory .now) (a .stack .now))
     (pre .1 .1 .1 .1) in
-    call-done (program (a .code .now) (a .areas)) (a .pc .now) (a .fp .now) (a .mp .now) (a .gp)
+    call-done (program (a .code .now) (a .attributes)) (a .pc .now) (a .fp .now) (a .mp .now) (a .gp)
     (a .height) (a .calls .now) (a .memory .now) (a .stack .now) F (a .next) (a .p) (pre .1 .1 .1 .0) (if1 .left)
     (omega (arith, pre .1 .0, if2 .left))
     (if3 .left) (omega (arith, if4 .left)) (pair .result) (pair .ensures ∙ sym (entry-bytes (a .code .now) (a .p))) (if6 .left)

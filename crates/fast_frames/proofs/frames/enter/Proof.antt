@@ -12,7 +12,7 @@ add-top : tie.Need-add-top
 add-top c =
     let a = c .before .before .before .before .before .before .args in
     let pre = c .before .before .before .before .before .before .pre in
-    let F = fitting (a .areas)
+    let F = fitting (a .attributes)
     (framed (a .pc .now) (a .fp) (a .mp .now) (a .gp) (a .height .now) (a .calls) (a .memory .now) (a .stack .now))
     (pre .1 .1 .1 .1 .1) in
     record { fits = omega (arith, F .within, F .room, pre .1 .0) }
@@ -21,7 +21,7 @@ add-top-2 : tie.Need-add-top-2
 add-top-2 c =
     let a = c .before .before .before .before .before .before .args in
     let pre = c .before .before .before .before .before .before .pre in
-    let F = fitting (a .areas)
+    let F = fitting (a .attributes)
     (framed (a .pc .now) (a .fp) (a .mp .now) (a .gp) (a .height .now) (a .calls) (a .memory .now) (a .stack .now))
     (pre .1 .1 .1 .1 .1) in
     record { fits = omega (arith, F .within, F .room, pre .1 .0, pre .1 .1 .0) }
@@ -32,7 +32,7 @@ copy-words-requires c κs =
     let if1 = c .before .before .before .if1 in
     let a = c .before .before .before .before .before .before .before .before .args in
     let pre = c .before .before .before .before .before .before .before .before .pre in
-    let F = fitting (a .areas)
+    let F = fitting (a .attributes)
     (framed (a .pc .now) (a .fp) (a .mp .now) (a .gp) (a .height .now) (a .calls) (a .memory .now) (a .stack .now))
     (pre .1 .1 .1 .1 .1) in
     (omega (arith, if2 .left), omega (arith, if1 .left, F .height))
@@ -44,11 +44,11 @@ returns-3 c =
     let if1 = c .before .before .before .before .before .before .if1 in
     let a = c .before .before .before .before .before .before .before .before .before .before .before .args in
     let pre = c .before .before .before .before .before .before .before .before .before .before .before .pre in
-    let F = fitting (a .areas)
+    let F = fitting (a .attributes)
     (framed (a .pc .now) (a .fp) (a .mp .now) (a .gp) (a .height .now) (a .calls) (a .memory .now) (a .stack .now))
     (pre .1 .1 .1 .1 .1) in
     rw (copy-words .ensures)
-    (enter-done (program (a .code .now) (a .areas)) (a .pc .now) (a .fp) (a .mp .now) (a .gp)
+    (enter-done (program (a .code .now) (a .attributes)) (a .pc .now) (a .fp) (a .mp .now) (a .gp)
     (a .height .now) (a .calls) (a .memory .now) (a .stack .now) F (a .next) (a .parameters) (a .locals)
     (pre .1 .1 .1 .1 .0) (if1 .left) (if2 .left) (pre .1 .1 .1 .0))
 

@@ -14,12 +14,12 @@ sub-place c =
     let if1 = c .before .if1 in
     let a = c .before .before .before .args in
     let pre = c .before .before .before .pre in
-    let F = fitting (a .areas)
+    let F = fitting (a .attributes)
     (framed (a .pc .now) (a .fp .now) (a .mp .now) (a .gp) (a .height) (a .calls .now) (a .memory .now) (a .stack .now))
     (pre .1 .1) in
     omega (
       arith,
-      linked (program (a .code .now) (a .areas)) (a .pc .now) (a .fp .now) (a .mp .now) (a .gp)
+      linked (program (a .code .now) (a .attributes)) (a .pc .now) (a .fp .now) (a .mp .now) (a .gp)
           (a .height) (a .calls .now) (a .memory .now) (a .stack .now) F (if1 .left),
     )
 
@@ -39,7 +39,7 @@ mul-place : tie.Need-mul-place
 mul-place c =
     let a = c .before .before .before .args in
     let pre = c .before .before .before .pre in
-    let F = fitting (a .areas)
+    let F = fitting (a .attributes)
     (framed (a .pc .now) (a .fp .now) (a .mp .now) (a .gp) (a .height) (a .calls .now) (a .memory .now) (a .stack .now))
     (pre .1 .1) in
     record { fits = omega (arith, F .frame, F .within, F .room) }
@@ -48,7 +48,7 @@ mul-fp : tie.Need-mul-fp
 mul-fp c =
     let a = c .before .before .before .before .before .args in
     let pre = c .before .before .before .before .before .pre in
-    let F = fitting (a .areas)
+    let F = fitting (a .attributes)
     (framed (a .pc .now) (a .fp .now) (a .mp .now) (a .gp) (a .height) (a .calls .now) (a .memory .now) (a .stack .now))
     (pre .1 .1) in
     record { fits = omega (arith, F .frame, F .within, F .room) }
@@ -58,12 +58,12 @@ shared-slice-read-place c =
     let if1 = c .before .before .if1 in
     let a = c .before .before .before .before .args in
     let pre = c .before .before .before .before .pre in
-    let F = fitting (a .areas)
+    let F = fitting (a .attributes)
     (framed (a .pc .now) (a .fp .now) (a .mp .now) (a .gp) (a .height) (a .calls .now) (a .memory .now) (a .stack .now))
     (pre .1 .1) in
     omega (
       arith,
-      linked (program (a .code .now) (a .areas)) (a .pc .now) (a .fp .now) (a .mp .now) (a .gp)
+      linked (program (a .code .now) (a .attributes)) (a .pc .now) (a .fp .now) (a .mp .now) (a .gp)
           (a .height) (a .calls .now) (a .memory .now) (a .stack .now) F (if1 .left),
       F .frame,
       F .within,
@@ -74,12 +74,12 @@ sub-mp c =
     let if1 = c .before .before .before .if1 in
     let a = c .before .before .before .before .before .args in
     let pre = c .before .before .before .before .before .pre in
-    let F = fitting (a .areas)
+    let F = fitting (a .attributes)
     (framed (a .pc .now) (a .fp .now) (a .mp .now) (a .gp) (a .height) (a .calls .now) (a .memory .now) (a .stack .now))
     (pre .1 .1) in
     omega (
       arith,
-      linked (program (a .code .now) (a .areas)) (a .pc .now) (a .fp .now) (a .mp .now) (a .gp)
+      linked (program (a .code .now) (a .attributes)) (a .pc .now) (a .fp .now) (a .mp .now) (a .gp)
           (a .height) (a .calls .now) (a .memory .now) (a .stack .now) F (if1 .left),
     )
 
@@ -88,12 +88,12 @@ sub-fp c =
     let if1 = c .before .before .before .if1 in
     let a = c .before .before .before .before .before .args in
     let pre = c .before .before .before .before .before .pre in
-    let F = fitting (a .areas)
+    let F = fitting (a .attributes)
     (framed (a .pc .now) (a .fp .now) (a .mp .now) (a .gp) (a .height) (a .calls .now) (a .memory .now) (a .stack .now))
     (pre .1 .1) in
     omega (
       arith,
-      linked (program (a .code .now) (a .areas)) (a .pc .now) (a .fp .now) (a .mp .now) (a .gp)
+      linked (program (a .code .now) (a .attributes)) (a .pc .now) (a .fp .now) (a .mp .now) (a .gp)
           (a .height) (a .calls .now) (a .memory .now) (a .stack .now) F (if1 .left),
     )
 
@@ -102,12 +102,12 @@ shared-slice-read-fp c =
     let if1 = c .before .before .before .before .if1 in
     let a = c .before .before .before .before .before .before .args in
     let pre = c .before .before .before .before .before .before .pre in
-    let F = fitting (a .areas)
+    let F = fitting (a .attributes)
     (framed (a .pc .now) (a .fp .now) (a .mp .now) (a .gp) (a .height) (a .calls .now) (a .memory .now) (a .stack .now))
     (pre .1 .1) in
     omega (
       arith,
-      linked (program (a .code .now) (a .areas)) (a .pc .now) (a .fp .now) (a .mp .now) (a .gp)
+      linked (program (a .code .now) (a .attributes)) (a .pc .now) (a .fp .now) (a .mp .now) (a .gp)
           (a .height) (a .calls .now) (a .memory .now) (a .stack .now) F (if1 .left),
       F .frame,
       F .within,
@@ -119,10 +119,10 @@ returns-3 c =
     let if1 = c .before .before .before .before .if1 in
     let a = c .before .before .before .before .before .before .args in
     let pre = c .before .before .before .before .before .before .pre in
-    let F = fitting (a .areas)
+    let F = fitting (a .attributes)
     (framed (a .pc .now) (a .fp .now) (a .mp .now) (a .gp) (a .height) (a .calls .now) (a .memory .now) (a .stack .now))
     (pre .1 .1) in
-    rtn-done (program (a .code .now) (a .areas)) (a .pc .now) (a .fp .now) (a .mp .now) (a .gp)
+    rtn-done (program (a .code .now) (a .attributes)) (a .pc .now) (a .fp .now) (a .mp .now) (a .gp)
     (a .height) (a .calls .now) (a .memory .now) (a .stack .now) F (a .next) (pre .1 .0) (if1 .left) (if2 .left)
 
 pub rtn-spec : {M : Type 1} → statement M

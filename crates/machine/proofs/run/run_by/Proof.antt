@@ -11,14 +11,14 @@ returns : tie.Need-returns
 returns c =
     let if1 = c .if1 in
     let state-fits = c .before .state-fits in
-    let areas-in = c .before .before .before .before .areas-in in
+    let attributes-in = c .before .before .before .before .attributes-in in
     let reading2 = c .before .before .before .before .before .before .reading2 in
     let earlier = c .before .before .before .before .before .before .before .before in
     let read = earlier .read in
     let a = earlier .before .before .before .before .args in
     let S = state (a .q) (a .memory .now) (a .stack .now) in
     let sound = sym (read .ensures) ∙ reading2 .given .1 in
-    run-unfit (a .r .now) (a .budget) S (reading2 .given .0 .0) sound (areas-in .result) (areas-in .ensures)
+    run-unfit (a .r .now) (a .budget) S (reading2 .given .0 .0) sound (attributes-in .result) (attributes-in .ensures)
     (state-fits .result) (state-fits .ensures) (not-true (state-fits .result) (if1 .taken))
 
 run-steps-requires : tie.Need-run-steps-requires
@@ -26,14 +26,14 @@ run-steps-requires c κs =
     let code-of = c .before .before .code-of in
     let if1 = c .before .before .before .if1 in
     let state-fits = c .before .before .before .before .state-fits in
-    let areas-in = c .before .before .before .before .before .before .before .areas-in in
+    let attributes-in = c .before .before .before .before .before .before .before .attributes-in in
     let earlier = c .before .before .before .before .before .before .before .before .before in
     let reading2 = earlier .reading2 in
     let read = earlier .before .before .read in
     let a = earlier .before .before .before .before .before .before .args in
     let S = state (a .q) (a .memory .now) (a .stack .now) in
     let sound = sym (read .ensures) ∙ reading2 .given .1 in (
-      run-code (a .r .now) (a .budget) S (reading2 .given .0 .0) sound (areas-in .result) (areas-in .ensures)
+      run-code (a .r .now) (a .budget) S (reading2 .given .0 .0) sound (attributes-in .result) (attributes-in .ensures)
           (state-fits .result) (state-fits .ensures) (code-of .result .now) (code-of .ensures),
       sym (state-fits .ensures) ∙ not-false (state-fits .result) (if1 .left),
     )
@@ -53,7 +53,7 @@ returns-3 c =
     let earlier = c .before .before .before .before .before .before .before .before in
     let if1 = earlier .if1 in
     let state-fits = earlier .before .state-fits in
-    let areas-in = earlier .before .before .before .before .areas-in in
+    let attributes-in = earlier .before .before .before .before .attributes-in in
     let reading2 = earlier .before .before .before .before .before .before .reading2 in
     let first = earlier .before .before .before .before .before .before .before .before in
     let read = first .read in
@@ -61,7 +61,7 @@ returns-3 c =
     let S = state (a .q) (a .memory .now) (a .stack .now) in
     let sound = sym (read .ensures) ∙ reading2 .given .1 in
     run-steps .ensures
-    ∙ run-done (a .r .now) (a .budget) S (reading2 .given .0 .0) sound (areas-in .result) (areas-in .ensures)
+    ∙ run-done (a .r .now) (a .budget) S (reading2 .given .0 .0) sound (attributes-in .result) (attributes-in .ensures)
     (state-fits .result) (state-fits .ensures) (not-false (state-fits .result) (if1 .left)) (code-of .result .now)
     (code-of .ensures)
 

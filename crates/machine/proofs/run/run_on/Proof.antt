@@ -11,18 +11,18 @@ use Rattle.machine.proofs.run.run_on.Statement.{statement}
 use Rattle.machine.proofs.run.run_on.Tie as tie
 
 abbrev Inv-loop : tie.InvT-loop
-Inv-loop code areas once budget done memory₀ stack₀ formats machine₀ steps₀ memory stack machine steps =
-    Running (program code areas) budget done (state (machine₀ .registers) memory₀ stack₀)
+Inv-loop code attributes once budget done memory₀ stack₀ formats machine₀ steps₀ memory stack machine steps =
+    Running (program code attributes) budget done (state (machine₀ .registers) memory₀ stack₀)
     (state (machine .registers) memory stack) steps
 
 abbrev μ-loop : tie.MeasureT-loop
-μ-loop code areas once budget done memory₀ stack₀ formats machine₀ steps₀ memory stack machine steps = budget - steps
+μ-loop code attributes once budget done memory₀ stack₀ formats machine₀ steps₀ memory stack machine steps = budget - steps
 
 loop-holds : tie.Need-loop-holds Inv-loop μ-loop
 loop-holds c =
     let a = c .before .before .before .before .args in
     let pre = c .before .before .before .before .pre in
-    running-start (program (a .code .now) (a .areas)) (a .budget) (a .done)
+    running-start (program (a .code .now) (a .attributes)) (a .budget) (a .done)
     (state (a .start .registers) (a .memory .now) (a .stack .now)) (pre .1 .0) (pre .1 .1)
 
 step-requires : tie.Need-step-requires Inv-loop μ-loop
@@ -42,7 +42,7 @@ fast-steps-requires c κs =
     let pre = earlier .before .before .before .before .before .before .before .before .before .before .pre in
     let r = left (step .result) (step .last .1 .1 .1 .1 .0) (step .last .1 .1 .1 .1 .1 .0) in (
       pre .0,
-      still-fits (program (a .code .now) (a .areas)) (a .budget) (a .done) _ _ (loop .steps)
+      still-fits (program (a .code .now) (a .attributes)) (a .budget) (a .done) _ _ (loop .steps)
           (loop .inv) r (loop-test .taken) (step .ensures),
     )
 
@@ -79,7 +79,7 @@ loop-again c =
     let loop = first .before .before .before .before .before .loop in
     let a = first .before .before .before .before .before .before .before .before .before .before .args in
     let r = left (step .result) (step .last .1 .1 .1 .1 .0) (step .last .1 .1 .1 .1 .1 .0) in
-    went (program (a .code .now) (a .areas)) (a .budget) (a .done) _ _ (loop .steps) (loop .inv) r
+    went (program (a .code .now) (a .attributes)) (a .budget) (a .done) _ _ (loop .steps) (loop .inv) r
     (loop-test .taken) (step .ensures) (enum-told .given .1) (lesser .result) (fast-steps .result .left) _ (lesser .ensures .1)
     (fast-steps .ensures)
     (fast-steps .kept .1 .1 .1 .0 ∙ step .kept .1 .1 .1 .1 .0) (fast-steps .kept .1 .1 .1 .1 .0 ∙ step .kept .1 .1 .1 .1 .1 .0)
@@ -95,7 +95,7 @@ returns c =
     let a = earlier .before .before .before .before .before .before .before .before .before .before .args in
     let r = left (step .result) (step .last .1 .1 .1 .1 .0) (step .last .1 .1 .1 .1 .1 .0) in
     rw (ended-at .ensures)
-    (finished (program (a .code .now) (a .areas)) (a .budget) (a .done) _ _ (loop .steps) (loop .inv) r
+    (finished (program (a .code .now) (a .attributes)) (a .budget) (a .done) _ _ (loop .steps) (loop .inv) r
     (loop-test .taken) (step .ensures) (enum-told2 .given .1))
 
 returns-2 : tie.Need-returns-2 Inv-loop μ-loop
@@ -109,7 +109,7 @@ returns-2 c =
     let a = earlier .before .before .before .before .before .before .before .before .before .before .args in
     let r = left (step .result) (step .last .1 .1 .1 .1 .0) (step .last .1 .1 .1 .1 .1 .0) in
     rw (ended-at2 .ensures)
-    (trapped (program (a .code .now) (a .areas)) (a .budget) (a .done) _ _ (loop .steps) (loop .inv) r
+    (trapped (program (a .code .now) (a .attributes)) (a .budget) (a .done) _ _ (loop .steps) (loop .inv) r
     (loop-test .taken) (step .ensures) (outcome .given .0 .0) (outcome .given .1))
 
 returns-3 : tie.Need-returns-3 Inv-loop μ-loop
@@ -119,7 +119,7 @@ returns-3 c =
     let loop = c .before .before .loop in
     let a = c .before .before .before .before .before .before .before .args in
     rw (ended-at3 .ensures)
-    (spent (program (a .code .now) (a .areas)) (a .budget) (a .done) _ _ (loop .steps) (loop .inv)
+    (spent (program (a .code .now) (a .attributes)) (a .budget) (a .done) _ _ (loop .steps) (loop .inv)
     (loop-test .left))
 
 pub run-on-spec : {M : Type 1} → statement M

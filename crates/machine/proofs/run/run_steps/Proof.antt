@@ -28,7 +28,7 @@ returns c =
     let lesser = earlier .before .before .before .lesser in
     let a = earlier .before .before .before .before .before .before .before .args in
     run-on .ensures
-    ∙ first-same (program (a .code .now) (a .areas)) (a .budget) (lesser .result) (fast-steps .result .left) _ _
+    ∙ first-same (program (a .code .now) (a .attributes)) (a .budget) (lesser .result) (fast-steps .result .left) _ _
     (lesser .ensures .1) (fast-steps .ensures)
 
 pub run-steps-spec : {M : Type 1} → statement M

@@ -10,14 +10,14 @@ returns c =
     let if1 = c .if1 in
     let a = c .before .before .args in
     let pre = c .before .before .pre in
-    sym (free-above (a .areas) (a .q) (a .m .now) (a .a) (pre) (if1 .taken))
+    sym (free-above (a .attributes) (a .q) (a .m .now) (a .a) (pre) (if1 .taken))
 
 returns-2 : tie.Need-returns-2
 returns-2 c =
     let if2 = c .if2 in
     let a = c .before .before .before .before .args in
     let pre = c .before .before .before .before .pre in
-    sym (header-only (a .areas) (a .q) (a .m .now) (a .a) (pre) (if2 .taken))
+    sym (header-only (a .attributes) (a .q) (a .m .now) (a .a) (pre) (if2 .taken))
 
 returns-3 : tie.Need-returns-3
 returns-3 c =
@@ -25,7 +25,7 @@ returns-3 c =
     let if2 = c .before .before .if2 in
     let a = c .before .before .before .before .before .before .args in
     let pre = c .before .before .before .before .before .before .pre in
-    sym (constant (a .areas) (a .q) (a .m .now) (a .a) (pre) (if2 .left) (if3 .taken))
+    sym (constant (a .attributes) (a .q) (a .m .now) (a .a) (pre) (if2 .left) (if3 .taken))
 
 returns-4 : tie.Need-returns-4
 returns-4 c =
@@ -33,7 +33,7 @@ returns-4 c =
     let if3 = c .before .if3 in
     let a = c .before .before .before .before .before .before .before .args in
     let pre = c .before .before .before .before .before .before .before .pre in
-    is-link .ensures ∙ sym (framed (a .areas) (a .q) (a .m .now) (a .a) (pre) (if3 .left))
+    is-link .ensures ∙ sym (framed (a .attributes) (a .q) (a .m .now) (a .a) (pre) (if3 .left))
 
 pub is-protected-spec : {M : Type 1} → statement M
 is-protected-spec =

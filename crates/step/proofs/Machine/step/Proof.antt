@@ -22,9 +22,10 @@ within c =
     let a = decode .before .before .before .before .before .before .before .args in
     ends (a .code .now) (length (a .code .now)) (a .self .registers .pc) (sym (decode .decode .ensures) ∙ c .decoded .given .1) .1
 
-fitted : (c : tie.Start) → Fitting (c .args .areas) (state (c .args .self .registers) (c .args .memory .now)
+fitted : (c : tie.Start) → Fitting (c .args .attributes) (state (c .args .self .registers) (c .args .memory .now)
     (c .args .stack .now))
-fitted c = fitting (c .args .areas) (state (c .args .self .registers) (c .args .memory .now) (c .args .stack .now)) (c .pre .1 .1)
+fitted c = fitting (c .args .attributes) (state (c .args .self .registers) (c .args .memory .now) (c .args .stack .now))
+    (c .pre .1 .1)
 
 returns : tie.Need-returns
 unfolding stepOf perform
