@@ -86,8 +86,8 @@ valueEffect q next pops (Word x) = pushEffect q next pops x
 valueEffect q next pops (Trap n) = trap n
 
 -- The operations on words: POP (Y); POP (X); PUSH (their value), or POP (X) alone.
-abbrev pub operateEffect : (q : Registers) (next : ℕ) (op : Operation) (x y : ℕ) → Effect
-operateEffect q next op x y = valueEffect q next (operands op) (operationValue op x y)
+abbrev pub operateEffect : (wraps : Bool) (q : Registers) (next : ℕ) (op : Operation) (x y : ℕ) → Effect
+operateEffect wraps q next op x y = valueEffect q next (operands op) (operationValue wraps op x y)
 
 -- 34 is "not a boolean".
 abbrev pub ifBoolean : ℕ → Effect → Effect

@@ -154,10 +154,10 @@ pub fn push_effect(q: Registers, next: u32, pops: u32, x: u32) -> Effect
 }
 
 // An operation on words.
-pub fn operate_effect(q: Registers, next: u32, op: Operation, x: u32, y: u32) -> Effect
-    ensures { λ e. ⌜ e ≡ operateEffect q next op x y ⌝ }
+pub fn operate_effect(wraps: bool, q: Registers, next: u32, op: Operation, x: u32, y: u32) -> Effect
+    ensures { λ e. ⌜ e ≡ operateEffect wraps q next op x y ⌝ }
 {
-    let value = operate::operation::operation_value(op, x, y);
+    let value = operate::operation::operation_value(wraps, op, x, y);
     match value {
         Value::Word(x) => push_effect(q, next, shape::operand_words(op), x),
         Value::Trap(n) => Effect::Trap(n),

@@ -150,7 +150,8 @@ module _ (P : Program) (S : State) (next : ℕ) where
   acts Swap = passes refl
   acts Nop = passes refl
   acts (Operate op) =
-      value-acts (operands op) (operationValue op (word S 0) (word S 1)) (operation-valued op (word S 0) (word S 1))
+      value-acts (operands op) (operationValue (P .attributes .wraps) op (word S 0) (word S 1))
+      (operation-valued (P .attributes .wraps) op (word S 0) (word S 1))
   acts Alloc =
       tested _ (leb (q .mp + word S 0) (length m)) _ 35 (data-number 35 refl refl)
       (λ l. resizes refl (λ f. omega arith) (λ f. leb-true (q .mp + word S 0) (length m) l))

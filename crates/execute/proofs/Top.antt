@@ -1,6 +1,7 @@
 -- The words that an instruction finds are those at their depths in the stack.
 use Prim.Native.Nat.{ℕ, _+_, _-_, _<_, _≤_}
 use mathlib.Core.Path.{_≡_, _∙_, refl, ap}
+use mathlib.Core.Bool.{Bool}
 use mathlib.Core.List.{List}
 use native.Mathlib.Omega.{arith}
 use lib.ListN.{drop}
@@ -43,19 +44,19 @@ two-found f s h l = rw (found s h 2 0 l (omega arith), found s h 2 1 l (omega ar
 one-found : (f : ℕ → Value) (s : List ℕ) (h : ℕ) → 1 ≤ h → f (read (topWords 1 h s) 0) ≡ f (read s (h - 1))
 one-found f s h l = ap f (top-found s h l)
 
-operation-found : (op : Operation) (s : List ℕ) (h : ℕ) → operands op ≤ h
+operation-found : (wraps : Bool) (op : Operation) (s : List ℕ) (h : ℕ) → operands op ≤ h
     → let ws = topWords (operands op) h s in
-    operationValue op (read ws 0) (read ws 1) ≡ operationValue op (read s (h - operands op)) (read s (h - 1))
+    operationValue wraps op (read ws 0) (read ws 1) ≡ operationValue wraps op (read s (h - operands op)) (read s (h - 1))
 unfolding operationValue
-operation-found (Signed op) = two-found (operationValue (Signed op))
-operation-found (Unsigned op) = two-found (operationValue (Unsigned op))
-operation-found Negate = one-found (λ x. operationValue Negate x 0)
-operation-found Equal = two-found (operationValue Equal)
-operation-found NotEqual = two-found (operationValue NotEqual)
-operation-found (CompareSigned order) = two-found (operationValue (CompareSigned order))
-operation-found (CompareUnsigned order) = two-found (operationValue (CompareUnsigned order))
-operation-found (Set op) = two-found (operationValue (Set op))
-operation-found Not = one-found (λ x. operationValue Not x 0)
+operation-found wraps (Signed op) = two-found (operationValue wraps (Signed op))
+operation-found wraps (Unsigned op) = two-found (operationValue wraps (Unsigned op))
+operation-found wraps Negate = one-found (λ x. operationValue wraps Negate x 0)
+operation-found wraps Equal = two-found (operationValue wraps Equal)
+operation-found wraps NotEqual = two-found (operationValue wraps NotEqual)
+operation-found wraps (CompareSigned order) = two-found (operationValue wraps (CompareSigned order))
+operation-found wraps (CompareUnsigned order) = two-found (operationValue wraps (CompareUnsigned order))
+operation-found wraps (Set op) = two-found (operationValue wraps (Set op))
+operation-found wraps Not = one-found (λ x. operationValue wraps Not x 0)
 
 base-found : (q : Registers) (m s : List ℕ) (base : Base) → popped base ≤ q .height
     → baseOf q m (read (topWords (popped base) (q .height) s) 0) base ≡ baseOf q m (read s (q .height - 1)) base
@@ -76,11 +77,11 @@ pub load-address-found : (q : Registers) (m s : List ℕ) (next : ℕ) (base : B
 unfolding loadAddressEffect
 load-address-found q m s next base n l = rw (base-found q m s base l)
 
-pub operate-found : (op : Operation) (q : Registers) (s : List ℕ) (next : ℕ) → operands op ≤ q .height
+pub operate-found : (wraps : Bool) (op : Operation) (q : Registers) (s : List ℕ) (next : ℕ) → operands op ≤ q .height
     → let ws = topWords (operands op) (q .height) s in
-    operateEffect q next op (read ws 0) (read ws 1)
-    ≡ operateEffect q next op (read s (q .height - operands op)) (read s (q .height - 1))
-operate-found op q s next l = rw (operation-found op s (q .height) l)
+    operateEffect wraps q next op (read ws 0) (read ws 1)
+    ≡ operateEffect wraps q next op (read s (q .height - operands op)) (read s (q .height - 1))
+operate-found wraps op q s next l = rw (operation-found wraps op s (q .height) l)
 
 -- The words of STOR, by their depth in the stack.
 abbrev pub storeAt : Program → Registers → List ℕ → List ℕ → ℕ → Base → Mode → ℕ → Effect

@@ -47,7 +47,8 @@ execute P S next (Store base mode n) =  -- [ val => ], STOR_F [ adr, val => ]
 execute P S next (Pop n) = Go n NoPush NoWrite (moved (S .registers) next)  -- [ val (,...) => ]
 execute P S next Swap = Go 2 (PushTwo (word S 1) (word S 0)) NoWrite (moved (S .registers) next)  -- [ val, val => val, val ]
 execute P S next Nop = Go 0 NoPush NoWrite (moved (S .registers) next)
-execute P S next (Operate op) = operateEffect (S .registers) next op (word S 0) (word S 1)  -- [ val, val => val ] or as in shape/specs/Counts
+execute P S next (Operate op) =  -- [ val, val => val ] or as in shape/specs/Counts
+    operateEffect (P .attributes .wraps) (S .registers) next op (word S 0) (word S 1)
 execute P S next Alloc = allocEffect (S .registers) (S .memory) next (word S 0)  -- [ size => adr ]
 execute P S next Free = freeEffect (S .registers) next (word S 0)  -- [ size => ]
 execute P S next (Jump d) = jumpEffect (S .registers) d  -- [ ]

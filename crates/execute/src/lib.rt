@@ -125,7 +125,7 @@ pub fn execute(
         Instruction::Nop => control::jump_to(q, 0, next),
         Instruction::Operate(op) => {
             let x = peek(s, q, shape::operand_words(op));
-            data::operate_effect(q, next, op, x, peek(s, q, 1))
+            data::operate_effect(attributes.wraps, q, next, op, x, peek(s, q, 1))
         }
         Instruction::Alloc => data::alloc_effect(q, m, next, peek(s, q, 1)),
         Instruction::Free => data::free_effect(q, next, peek(s, q, 1)),

@@ -21,10 +21,14 @@ abbrev pub Does : Bool → (size : ℕ) → Instruction → (next : ℕ) (T T' :
 Does b size i next T T' =
     (P : Program) (q : Registers) → length (P .code) ≡ size → Decodes (P .code) (T .pc) i next → Did b P q T T'
 
--- In every program with this code, where k stands there, and every state that fits.
+-- In a program where k stands there, and every state that fits.
+abbrev pub DoesIn : Bool → Program → (k : ℕ) (T T' : Spot) → Type 0
+DoesIn b P k T T' =
+    (q : Registers) → fits (P .attributes) (stateAt q T) ≡ true → byteAt (P .code) (T .pc) ≡ k → Did b P q T T'
+
+-- In every program with this code.
 abbrev pub DoesCode : Bool → (code : List ℕ) (k : ℕ) (T T' : Spot) → Type 0
-DoesCode b code k T T' =
-    (A : Attributes) (q : Registers) → fits A (stateAt q T) ≡ true → byteAt code (T .pc) ≡ k → Did b (program code A) q T T'
+DoesCode b code k T T' = (A : Attributes) → DoesIn b (program code A) k T T'
 
 -- NEXT with the sum x, to be stored at a, in every program of this size where it stands there.
 abbrev pub DoesRound : Bool → (size next a x : ℕ) (T T' : Spot) → Type 0

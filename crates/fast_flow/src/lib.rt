@@ -9,8 +9,9 @@ ghost use Rattle.operand.specs.Distance.{placeAt};
 ghost use Rattle.registers.specs.Program.{program};
 ghost use Rattle.state.specs.Fits.{fits};
 ghost use Rattle.fast.specs.Fast.{spot, stateAt, Became, Did};
-ghost use Rattle.fast_flow.specs.Flow.{DoesCode};
+ghost use Rattle.fast_flow.specs.Flow.{DoesIn, DoesCode};
 use fast_operations::operations;
+use opcode::instruction::Arithmetic;
 use registers::Attributes;
 use registers::Registers;
 
@@ -93,7 +94,33 @@ fn jump_step(code: &[u8], stack: &mut [u32], pc: &mut usize, height: &mut usize,
     }
 }
 
-// Serves ITER and NEXT, and what jump_step has. Nothing stands between the matches, so that they make one jump.
+// Serves unsigned arithmetic, for which the module's issue counts, and what jump_step has.
+fn unsigned_step(
+    code: &[u8],
+    attributes: Attributes,
+    stack: &mut [u32],
+    pc: &mut usize,
+    height: &mut usize,
+    b: u8,
+) -> bool
+    requires { ⌜ length (now code) ≤ 65535 ⌝ }
+    requires { ⌜ now pc + 1 < length (now code) ⌝ }
+    requires { ⌜ now height ≤ length (now stack) ⌝ }
+    ensures { λ done. ⌜ ((m : List ℕ) → DoesIn done (program (now (code .entry)) attributes) b
+        (spot (now (pc .entry)) (now (height .entry)) m (now (stack .entry)))
+        (spot (now (pc .exit)) (now (height .exit)) m (now (stack .exit)))) ⌝ }
+{
+    match b {
+        0xA8 => operations::unsigned_two(stack, pc, height, attributes.wraps, Arithmetic::Add),
+        0xA9 => operations::unsigned_two(stack, pc, height, attributes.wraps, Arithmetic::Subtract),
+        0xAA => operations::unsigned_two(stack, pc, height, attributes.wraps, Arithmetic::Multiply),
+        0xAB => operations::unsigned_two(stack, pc, height, attributes.wraps, Arithmetic::Divide),
+        0xAD => operations::unsigned_two(stack, pc, height, attributes.wraps, Arithmetic::Modulus),
+        _ => jump_step(code, stack, pc, height, b),
+    }
+}
+
+// Serves ITER and NEXT, and what unsigned_step has. Nothing stands between the matches, so that they make one jump.
 pub fn flow_step(
     code: &[u8],
     attributes: Attributes,
@@ -115,6 +142,6 @@ pub fn flow_step(
     match b {
         0xE0 => loops::iter(code, attributes, q, memory, stack, pc, height),
         0xE1 => loops::next(code, attributes, q, memory, stack, pc, height),
-        _ => jump_step(code, stack, pc, height, b),
+        _ => unsigned_step(code, attributes, stack, pc, height, b),
     }
 }

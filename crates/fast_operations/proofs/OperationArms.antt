@@ -43,7 +43,7 @@ module _ (code : List ℕ) (A : Attributes) (q : Registers) (pc h : ℕ) (m s : 
   F : Fitting A (stateAt q T)
   F = fitting A (stateAt q T) f
 
-  two-goes : (op : Operation) (v : Value) → operands op ≡ 2 → operationValue op (read s (h - 2)) (read s (h - 1)) ≡ v
+  two-goes : (op : Operation) (v : Value) → operands op ≡ 2 → operationValue (A .wraps) op (read s (h - 2)) (read s (h - 1)) ≡ v
       → decodeAt code (length code) pc ≡ At (Operate op) (pc + 1) → pc + 1 < length code → (2 ≤ h) × (isWord v ≡ true)
       → Ends P q T (spot (pc + 1) (h - 1) m (set s (h - 2) (wordOf v)))
   unfolding execute shapeOf
@@ -52,7 +52,7 @@ module _ (code : List ℕ) (A : Attributes) (q : Registers) (pc h : ℕ) (m s : 
       (rw (two, found s h 2 0 enough (omega arith), found s h 2 1 enough (omega arith), e)) (omega (arith, F .height))
   two-goes op (Trap n) two e d inside (enough, word) = absurd (let z : _≡_ {A = ℕ} 0 1 = cc in omega arith)
 
-  one-goes : (op : Operation) (v : Value) → operands op ≡ 1 → ((y : ℕ) → operationValue op (read s (h - 1)) y ≡ v)
+  one-goes : (op : Operation) (v : Value) → operands op ≡ 1 → ((y : ℕ) → operationValue (A .wraps) op (read s (h - 1)) y ≡ v)
       → decodeAt code (length code) pc ≡ At (Operate op) (pc + 1) → pc + 1 < length code → (1 ≤ h) × (isWord v ≡ true)
       → Ends P q T (spot (pc + 1) h m (set s (h - 1) (wordOf v)))
   unfolding execute shapeOf
@@ -68,13 +68,13 @@ module _ (code : List ℕ) (A : Attributes) (q : Registers) (pc h : ℕ) (m s : 
       (omega arith) room
 
   pub two-arm : (k : ℕ) (op : Operation) (v : Value) → byteAt code pc ≡ k → rowOf k ≡ row none normal (λ mode a b. Operate op)
-      → (k ≡ 0xF5 → ⊥) → operands op ≡ 2 → operationValue op (read s (h - 2)) (read s (h - 1)) ≡ v → pc + 1 < length code
+      → (k ≡ 0xF5 → ⊥) → operands op ≡ 2 → operationValue (A .wraps) op (read s (h - 2)) (read s (h - 1)) ≡ v → pc + 1 < length code
       → (t : Bool) (T' : Spot) → PutsTwo t (pc + 1) v T T' → Did t P q T T'
   two-arm k op v e r not-double two value room t T' =
       did t P q _ T _ T' (λ c. two-goes op v two value (decoded k op e r not-double (omega arith)) room c)
 
   pub one-arm : (k : ℕ) (op : Operation) (v : Value) → byteAt code pc ≡ k → rowOf k ≡ row none normal (λ mode a b. Operate op)
-      → (k ≡ 0xF5 → ⊥) → operands op ≡ 1 → ((y : ℕ) → operationValue op (read s (h - 1)) y ≡ v) → pc + 1 < length code
+      → (k ≡ 0xF5 → ⊥) → operands op ≡ 1 → ((y : ℕ) → operationValue (A .wraps) op (read s (h - 1)) y ≡ v) → pc + 1 < length code
       → (t : Bool) (T' : Spot) → PutsOne t (pc + 1) v T T' → Did t P q T T'
   one-arm k op v e r not-double one value room t T' =
       did t P q _ T _ T' (λ c. one-goes op v one value (decoded k op e r not-double (omega arith)) room c)

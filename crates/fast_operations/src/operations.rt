@@ -1,16 +1,21 @@
 // Serves operations on words.
 ghost use mathlib.Core.Path.{_≡_};
+ghost use mathlib.Core.Bool.{not};
 ghost use mathlib.Core.List.{List};
 ghost use Prim.Native.Nat.{ℕ, _+_, _-_, _≤_, _<_};
 ghost use lib.ListN.{length};
-ghost use Rattle.operate.specs.Operation.{operationValue};
+ghost use lib.Dec.{eqb};
+ghost use Rattle.operate.specs.declared.Value.the-variants.{Word};
+ghost use Rattle.operate.specs.Value.{truthOf, invertedValue};
+ghost use Rattle.operate.specs.Arithmetic.{signedValue, unsignedValue, negatedValue};
+ghost use Rattle.operate.specs.Compare.{signedTest, unsignedTest};
+ghost use Rattle.operate.specs.Sets.{setWord};
 ghost use Rattle.registers.specs.Memory.{read};
 ghost use Rattle.fast.specs.Fast.{spot};
 ghost use Rattle.fast.specs.Leaves.{PutsOne, PutsTwo};
 ghost use Rattle.fast_operations.specs.Operations.{DoesByte};
 use fast::leaf;
 use opcode::instruction::Arithmetic;
-use opcode::instruction::Operation;
 use opcode::instruction::Order;
 use opcode::instruction::SetOperation;
 use operate::Value;
@@ -65,8 +70,8 @@ fn put_one(stack: &mut [u32], pc: &mut usize, height: &mut usize, v: Value) -> b
 fn signed_two(stack: &mut [u32], pc: &mut usize, height: &mut usize, op: Arithmetic) -> bool
     requires { ⌜ now height ≤ length (now stack) ⌝ }
     requires { ⌜ now pc + 1 < 0x1_0000_0000_0000_0000 ⌝ }
-    ensures { λ b. ⌜ ((m : List ℕ) → PutsTwo b (now (pc .entry) + 1) (operationValue (Operation.Signed op)
-        (read (now (stack .entry)) (now (height .entry) - 2)) (read (now (stack .entry)) (now (height .entry) - 1)))
+    ensures { λ b. ⌜ ((m : List ℕ) → PutsTwo b (now (pc .entry) + 1) (signedValue op (read (now (stack .entry)) (now (height .entry) - 2))
+        (read (now (stack .entry)) (now (height .entry) - 1)))
         (spot (now (pc .entry)) (now (height .entry)) m (now (stack .entry)))
         (spot (now (pc .exit)) (now (height .exit)) m (now (stack .exit)))) ⌝ }
 {
@@ -79,28 +84,40 @@ fn signed_two(stack: &mut [u32], pc: &mut usize, height: &mut usize, op: Arithme
     put_two(stack, pc, height, arithmetic::signed_value(op, x, y))
 }
 
-fn unsigned_two(stack: &mut [u32], pc: &mut usize, height: &mut usize, op: Arithmetic) -> bool
+// Unsigned results wrap or not, by the issue of the module.
+pub fn unsigned_two(
+    stack: &mut [u32],
+    pc: &mut usize,
+    height: &mut usize,
+    wraps: bool,
+    op: Arithmetic,
+) -> bool
     requires { ⌜ now height ≤ length (now stack) ⌝ }
     requires { ⌜ now pc + 1 < 0x1_0000_0000_0000_0000 ⌝ }
-    ensures { λ b. ⌜ ((m : List ℕ) → PutsTwo b (now (pc .entry) + 1) (operationValue (Operation.Unsigned op)
+    ensures { λ b. ⌜ ((m : List ℕ) → PutsTwo b (now (pc .entry) + 1) (unsignedValue wraps op
         (read (now (stack .entry)) (now (height .entry) - 2)) (read (now (stack .entry)) (now (height .entry) - 1)))
         (spot (now (pc .entry)) (now (height .entry)) m (now (stack .entry)))
         (spot (now (pc .exit)) (now (height .exit)) m (now (stack .exit)))) ⌝ }
 {
-    let h = *height;
-    if h < 2 {
+    let top = *height;
+    if top < 2 {
         return false;
     }
-    let x = stack[h - 2];
-    let y = stack[h - 1];
-    put_two(stack, pc, height, arithmetic::unsigned_value(op, x, y))
+    let x = stack[top - 2];
+    let y = stack[top - 1];
+    put_two(
+        stack,
+        pc,
+        height,
+        arithmetic::unsigned_value(wraps, op, x, y),
+    )
 }
 
 fn set_two(stack: &mut [u32], pc: &mut usize, height: &mut usize, op: SetOperation) -> bool
     requires { ⌜ now height ≤ length (now stack) ⌝ }
     requires { ⌜ now pc + 1 < 0x1_0000_0000_0000_0000 ⌝ }
-    ensures { λ b. ⌜ ((m : List ℕ) → PutsTwo b (now (pc .entry) + 1) (operationValue (Operation.Set op)
-        (read (now (stack .entry)) (now (height .entry) - 2)) (read (now (stack .entry)) (now (height .entry) - 1)))
+    ensures { λ b. ⌜ ((m : List ℕ) → PutsTwo b (now (pc .entry) + 1) (Word (setWord op
+        (read (now (stack .entry)) (now (height .entry) - 2)) (read (now (stack .entry)) (now (height .entry) - 1))))
         (spot (now (pc .entry)) (now (height .entry)) m (now (stack .entry)))
         (spot (now (pc .exit)) (now (height .exit)) m (now (stack .exit)))) ⌝ }
 {
@@ -116,8 +133,8 @@ fn set_two(stack: &mut [u32], pc: &mut usize, height: &mut usize, op: SetOperati
 fn signed_order(stack: &mut [u32], pc: &mut usize, height: &mut usize, order: Order) -> bool
     requires { ⌜ now height ≤ length (now stack) ⌝ }
     requires { ⌜ now pc + 1 < 0x1_0000_0000_0000_0000 ⌝ }
-    ensures { λ b. ⌜ ((m : List ℕ) → PutsTwo b (now (pc .entry) + 1) (operationValue (Operation.CompareSigned order)
-        (read (now (stack .entry)) (now (height .entry) - 2)) (read (now (stack .entry)) (now (height .entry) - 1)))
+    ensures { λ b. ⌜ ((m : List ℕ) → PutsTwo b (now (pc .entry) + 1) (Word (truthOf (signedTest order
+        (read (now (stack .entry)) (now (height .entry) - 2)) (read (now (stack .entry)) (now (height .entry) - 1)))))
         (spot (now (pc .entry)) (now (height .entry)) m (now (stack .entry)))
         (spot (now (pc .exit)) (now (height .exit)) m (now (stack .exit)))) ⌝ }
 {
@@ -138,8 +155,8 @@ fn signed_order(stack: &mut [u32], pc: &mut usize, height: &mut usize, order: Or
 fn unsigned_order(stack: &mut [u32], pc: &mut usize, height: &mut usize, order: Order) -> bool
     requires { ⌜ now height ≤ length (now stack) ⌝ }
     requires { ⌜ now pc + 1 < 0x1_0000_0000_0000_0000 ⌝ }
-    ensures { λ b. ⌜ ((m : List ℕ) → PutsTwo b (now (pc .entry) + 1) (operationValue (Operation.CompareUnsigned order)
-        (read (now (stack .entry)) (now (height .entry) - 2)) (read (now (stack .entry)) (now (height .entry) - 1)))
+    ensures { λ b. ⌜ ((m : List ℕ) → PutsTwo b (now (pc .entry) + 1) (Word (truthOf (unsignedTest order
+        (read (now (stack .entry)) (now (height .entry) - 2)) (read (now (stack .entry)) (now (height .entry) - 1)))))
         (spot (now (pc .entry)) (now (height .entry)) m (now (stack .entry)))
         (spot (now (pc .exit)) (now (height .exit)) m (now (stack .exit)))) ⌝ }
 {
@@ -160,8 +177,8 @@ fn unsigned_order(stack: &mut [u32], pc: &mut usize, height: &mut usize, order: 
 fn equal(stack: &mut [u32], pc: &mut usize, height: &mut usize) -> bool
     requires { ⌜ now height ≤ length (now stack) ⌝ }
     requires { ⌜ now pc + 1 < 0x1_0000_0000_0000_0000 ⌝ }
-    ensures { λ b. ⌜ ((m : List ℕ) → PutsTwo b (now (pc .entry) + 1) (operationValue Operation.Equal
-        (read (now (stack .entry)) (now (height .entry) - 2)) (read (now (stack .entry)) (now (height .entry) - 1)))
+    ensures { λ b. ⌜ ((m : List ℕ) → PutsTwo b (now (pc .entry) + 1) (Word (truthOf (eqb
+        (read (now (stack .entry)) (now (height .entry) - 2)) (read (now (stack .entry)) (now (height .entry) - 1)))))
         (spot (now (pc .entry)) (now (height .entry)) m (now (stack .entry)))
         (spot (now (pc .exit)) (now (height .exit)) m (now (stack .exit)))) ⌝ }
 {
@@ -177,8 +194,8 @@ fn equal(stack: &mut [u32], pc: &mut usize, height: &mut usize) -> bool
 fn not_equal(stack: &mut [u32], pc: &mut usize, height: &mut usize) -> bool
     requires { ⌜ now height ≤ length (now stack) ⌝ }
     requires { ⌜ now pc + 1 < 0x1_0000_0000_0000_0000 ⌝ }
-    ensures { λ b. ⌜ ((m : List ℕ) → PutsTwo b (now (pc .entry) + 1) (operationValue Operation.NotEqual
-        (read (now (stack .entry)) (now (height .entry) - 2)) (read (now (stack .entry)) (now (height .entry) - 1)))
+    ensures { λ b. ⌜ ((m : List ℕ) → PutsTwo b (now (pc .entry) + 1) (Word (truthOf (not (eqb
+        (read (now (stack .entry)) (now (height .entry) - 2)) (read (now (stack .entry)) (now (height .entry) - 1))))))
         (spot (now (pc .entry)) (now (height .entry)) m (now (stack .entry)))
         (spot (now (pc .exit)) (now (height .exit)) m (now (stack .exit)))) ⌝ }
 {
@@ -195,8 +212,8 @@ fn not_equal(stack: &mut [u32], pc: &mut usize, height: &mut usize) -> bool
 fn negated(stack: &mut [u32], pc: &mut usize, height: &mut usize) -> bool
     requires { ⌜ now height ≤ length (now stack) ⌝ }
     requires { ⌜ now pc + 1 < 0x1_0000_0000_0000_0000 ⌝ }
-    ensures { λ b. ⌜ ((m : List ℕ) → PutsOne b (now (pc .entry) + 1) (operationValue Operation.Negate
-        (read (now (stack .entry)) (now (height .entry) - 1)) 0)
+    ensures { λ b. ⌜ ((m : List ℕ) → PutsOne b (now (pc .entry) + 1) (negatedValue
+        (read (now (stack .entry)) (now (height .entry) - 1)))
         (spot (now (pc .entry)) (now (height .entry)) m (now (stack .entry)))
         (spot (now (pc .exit)) (now (height .exit)) m (now (stack .exit)))) ⌝ }
 {
@@ -211,8 +228,8 @@ fn negated(stack: &mut [u32], pc: &mut usize, height: &mut usize) -> bool
 fn inverted(stack: &mut [u32], pc: &mut usize, height: &mut usize) -> bool
     requires { ⌜ now height ≤ length (now stack) ⌝ }
     requires { ⌜ now pc + 1 < 0x1_0000_0000_0000_0000 ⌝ }
-    ensures { λ b. ⌜ ((m : List ℕ) → PutsOne b (now (pc .entry) + 1) (operationValue Operation.Not
-        (read (now (stack .entry)) (now (height .entry) - 1)) 0)
+    ensures { λ b. ⌜ ((m : List ℕ) → PutsOne b (now (pc .entry) + 1) (invertedValue
+        (read (now (stack .entry)) (now (height .entry) - 1)))
         (spot (now (pc .entry)) (now (height .entry)) m (now (stack .entry)))
         (spot (now (pc .exit)) (now (height .exit)) m (now (stack .exit)))) ⌝ }
 {
@@ -221,12 +238,7 @@ fn inverted(stack: &mut [u32], pc: &mut usize, height: &mut usize) -> bool
         return false;
     }
     let x = stack[h - 1];
-    put_one(
-        stack,
-        pc,
-        height,
-        operation::operation_value(Operation::Not, x, 0),
-    )
+    put_one(stack, pc, height, operation::inverted_value(x))
 }
 
 // Serves NEG_I, NEG and NOP.
@@ -287,25 +299,7 @@ fn compare_step(stack: &mut [u32], pc: &mut usize, height: &mut usize, b: u8) ->
     }
 }
 
-// Serves unsigned arithmetic, and what compare_step has.
-fn unsigned_step(stack: &mut [u32], pc: &mut usize, height: &mut usize, b: u8) -> bool
-    requires { ⌜ now height ≤ length (now stack) ⌝ }
-    requires { ⌜ now pc + 1 < 0x1_0000_0000_0000_0000 ⌝ }
-    ensures { λ done. ⌜ ((m : List ℕ) → DoesByte done b
-        (spot (now (pc .entry)) (now (height .entry)) m (now (stack .entry)))
-        (spot (now (pc .exit)) (now (height .exit)) m (now (stack .exit)))) ⌝ }
-{
-    match b {
-        0xA8 => unsigned_two(stack, pc, height, Arithmetic::Add),
-        0xA9 => unsigned_two(stack, pc, height, Arithmetic::Subtract),
-        0xAA => unsigned_two(stack, pc, height, Arithmetic::Multiply),
-        0xAB => unsigned_two(stack, pc, height, Arithmetic::Divide),
-        0xAD => unsigned_two(stack, pc, height, Arithmetic::Modulus),
-        _ => compare_step(stack, pc, height, b),
-    }
-}
-
-// Serves signed arithmetic, and what unsigned_step has. Nothing stands between this match and those
+// Serves signed arithmetic, and what compare_step has. Nothing stands between this match and those
 // of the defaults: they make one jump.
 pub fn operation_step(stack: &mut [u32], pc: &mut usize, height: &mut usize, b: u8) -> bool
     requires { ⌜ now height ≤ length (now stack) ⌝ }
@@ -320,6 +314,6 @@ pub fn operation_step(stack: &mut [u32], pc: &mut usize, height: &mut usize, b: 
         0xA2 => signed_two(stack, pc, height, Arithmetic::Multiply),
         0xA3 => signed_two(stack, pc, height, Arithmetic::Divide),
         0xA5 => signed_two(stack, pc, height, Arithmetic::Modulus),
-        _ => unsigned_step(stack, pc, height, b),
+        _ => compare_step(stack, pc, height, b),
     }
 }

@@ -173,7 +173,7 @@ module _ (r ps m s : List ℕ) where
         (λ z. omega arith)
 
     -- With the attributes of the header, and what is answered about the sizes.
-    module _ (A : Attributes) (t : Bool) (attributes : A ≡ attributesIn h) (sizes : t ≡ sizesTaken A m s)
+    module _ (A : Attributes) (t : Bool) (attributes : A ≡ attributesIn r h) (sizes : t ≡ sizesTaken A m s)
         (l : length ps ≤ h .globals) where
       taken : (leb (length ps) (headerOf r .globals) && sizesTaken (attributesOf r) m s) ≡ t
       taken = rw (← sound-header r h sound .1, le-leb (length ps) (h .globals) l, ← attributes, sizes)

@@ -16,12 +16,14 @@ pub enum Loaded {
     Ready(Registers),
 }
 
-pub fn attributes_in(h: Header) -> Attributes
-    ensures { λ a. ⌜ a ≡ attributesIn h ⌝ }
+// What a run knows of a module besides its code.
+pub fn attributes_in(r: &[u8], h: Header) -> Attributes
+    ensures { λ a. ⌜ a ≡ attributesIn (now (r .entry)) h ⌝ }
 {
     Attributes {
         globals: h.globals,
         constants: h.constants,
+        wraps: version::wraps(r, h),
     }
 }
 
@@ -88,7 +90,7 @@ pub fn load(r: &[u8], parameters: &[u32], memory: &mut [u32], stack: &[u32]) -> 
     match reading {
         Reading::Refused(number) => Loaded::Refused(number),
         Reading::Sound(h) => {
-            let attributes = attributes_in(h);
+            let attributes = attributes_in(r, h);
             if (h.globals as usize) < parameters.len() {
                 return Loaded::Refused(8);
             }

@@ -165,7 +165,7 @@ pub fn run_by(
     match reading {
         Reading::Refused(number) => Answer::Refused(number),
         Reading::Sound(h) => {
-            let attributes = load::attributes_in(h);
+            let attributes = load::attributes_in(r, h);
             if !state::state_fits(attributes, q, memory, stack) {
                 return Answer::Refused(24);
             }

@@ -5,3 +5,4 @@ pub mod Operands
 pub mod Remainders
 pub mod Naturals
 pub mod Traps
+pub mod Wrapping

@@ -1,9 +1,9 @@
 -- The value of an operation is a word, or 30, 31 or 34 in its place, which are data traps: by the tests of its definition.
-use mathlib.Core.Bool.{true, _&&_}
+use mathlib.Core.Bool.{Bool, true, _&&_}
 use mathlib.Core.Path.{_≡_, refl}
 use Prim.Native.Nat.{ℕ}
 use lib.Dec.{eqb, leb, ltb}
-use lib.IntN.{ℤ, pos, negsuc, negℤ}
+use lib.IntN.{ℤ, negℤ}
 use lib.Signed.{mag}
 use mir.Syntax.{w32}
 use mir.Val.{toZ}
@@ -16,7 +16,7 @@ use Rattle.opcode.specs.declared.instruction.Operation.the-variants.{CompareSig
 use Rattle.operate.specs.declared.Value.{Value}
 use Rattle.operate.specs.declared.Value.the-variants.{Word, Trap as Stop}
 use Rattle.operate.specs.Operation.{operationValue}
-use Rattle.operate.specs.Value.{isBoolean, invertedValue, signedWord, unsignedWord}
+use Rattle.operate.specs.Value.{isBoolean, isUnsigned, invertedValue, signedWord, unsignedWord}
 use Rattle.operate.specs.Arithmetic.{signedNumber, unsignedNumber, divides, signedValue, unsignedValue, negatedValue}
 use Rattle.operate.specs.Traps.{DataTrap}
 
@@ -35,10 +35,9 @@ signed-word : (z : ℤ) → Valued (signedWord z)
 unfolding signedWord
 signed-word z = either Valued (ltb (mag z) 0x8000_0000) _ _ a-word too-large
 
-unsigned-word : (z : ℤ) → Valued (unsignedWord z)
+unsigned-word : (wraps : Bool) (z : ℤ) → Valued (unsignedWord wraps z)
 unfolding unsignedWord
-unsigned-word (pos n) = either Valued (ltb n 0x1_0000_0000) _ _ a-word too-large
-unsigned-word (negsuc n) = too-large
+unsigned-word wraps z = either Valued (isUnsigned z) _ _ a-word (either Valued wraps _ _ a-word too-large)
 
 pub signed-valued : (op : Arithmetic) (x y : ℕ) → Valued (signedValue op x y)
 unfolding signedValue
@@ -46,10 +45,10 @@ signed-valued op x y =
     either Valued (divides op && eqb y 0) _ _ (a-trap (data-number 30 refl refl))
     (signed-word (signedNumber op (toZ w32 x) (toZ w32 y)))
 
-unsigned-valued : (op : Arithmetic) (x y : ℕ) → Valued (unsignedValue op x y)
+unsigned-valued : (wraps : Bool) (op : Arithmetic) (x y : ℕ) → Valued (unsignedValue wraps op x y)
 unfolding unsignedValue
-unsigned-valued op x y =
-    either Valued (divides op && eqb y 0) _ _ (a-trap (data-number 30 refl refl)) (unsigned-word (unsignedNumber op x y))
+unsigned-valued wraps op x y =
+    either Valued (divides op && eqb y 0) _ _ (a-trap (data-number 30 refl refl)) (unsigned-word wraps (unsignedNumber op x y))
 
 negated-valued : (x : ℕ) → Valued (negatedValue x)
 unfolding negatedValue
@@ -59,14 +58,14 @@ inverted-valued : (b : ℕ) → Valued (invertedValue b)
 unfolding invertedValue
 inverted-valued b = either Valued (isBoolean b) _ _ a-word (a-trap (data-number 34 refl refl))
 
-pub operation-valued : (op : Operation) (x y : ℕ) → Valued (operationValue op x y)
+pub operation-valued : (wraps : Bool) (op : Operation) (x y : ℕ) → Valued (operationValue wraps op x y)
 unfolding operationValue
-operation-valued (Signed op) x y = signed-valued op x y
-operation-valued (Unsigned op) x y = unsigned-valued op x y
-operation-valued Negate x y = negated-valued x
-operation-valued Equal x y = a-word
-operation-valued NotEqual x y = a-word
-operation-valued (CompareSigned order) x y = a-word
-operation-valued (CompareUnsigned order) x y = a-word
-operation-valued (Set op) x y = a-word
-operation-valued Not x y = inverted-valued x
+operation-valued wraps (Signed op) x y = signed-valued op x y
+operation-valued wraps (Unsigned op) x y = unsigned-valued wraps op x y
+operation-valued wraps Negate x y = negated-valued x
+operation-valued wraps Equal x y = a-word
+operation-valued wraps NotEqual x y = a-word
+operation-valued wraps (CompareSigned order) x y = a-word
+operation-valued wraps (CompareUnsigned order) x y = a-word
+operation-valued wraps (Set op) x y = a-word
+operation-valued wraps Not x y = inverted-valued x

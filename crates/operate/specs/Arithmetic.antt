@@ -46,8 +46,8 @@ divides Modulus = true
 unfoldable pub signedValue : Arithmetic → ℕ → ℕ → Value
 signedValue op x y = cond (divides op && eqb y 0) (Trap 30) (signedWord (signedNumber op (toZ w32 x) (toZ w32 y)))
 
-unfoldable pub unsignedValue : Arithmetic → ℕ → ℕ → Value
-unsignedValue op x y = cond (divides op && eqb y 0) (Trap 30) (unsignedWord (unsignedNumber op x y))
+unfoldable pub unsignedValue : (wraps : Bool) → Arithmetic → ℕ → ℕ → Value
+unsignedValue wraps op x y = cond (divides op && eqb y 0) (Trap 30) (unsignedWord wraps (unsignedNumber op x y))
 
 unfoldable pub negatedValue : ℕ → Value
 negatedValue x = signedWord (negℤ (toZ w32 x))

@@ -1,9 +1,9 @@
 -- A word or a trap, and when a number is a word. 01: "An arithmetic result outside its 32-bit range traps"; 31 is "number does not
 -- fit".
-use mathlib.Core.Bool.{Bool, cond}
-use Prim.Native.Nat.{ℕ, _-_}
+use mathlib.Core.Bool.{Bool, false, cond}
+use Prim.Native.Nat.{ℕ, _-_, _%_}
 use lib.Dec.{ltb}
-use lib.IntN.{ℤ, pos, negsuc}
+use lib.IntN.{ℤ, pos, negsuc, natAbs}
 use lib.Signed.{mag}
 use mir.Syntax.{w32}
 use mir.Val.{ofZ}
@@ -18,9 +18,21 @@ unfoldable pub signedWord : ℤ → Value
 signedWord z = cond (isSigned z) (Word (ofZ w32 z)) (Trap 31)
 
 -- The numbers of an unsigned word: from 0 to 2^32 - 1.
-unfoldable pub unsignedWord : ℤ → Value
-unsignedWord (pos n) = cond (ltb n 0x1_0000_0000) (Word n) (Trap 31)
-unsignedWord (negsuc n) = Trap 31
+abbrev pub isUnsigned : ℤ → Bool
+isUnsigned (pos n) = ltb n 0x1_0000_0000
+isUnsigned (negsuc n) = false
+
+-- 02, K11: "running round at 2 to the power 32": the word that differs from a number by a multiple of 2^32.
+abbrev pub wrapped : ℤ → ℕ
+wrapped (pos n) = n % 0x1_0000_0000
+wrapped (negsuc n) = 0xFFFF_FFFF - n % 0x1_0000_0000
+
+-- "Both rules are kept": where an unsigned result is no word, by the issue of its module, the word that it wraps to or the trap.
+abbrev pub byRule : (wraps : Bool) → ℕ → Value
+byRule wraps x = cond wraps (Word x) (Trap 31)
+
+unfoldable pub unsignedWord : (wraps : Bool) → ℤ → Value
+unsignedWord wraps z = cond (isUnsigned z) (Word (natAbs z)) (byRule wraps (wrapped z))
 
 -- 01: "A boolean is 0 or 1."
 abbrev pub truthOf : Bool → ℕ

@@ -1,19 +1,37 @@
 // Signed and unsigned arithmetic on words: x and then y were pushed.
 ghost use mathlib.Core.Path.{_≡_};
 ghost use Rattle.operate.specs.Arithmetic.{signedValue, unsignedValue, negatedValue};
-ghost use lib.IntN.{pos};
-ghost use Rattle.operate.specs.Value.{unsignedWord};
+ghost use lib.IntN.{pos, _-ℤ_};
+ghost use Rattle.operate.specs.Value.{byRule, unsignedWord};
 use crate::Value;
 use opcode::instruction::Arithmetic;
 
-// The word of a number; trap 31 where there is none.
-fn unsigned_word(n: u64) -> Value
-    ensures { λ v. ⌜ v ≡ unsignedWord (pos n) ⌝ }
+// What a number that is no word is given as: the word that it wraps to, or trap 31.
+fn by_rule(wraps: bool, x: u32) -> Value
+    ensures { λ v. ⌜ v ≡ byRule wraps x ⌝ }
+{
+    if wraps {
+        return Value::Word(x);
+    }
+    Value::Trap(31)
+}
+
+fn unsigned_word(wraps: bool, n: u64) -> Value
+    ensures { λ v. ⌜ v ≡ unsignedWord wraps (pos n) ⌝ }
 {
     if n < 0x1_0000_0000 {
         return Value::Word(n as u32);
     }
-    Value::Trap(31)
+    by_rule(wraps, (n % 0x1_0000_0000) as u32)
+}
+
+fn unsigned_difference(wraps: bool, x: u32, y: u32) -> Value
+    ensures { λ v. ⌜ v ≡ unsignedWord wraps (pos x -ℤ pos y) ⌝ }
+{
+    if y <= x {
+        return Value::Word(x - y);
+    }
+    by_rule(wraps, 0xFFFF_FFFF - (y - x - 1))
 }
 
 // Ada's mod of two signed words, y not 0.
@@ -60,18 +78,13 @@ pub fn signed_value(op: Arithmetic, x: u32, y: u32) -> Value
     }
 }
 
-pub fn unsigned_value(op: Arithmetic, x: u32, y: u32) -> Value
-    ensures { λ v. ⌜ v ≡ unsignedValue op x y ⌝ }
+pub fn unsigned_value(wraps: bool, op: Arithmetic, x: u32, y: u32) -> Value
+    ensures { λ v. ⌜ v ≡ unsignedValue wraps op x y ⌝ }
 {
     match op {
-        Arithmetic::Add => unsigned_word((x as u64) + (y as u64)),
-        Arithmetic::Subtract => {
-            if x < y {
-                return Value::Trap(31);
-            }
-            Value::Word(x - y)
-        }
-        Arithmetic::Multiply => unsigned_word((x as u64) * (y as u64)),
+        Arithmetic::Add => unsigned_word(wraps, (x as u64) + (y as u64)),
+        Arithmetic::Subtract => unsigned_difference(wraps, x, y),
+        Arithmetic::Multiply => unsigned_word(wraps, (x as u64) * (y as u64)),
         Arithmetic::Divide => {
             if y == 0 {
                 return Value::Trap(30);

@@ -9,7 +9,7 @@ use crate::sets;
 use opcode::instruction::Operation;
 
 // NEG.
-fn inverted_value(b: u32) -> Value
+pub fn inverted_value(b: u32) -> Value
     ensures { λ v. ⌜ v ≡ invertedValue b ⌝ }
 {
     if 1 < b {
@@ -18,13 +18,13 @@ fn inverted_value(b: u32) -> Value
     Value::Word(1 - b)
 }
 
-// One that finds one word looks at `x` alone.
-pub fn operation_value(op: Operation, x: u32, y: u32) -> Value
-    ensures { λ v. ⌜ v ≡ operationValue op x y ⌝ }
+// One that finds one word looks at `x` alone; only an unsigned result asks whether it wraps.
+pub fn operation_value(wraps: bool, op: Operation, x: u32, y: u32) -> Value
+    ensures { λ v. ⌜ v ≡ operationValue wraps op x y ⌝ }
 {
     match op {
         Operation::Signed(op) => arithmetic::signed_value(op, x, y),
-        Operation::Unsigned(op) => arithmetic::unsigned_value(op, x, y),
+        Operation::Unsigned(op) => arithmetic::unsigned_value(wraps, op, x, y),
         Operation::Negate => arithmetic::negated_value(x),
         Operation::Equal => Value::Word(crate::truth(x == y)),
         Operation::NotEqual => Value::Word(crate::truth(x != y)),

@@ -3,9 +3,10 @@ use mathlib.Core.List.{List}
 use Prim.Native.Nat.{ℕ, _+_}
 use Rattle.header.specs.Header.{headerOf, codeOf}
 use Rattle.header.specs.declared.Header.{Header}
+use Rattle.version.specs.Issue.{wraps}
 use Rattle.registers.specs.declared.Attributes.{Attributes}
 
--- What runs: the code of a module, and its attributes, which are the sizes of its data areas.
+-- What runs: the code of a module, and its attributes, which are the sizes of its data areas, and whether its unsigned results wrap.
 pub record Program : Type 0 where
   pub code : List ℕ
   pub attributes : Attributes
@@ -13,11 +14,11 @@ pub record Program : Type 0 where
 abbrev pub program : List ℕ → Attributes → Program
 program code A = record { code = code; attributes = A }
 
-abbrev pub attributesIn : Header → Attributes
-attributesIn h = record { globals = h .globals; constants = h .constants }
+abbrev pub attributesIn : List ℕ → Header → Attributes
+attributesIn r h = record { globals = h .globals; constants = h .constants; wraps = wraps r h }
 
 abbrev pub attributesOf : List ℕ → Attributes
-attributesOf r = attributesIn (headerOf r)
+attributesOf r = attributesIn r (headerOf r)
 
 abbrev pub programOf : List ℕ → Program
 programOf r = program (codeOf r) (attributesOf r)

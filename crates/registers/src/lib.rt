@@ -15,10 +15,11 @@ pub struct Registers {
     pub calls: u32,
 }
 
-// What a run knows of a module besides its code: the sizes of its data areas, in words.
+// What a run knows of a module besides its code: the sizes of its data areas, in words, and whether unsigned results wrap.
 pub struct Attributes {
     pub globals: u32,
     pub constants: u32,
+    pub wraps: bool,
 }
 
 impl Attributes {

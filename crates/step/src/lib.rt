@@ -1,7 +1,7 @@
 // A step: decode, find the stack words, work out the effect, and carry it out.
 ghost use mathlib.Core.Path.{_≡_};
 ghost use mathlib.Core.Bool.{true};
-ghost use Prim.Native.Nat.{_≤_, _-_};
+ghost use Prim.Native.Nat.{_≤_, _<_, _-_};
 ghost use lib.ListN.{length, take, drop};
 ghost use lib.Seq.{sets};
 ghost use Rattle.opcode.specs.Sheet.{Sheet};
@@ -82,7 +82,7 @@ fn push_words(stack: &mut [u32], low: usize, push: Push)
 
 // The place of the lowest of the words that go.
 fn low_word(height: u32, pops: u32) -> usize
-    ensures { λ n. ⌜ n ≡ height - pops ⌝ }
+    ensures { λ n. ⌜ (n ≡ height - pops) × (n < 0x1_0000_0000) ⌝ }
 {
     if height < pops {
         return 0;

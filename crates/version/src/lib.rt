@@ -1,6 +1,7 @@
 // The version word.
 ghost use mathlib.Core.Path.{_≡_};
 ghost use Rattle.version.specs.Version.{among, issueAt, versionSound};
+ghost use Rattle.version.specs.Issue.{issueOf, earlier, issue3, wraps};
 use header::Header;
 
 // Whether a character is one of `first` to `last`.
@@ -44,4 +45,27 @@ pub fn version_sound(r: &[u8], h: Header) -> bool
         return true;
     }
     issue_at(r, header::versions_at(h))
+}
+
+// Whether the word at `i` names an issue earlier than 3/-, which its number tells: no tens, and fewer than 3.
+fn is_before_3(r: &[u8], i: usize) -> bool
+    ensures { λ b. ⌜ b ≡ earlier (issueOf (now (r .entry)) i) issue3 ⌝ }
+{
+    if r.len() <= i {
+        return true;
+    }
+    if b'0' < words::byte_at(r, i) {
+        return false;
+    }
+    words::byte_at(r, i + 1) < b'3'
+}
+
+// Whether unsigned results wrap: the first version word names an issue earlier than 3/-.
+pub fn wraps(r: &[u8], h: Header) -> bool
+    ensures { λ b. ⌜ b ≡ wraps (now (r .entry)) h ⌝ }
+{
+    if 0 < h.versions {
+        return is_before_3(r, header::versions_at(h));
+    }
+    false
 }

@@ -115,7 +115,7 @@ returns-8 c =
       peek6 .ensures,
       peek5 .ensures,
       operand-words .ensures,
-      operate-found _ (a .q) (a .s .now) _ l,
+      operate-found _ _ (a .q) (a .s .now) _ l,
     )
 
 returns-9 : tie.Need-returns-9

@@ -22,8 +22,8 @@ next-requires c κs =
     (pre .1 .1 .1) in
     (pre .1 .0, (F .height, (F .within, pre .1 .1 .1)))
 
-jump-step-requires : tie.Need-jump-step-requires
-jump-step-requires c κs =
+unsigned-step-requires : tie.Need-unsigned-step-requires
+unsigned-step-requires c κs =
     let a = c .before .before .before .before .before .before .before .args in
     let pre = c .before .before .before .before .before .before .before .pre in
     let F = fitting (a .attributes) (stateAt (a .q) (spot (a .pc .now) (a .height .now) (a .memory .now) (a .stack .now)))
@@ -47,13 +47,13 @@ returns-2 c =
 
 returns-3 : tie.Need-returns-3
 returns-3 c =
-    let jump-step = c .before .before .jump-step in
+    let unsigned-step = c .before .before .unsigned-step in
     let a = c .before .before .before .before .before .before .before .before .before .before .args in
     let pre = c .before .before .before .before .before .before .before .before .before .before .pre in
-    jump-step .ensures (a .memory .now) (a .attributes) (a .q) (pre .1 .1 .1) (sym (pre .1 .1 .0))
+    unsigned-step .ensures (a .memory .now) (a .q) (pre .1 .1 .1) (sym (pre .1 .1 .0))
 
 pub flow-step-spec : {M : Type 1} → statement M
 flow-step-spec =
     tie.close
-    (tie.spec iter-requires next-requires jump-step-requires (λ c. search needs) (λ c. search needs) returns
+    (tie.spec iter-requires next-requires unsigned-step-requires (λ c. search needs) (λ c. search needs) returns
     (λ c. search needs) (λ c. search needs) returns-2 (λ c. search needs) returns-3)

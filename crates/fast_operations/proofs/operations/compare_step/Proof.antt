@@ -3,13 +3,14 @@ use mathlib.Core.Path.{_∙_, refl, sym}
 use native.Mathlib.Omega.{arith}
 use borrow.Author.Needs.{needs}
 use Rattle.opcode.specs.Table.{rowOf}
+use Rattle.operate.specs.Operation.{operationValue}
 use Rattle.fast.specs.Fast.{spot}
 use Rattle.fast_operations.proofs.OperationArms.{two-arm}
 use Rattle.fast_operations.proofs.operations.compare_step.Statement.{statement}
 use Rattle.fast_operations.proofs.operations.compare_step.Tie as tie
 
 returns : tie.Need-returns
-unfolding rowOf
+unfolding rowOf operationValue
 returns c =
     let signed-order = c .before .before .signed-order in
     let match = c .before .before .before .before .before .before .match in
@@ -20,7 +21,7 @@ returns c =
     (spot (signed-order .last .1 .0) (signed-order .last .1 .1 .0) m (signed-order .last .0)) (signed-order .ensures m)
 
 returns-2 : tie.Need-returns-2
-unfolding rowOf
+unfolding rowOf operationValue
 returns-2 c =
     let signed-order2 = c .before .before .signed-order2 in
     let match = c .before .before .before .before .before .before .match in
@@ -31,7 +32,7 @@ returns-2 c =
     (spot (signed-order2 .last .1 .0) (signed-order2 .last .1 .1 .0) m (signed-order2 .last .0)) (signed-order2 .ensures m)
 
 returns-3 : tie.Need-returns-3
-unfolding rowOf
+unfolding rowOf operationValue
 returns-3 c =
     let signed-order3 = c .before .before .signed-order3 in
     let match = c .before .before .before .before .before .before .match in
@@ -42,7 +43,7 @@ returns-3 c =
     (spot (signed-order3 .last .1 .0) (signed-order3 .last .1 .1 .0) m (signed-order3 .last .0)) (signed-order3 .ensures m)
 
 returns-4 : tie.Need-returns-4
-unfolding rowOf
+unfolding rowOf operationValue
 returns-4 c =
     let signed-order4 = c .before .before .signed-order4 in
     let match = c .before .before .before .before .before .before .match in
@@ -53,7 +54,7 @@ returns-4 c =
     (spot (signed-order4 .last .1 .0) (signed-order4 .last .1 .1 .0) m (signed-order4 .last .0)) (signed-order4 .ensures m)
 
 returns-5 : tie.Need-returns-5
-unfolding rowOf
+unfolding rowOf operationValue
 returns-5 c =
     let unsigned-order = c .before .before .unsigned-order in
     let match = c .before .before .before .before .before .before .match in
@@ -65,7 +66,7 @@ returns-5 c =
     (unsigned-order .ensures m)
 
 returns-6 : tie.Need-returns-6
-unfolding rowOf
+unfolding rowOf operationValue
 returns-6 c =
     let unsigned-order2 = c .before .before .unsigned-order2 in
     let match = c .before .before .before .before .before .before .match in
@@ -77,7 +78,7 @@ returns-6 c =
     (unsigned-order2 .ensures m)
 
 returns-7 : tie.Need-returns-7
-unfolding rowOf
+unfolding rowOf operationValue
 returns-7 c =
     let unsigned-order3 = c .before .before .unsigned-order3 in
     let match = c .before .before .before .before .before .before .match in
@@ -89,7 +90,7 @@ returns-7 c =
     (unsigned-order3 .ensures m)
 
 returns-8 : tie.Need-returns-8
-unfolding rowOf
+unfolding rowOf operationValue
 returns-8 c =
     let unsigned-order4 = c .before .before .unsigned-order4 in
     let match = c .before .before .before .before .before .before .match in

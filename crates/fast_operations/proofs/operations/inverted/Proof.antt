@@ -6,8 +6,8 @@ use Rattle.fast_operations.proofs.operations.inverted.Tie as tie
 returns-2 : tie.Need-returns-2
 returns-2 c =
     let put-one = c .before .before .put-one in
-    let operation-value = c .before .before .before .operation-value in
-    λ m. rw (← operation-value .ensures) (put-one .ensures m)
+    let inverted-value = c .before .before .before .inverted-value in
+    λ m. rw (← inverted-value .ensures) (put-one .ensures m)
 
 pub inverted-spec : {M : Type 1} → statement M
 inverted-spec =

@@ -1,11 +1,9 @@
 -- `fast_operations::operations::negated` meets its contract: the value of the operation is put.
 use borrow.Author.Needs.{needs}
-use Rattle.operate.specs.Operation.{operationValue}
 use Rattle.fast_operations.proofs.operations.negated.Statement.{statement}
 use Rattle.fast_operations.proofs.operations.negated.Tie as tie
 
 returns-2 : tie.Need-returns-2
-unfolding operationValue
 returns-2 c =
     let put-one = c .before .before .put-one in
     let negated-value = c .before .before .before .negated-value in

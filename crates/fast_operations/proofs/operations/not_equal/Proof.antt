@@ -1,11 +1,9 @@
 -- `fast_operations::operations::not_equal` meets its contract: the value of the operation is put.
 use borrow.Author.Needs.{needs}
-use Rattle.operate.specs.Operation.{operationValue}
 use Rattle.fast_operations.proofs.operations.not_equal.Statement.{statement}
 use Rattle.fast_operations.proofs.operations.not_equal.Tie as tie
 
 returns-2 : tie.Need-returns-2
-unfolding operationValue
 returns-2 c =
     let put-two = c .before .before .put-two in
     let truth = c .before .before .before .truth in

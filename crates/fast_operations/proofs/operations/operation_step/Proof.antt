@@ -3,13 +3,14 @@ use mathlib.Core.Path.{_∙_, refl, sym}
 use native.Mathlib.Omega.{arith}
 use borrow.Author.Needs.{needs}
 use Rattle.opcode.specs.Table.{rowOf}
+use Rattle.operate.specs.Operation.{operationValue}
 use Rattle.fast.specs.Fast.{spot}
 use Rattle.fast_operations.proofs.OperationArms.{two-arm}
 use Rattle.fast_operations.proofs.operations.operation_step.Statement.{statement}
 use Rattle.fast_operations.proofs.operations.operation_step.Tie as tie
 
 returns : tie.Need-returns
-unfolding rowOf
+unfolding rowOf operationValue
 returns c =
     let signed-two = c .before .before .signed-two in
     let match = c .before .before .before .before .before .before .match in
@@ -20,7 +21,7 @@ returns c =
     (spot (signed-two .last .1 .0) (signed-two .last .1 .1 .0) m (signed-two .last .0)) (signed-two .ensures m)
 
 returns-2 : tie.Need-returns-2
-unfolding rowOf
+unfolding rowOf operationValue
 returns-2 c =
     let signed-two2 = c .before .before .signed-two2 in
     let match = c .before .before .before .before .before .before .match in
@@ -31,7 +32,7 @@ returns-2 c =
     (spot (signed-two2 .last .1 .0) (signed-two2 .last .1 .1 .0) m (signed-two2 .last .0)) (signed-two2 .ensures m)
 
 returns-3 : tie.Need-returns-3
-unfolding rowOf
+unfolding rowOf operationValue
 returns-3 c =
     let signed-two3 = c .before .before .signed-two3 in
     let match = c .before .before .before .before .before .before .match in
@@ -42,7 +43,7 @@ returns-3 c =
     (spot (signed-two3 .last .1 .0) (signed-two3 .last .1 .1 .0) m (signed-two3 .last .0)) (signed-two3 .ensures m)
 
 returns-4 : tie.Need-returns-4
-unfolding rowOf
+unfolding rowOf operationValue
 returns-4 c =
     let signed-two4 = c .before .before .signed-two4 in
     let match = c .before .before .before .before .before .before .match in
@@ -53,7 +54,7 @@ returns-4 c =
     (spot (signed-two4 .last .1 .0) (signed-two4 .last .1 .1 .0) m (signed-two4 .last .0)) (signed-two4 .ensures m)
 
 returns-5 : tie.Need-returns-5
-unfolding rowOf
+unfolding rowOf operationValue
 returns-5 c =
     let signed-two5 = c .before .before .signed-two5 in
     let match = c .before .before .before .before .before .before .match in

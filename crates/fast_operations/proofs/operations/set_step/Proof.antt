@@ -3,13 +3,14 @@ use mathlib.Core.Path.{_∙_, refl, sym}
 use native.Mathlib.Omega.{arith}
 use borrow.Author.Needs.{needs}
 use Rattle.opcode.specs.Table.{rowOf}
+use Rattle.operate.specs.Operation.{operationValue}
 use Rattle.fast.specs.Fast.{spot}
 use Rattle.fast_operations.proofs.OperationArms.{two-arm}
 use Rattle.fast_operations.proofs.operations.set_step.Statement.{statement}
 use Rattle.fast_operations.proofs.operations.set_step.Tie as tie
 
 returns : tie.Need-returns
-unfolding rowOf
+unfolding rowOf operationValue
 returns c =
     let set-two = c .before .before .set-two in
     let match = c .before .before .before .before .before .before .match in
@@ -20,7 +21,7 @@ returns c =
     (spot (set-two .last .1 .0) (set-two .last .1 .1 .0) m (set-two .last .0)) (set-two .ensures m)
 
 returns-2 : tie.Need-returns-2
-unfolding rowOf
+unfolding rowOf operationValue
 returns-2 c =
     let set-two2 = c .before .before .set-two2 in
     let match = c .before .before .before .before .before .before .match in
@@ -31,7 +32,7 @@ returns-2 c =
     (spot (set-two2 .last .1 .0) (set-two2 .last .1 .1 .0) m (set-two2 .last .0)) (set-two2 .ensures m)
 
 returns-3 : tie.Need-returns-3
-unfolding rowOf
+unfolding rowOf operationValue
 returns-3 c =
     let set-two3 = c .before .before .set-two3 in
     let match = c .before .before .before .before .before .before .match in
@@ -42,7 +43,7 @@ returns-3 c =
     (spot (set-two3 .last .1 .0) (set-two3 .last .1 .1 .0) m (set-two3 .last .0)) (set-two3 .ensures m)
 
 returns-4 : tie.Need-returns-4
-unfolding rowOf
+unfolding rowOf operationValue
 returns-4 c =
     let equal = c .before .before .equal in
     let match = c .before .before .before .before .before .before .match in
@@ -53,7 +54,7 @@ returns-4 c =
     (spot (equal .last .1 .0) (equal .last .1 .1 .0) m (equal .last .0)) (equal .ensures m)
 
 returns-5 : tie.Need-returns-5
-unfolding rowOf
+unfolding rowOf operationValue
 returns-5 c =
     let not-equal = c .before .before .not-equal in
     let match = c .before .before .before .before .before .before .match in
@@ -64,7 +65,7 @@ returns-5 c =
     (spot (not-equal .last .1 .0) (not-equal .last .1 .1 .0) m (not-equal .last .0)) (not-equal .ensures m)
 
 returns-6 : tie.Need-returns-6
-unfolding rowOf
+unfolding rowOf operationValue
 returns-6 c =
     let set-two4 = c .before .before .set-two4 in
     let match = c .before .before .before .before .before .before .match in
@@ -75,7 +76,7 @@ returns-6 c =
     (spot (set-two4 .last .1 .0) (set-two4 .last .1 .1 .0) m (set-two4 .last .0)) (set-two4 .ensures m)
 
 returns-7 : tie.Need-returns-7
-unfolding rowOf
+unfolding rowOf operationValue
 returns-7 c =
     let set-two5 = c .before .before .set-two5 in
     let match = c .before .before .before .before .before .before .match in
@@ -86,7 +87,7 @@ returns-7 c =
     (spot (set-two5 .last .1 .0) (set-two5 .last .1 .1 .0) m (set-two5 .last .0)) (set-two5 .ensures m)
 
 returns-8 : tie.Need-returns-8
-unfolding rowOf
+unfolding rowOf operationValue
 returns-8 c =
     let set-two6 = c .before .before .set-two6 in
     let match = c .before .before .before .before .before .before .match in

@@ -1,11 +1,9 @@
 -- `fast_operations::operations::set_two` meets its contract: the value of the operation is put.
 use borrow.Author.Needs.{needs}
-use Rattle.operate.specs.Operation.{operationValue}
 use Rattle.fast_operations.proofs.operations.set_two.Statement.{statement}
 use Rattle.fast_operations.proofs.operations.set_two.Tie as tie
 
 returns-2 : tie.Need-returns-2
-unfolding operationValue
 returns-2 c =
     let put-two = c .before .before .put-two in
     let set-word = c .before .before .before .set-word in

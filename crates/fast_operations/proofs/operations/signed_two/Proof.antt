@@ -1,11 +1,9 @@
 -- `fast_operations::operations::signed_two` meets its contract: the value of the operation is put.
 use borrow.Author.Needs.{needs}
-use Rattle.operate.specs.Operation.{operationValue}
 use Rattle.fast_operations.proofs.operations.signed_two.Statement.{statement}
 use Rattle.fast_operations.proofs.operations.signed_two.Tie as tie
 
 returns-2 : tie.Need-returns-2
-unfolding operationValue
 returns-2 c =
     let put-two = c .before .before .put-two in
     let signed-value = c .before .before .before .signed-value in

@@ -1,15 +1,15 @@
--- `operate::arithmetic::unsigned_word` meets its contract: below 2^32 a number is a word.
+-- `operate::arithmetic::unsigned_word` meets its contract: below 2^32 a number is a word; past it the rule decides.
 use native.Mathlib.Omega.{arith}
 use borrow.Author.Needs.{needs}
-use Rattle.operate.proofs.arithmetic.unsigned_word.Statement.{statement}
 use Rattle.operate.proofs.Naturals.{in-word, past-word}
+use Rattle.operate.proofs.arithmetic.unsigned_word.Statement.{statement}
 use Rattle.operate.proofs.arithmetic.unsigned_word.Tie as tie
 
 returns : tie.Need-returns
-returns c = in-word _ (omega arith)
+returns c = in-word _ _ (omega arith)
 
 returns-2 : tie.Need-returns-2
-returns-2 c = past-word _ (c .if1 .left)
+returns-2 c = rw (c .by-rule .ensures) (past-word _ _ (c .before .if1 .left))
 
 pub unsigned-word-spec : {M : Type 1} → statement M
-unsigned-word-spec = tie.close (tie.spec (λ c. search needs) returns returns-2)
+unsigned-word-spec = tie.close (tie.spec (λ c. search needs) returns (λ c. search needs) (λ c κs. search needs) returns-2)

@@ -14,7 +14,7 @@ add-height c =
     let push-count = c .push-count in
     let low-word = c .before .low-word in
     let e2 = c .before .before .before .e2 in
-    record { fits = omega (arith, low-word .ensures, push-count .ensures, pushes-small (e2 .given .0 .1 .0)) }
+    record { fits = omega (arith, low-word .ensures .1, push-count .ensures, pushes-small (e2 .given .0 .1 .0)) }
 
 returns : tie.Need-returns
 unfolding apply
@@ -28,7 +28,7 @@ returns c =
     let height = low-word .result + push-count .result in
     rw (
       e2 .given .1,
-      ← low-word .ensures,
+      ← low-word .ensures .0,
       ← push-count .ensures,
       lt-ltb (length (a .stack .now)) height (if1 .taken),
       trapped2 .ensures,
@@ -47,7 +47,7 @@ returns-2 c =
     let height = low-word .result + push-count .result in
     rw (
       e2 .given .1,
-      ← low-word .ensures,
+      ← low-word .ensures .0,
       ← push-count .ensures,
       le-ltb (length (a .stack .now)) height (if1 .left),
       le-ltb (e2 .given .0 .1 .1 .1 .0 .pc) (length (a .code .now)) (if2 .taken),
@@ -83,7 +83,7 @@ returns-5 c =
     let height = low-word .result + push-count .result in
     rw (
       e2 .given .1,
-      ← low-word .ensures,
+      ← low-word .ensures .0,
       ← push-count .ensures,
       le-ltb (length (a .stack .now)) height (if1 .left),
       lt-ltb (e2 .given .0 .1 .1 .1 .0 .pc) (length (a .code .now)) (if2 .left),

@@ -1,0 +1,37 @@
+-- Unsigned results by both rules. 02, K11: "Both rules are kept and one statement over the rule covers the three operations."
+use mathlib.Core.Bool.{Bool, true, false}
+use mathlib.Core.Path.{_≡_}
+use Prim.Native.Nat.{ℕ, suc, _+_, _*_, _<_}
+use lib.IntN.{ℤ, pos, negsuc}
+use Rattle.opcode.specs.declared.instruction.Arithmetic.{Arithmetic}
+use Rattle.operate.specs.declared.Value.{Value}
+use Rattle.operate.specs.declared.Value.the-variants.{Word, Trap}
+use Rattle.operate.specs.Value.{isUnsigned}
+use Rattle.operate.specs.Arithmetic.{unsignedNumber, unsignedValue, divides}
+
+-- A word and a number that differ by a multiple of 2^32.
+abbrev pub RunsRound : ℤ → ℕ → Type 0
+RunsRound (pos n) x = (k : ℕ) × (n ≡ x + k * 0x1_0000_0000)
+RunsRound (negsuc n) x = (k : ℕ) × (x + suc n ≡ k * 0x1_0000_0000)
+
+-- A word and the number that it is.
+abbrev pub Is : ℤ → ℕ → Type 0
+Is (pos n) x = n ≡ x
+Is (negsuc n) x = ⊥
+
+-- What a number is given as: wrapped, always a word; else the number itself, or 31 where it is no word.
+abbrev pub ByRule : (wraps : Bool) → ℤ → Value → Type 0
+ByRule true z (Word x) = (x < 0x1_0000_0000) × RunsRound z x
+ByRule true z (Trap n) = ⊥
+ByRule false z (Word x) = (x < 0x1_0000_0000) × Is z x
+ByRule false z (Trap n) = (isUnsigned z ≡ false) × (n ≡ 31)
+
+abbrev pub ThreeByRule : Type 0
+ThreeByRule =
+    (wraps : Bool) (op : Arithmetic) → divides op ≡ false → (x y : ℕ)
+    → ByRule wraps (unsignedNumber op x y) (unsignedValue wraps op x y)
+
+-- A quotient or a remainder of words is a word, or traps with 30, by either rule.
+abbrev pub DivisionNeverWraps : Type 0
+DivisionNeverWraps =
+    (op : Arithmetic) → divides op ≡ true → (x y : ℕ) → x < 0x1_0000_0000 → unsignedValue true op x y ≡ unsignedValue false op x y

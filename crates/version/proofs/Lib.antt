@@ -1,0 +1,2 @@
+-- Laws about the order of issues.
+pub mod Issues
