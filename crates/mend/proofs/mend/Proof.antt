@@ -1,6 +1,6 @@
 -- `mend::mend` meets its contract: the tests are those of the definition, in the same order, by the lengths of the record and
 -- the list.
-use Prim.Native.Nat.{_+_, _*_, _-_, _/_, _≤_}
+use Prim.Native.Nat.{_+_, _*_, _-_, _/_, _≤_, _<_}
 use mathlib.Core.Path.{_≡_, _∙_, sym}
 use native.Mathlib.Omega.{arith}
 use lib.ListN.{length}
@@ -73,12 +73,34 @@ add-length c = let k = known c in omega (arith, k .0 .near, k .3)
 add-length-2 : tie.Need-add-length-2
 add-length-2 c = let k = known c in omega (arith, k .0 .near, k .3)
 
+-- What the tests tell of the new record and of the list.
+record-long : (c : tie.Then2) →
+    let a = c .before .before .before .before .before .before .before .before .before .before .args in
+    length (a .out .now) < length (mendedRecord (a .r .now))
+record-long c = omega (arith, record-length (c .before), c .if2 .taken)
+
+record-fits : (c : tie.Else2) →
+    let a = c .before .before .before .before .before .before .before .before .before .before .args in
+    length (mendedRecord (a .r .now)) ≤ length (a .out .now)
+record-fits c = omega (arith, record-length (c .before), c .if2 .left)
+
+list-long : (c : tie.Then3) →
+    let fits = c .before .before .before in
+    let a = fits .before .before .before .before .before .before .before .before .before .before .args in
+    length (a .places .now) < length (droppedWords (a .r .now))
+list-long c = omega (arith, list-length (c .before .before .before .before), c .if3 .taken)
+
+list-fits : (c : tie.Else3) →
+    let fits = c .before .before .before in
+    let a = fits .before .before .before .before .before .before .before .before .before .before .args in
+    length (droppedWords (a .r .now)) ≤ length (a .places .now)
+list-fits c = omega (arith, list-length (c .before .before .before .before), c .if3 .left)
+
 returns-2 : tie.Need-returns-2
 returns-2 c =
-    let placed = c .before in
-    let past = placed .before .before .before .before in
+    let past = c .before .before .before .before .before in
     let a = past .before .before .before .before .before .args in
-    record-too-long (a .r .now) (a .out .now) (a .places .now) (none past) (rw (← record-length placed) (c .if2 .taken))
+    record-too-long (a .r .now) (a .out .now) (a .places .now) (none past) (record-long c)
 
 sub-dropped : tie.Need-sub-dropped
 sub-dropped c = known (c .before .before) .1
@@ -95,11 +117,9 @@ add-dropped c = let k = known (c .before .before .before) in omega (arith, k .0 
 returns-3 : tie.Need-returns-3
 returns-3 c =
     let fits = c .before .before .before in
-    let placed = fits .before in
-    let past = placed .before .before .before .before in
+    let past = fits .before .before .before .before .before in
     let a = past .before .before .before .before .before .args in
-    list-too-long (a .r .now) (a .out .now) (a .places .now) (none past) (rw (← record-length placed) (fits .if2 .left))
-    (rw (← list-length placed) (c .if3 .taken))
+    list-too-long (a .r .now) (a .out .now) (a .places .now) (none past) (record-fits fits) (list-long c)
 
 returns-4 : tie.Need-returns-4
 returns-4 c =
@@ -111,8 +131,7 @@ returns-4 c =
     let past = placed .before .before .before .before in
     let a = past .before .before .before .before .before .args in
     rw (listed .write-places .ensures, wrote .write-record .ensures, record-length placed, list-length placed)
-    (both-fit (a .r .now) (a .out .now) (a .places .now) (none past) (rw (← record-length placed) (fits .if2 .left))
-    (rw (← list-length placed) (room .if3 .left)))
+    (both-fit (a .r .now) (a .out .now) (a .places .now) (none past) (record-fits fits) (list-fits room))
 
 pub mend-spec : {M : Type 1} → statement M
 mend-spec =
