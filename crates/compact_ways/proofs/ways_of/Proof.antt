@@ -4,6 +4,20 @@ use Rattle.compact_ways.proofs.ways_of.Statement.{statement}
 use Rattle.compact_ways.specs.Ways.{waysTop}
 use Rattle.compact_ways.proofs.ways_of.Tie as tie
 
+returns-10 : tie.Need-returns-10
+unfolding waysTop
+returns-10 c =
+    rw (
+      c .before .before .before .before .shape8 .given .1,
+      c .straight-ways2 .ensures,
+      c .before .before .callee-parameters .ensures,
+      c .before .callee-results .ensures,
+    )
+
+returns-11 : tie.Need-returns-11
+unfolding waysTop
+returns-11 c = rw (c .before .before .shape9 .given .1, c .straight-ways3 .ensures)
+
 pub ways-of-spec : {M : Type 1} → statement M
 unfolding waysTop
 ways-of-spec =
@@ -23,6 +37,6 @@ ways-of-spec =
     (λ c. rw (c .before .enum-told .given .1, c .next-ways .ensures))
     (λ c. rw (c .before .before .shape7 .given .1, c .switch-ways .ensures))
     (λ c. rw (c .before .enum-told2 .given .1, c .leave-ways .ensures))
-    (λ c. rw (c .before .before .before .before .shape8 .given .1, c .straight-ways2 .ensures, c .before .before .callee-parameters .ensures, c .before .callee-results .ensures))
-    (λ c. rw (c .before .before .shape9 .given .1, c .straight-ways3 .ensures))
+    returns-10
+    returns-11
     (λ c. rw (c .before .before .enum-told3 .given .1, c .rtn-ways .ensures, c .before .callee-results2 .ensures)))
