@@ -4,6 +4,18 @@ use borrow.Author.Needs.{needs}
 use Rattle.mnemonic.proofs.parts_of.Statement.{statement}
 use Rattle.mnemonic.proofs.parts_of.Tie as tie
 
+returns-7 : tie.Need-returns-7
+unfolding partsOf
+returns-7 c = rw (c .before .before .i7 .given .1, c .plain5 .ensures)
+
+returns-9 : tie.Need-returns-9
+unfolding partsOf
+returns-9 c = rw (c .before .before .i9 .given .1, c .plain7 .ensures)
+
+returns-21 : tie.Need-returns-21
+unfolding partsOf
+returns-21 c = rw (c .before .i15 .given .1)
+
 pub parts-of-spec : {M : Type 1} → statement M
 unfolding partsOf
 parts-of-spec =
@@ -23,9 +35,9 @@ parts-of-spec =
     (λ c. rw (c .before .before .i4 .given .1, c .load-or-store2 .ensures))
     (λ c. rw (c .before .before .i5 .given .1, c .plain3 .ensures))
     (λ c. rw (c .before .before .i6 .given .1, c .plain4 .ensures))
-    (λ c. rw (c .before .before .i7 .given .1, c .plain5 .ensures))
+    returns-7
     (λ c. rw (c .before .before .i8 .given .1, c .plain6 .ensures))
-    (λ c. rw (c .before .before .i9 .given .1, c .plain7 .ensures))
+    returns-9
     (λ c. rw (c .before .before .i10 .given .1, c .plain8 .ensures))
     (λ c. rw (c .before .enum-told .given .1, c .plain9 .ensures))
     (λ c. rw (c .before .enum-told2 .given .1, c .plain10 .ensures))
@@ -36,5 +48,5 @@ parts-of-spec =
     (λ c. rw (c .before .enum-told5 .given .1, c .plain15 .ensures))
     (λ c. rw (c .before .before .i13 .given .1, c .plain16 .ensures))
     (λ c. rw (c .before .before .i14 .given .1, c .plain17 .ensures))
-    (λ c. rw (c .before .enum-told6 .given .1, c .plain18 .ensures)) (λ c. rw (c .before .i15 .given .1))
+    (λ c. rw (c .before .enum-told6 .given .1, c .plain18 .ensures)) returns-21
     (λ c. rw (c .before .enum-told7 .given .1, c .plain19 .ensures)))
