@@ -12,7 +12,8 @@ A batch is a file crates/CRATE/must-fail/BATCH.edit; `rt` applies all of it to a
 
   edit: NAME
   function: MODULE::FUNCTION      or   theorem: FILE.NAME, of proofs/FILE.antt
-  clause: NAME                    of the function's proof; only where the batch has other edits of this function
+  clause: NAME                    of the function's proof, or the need that a search for it does not close; only where the batch has
+                                  other edits of this function
   file: src/lib.rt
   old: text that stands there once
   new: text in its place
@@ -275,6 +276,11 @@ def errors_in(log, file):
             yield (named.group(1), named.group(2)) if named else ("", found.group(2))
 
 
+def unclosed(verdict):
+    """The needs that the search does not close, of a function without a proof file."""
+    return re.findall(r"`([^`]+)`", verdict.partition("`search` does not close")[2]) if verdict.startswith("no proof") else []
+
+
 def refusal(edit, crate, log):
     """Says why a log does not show that what the edit names is refused for a fact of its own; nothing where it does."""
     if edit.kind == "theorem":
@@ -286,7 +292,7 @@ def refusal(edit, crate, log):
         own = [message for declared, message in found if edit.clause in ("", declared)]
         said = re.search(rf"^fn {re.escape(crate)}::{re.escape(edit.breaks)}: (.*)$", log, re.M)
         verdict = said.group(1) if said else "no verdict"
-        if verdict.startswith("no proof") and "`search` does not close" in verdict and not edit.clause:
+        if any(edit.clause in ("", need) for need in unclosed(verdict)):
             return ""
     if verdict.startswith("proved"):
         return "it is still proved"

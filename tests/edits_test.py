@@ -169,10 +169,14 @@ class After(unittest.TestCase):
         self.assertEqual(self.wrong(REFUSED, named), "")
         other = named.replace("clause: returns", "clause: returns-2")
         self.assertIn("no error of its own", self.wrong(REFUSED, other))
-        self.assertIn("no error of its own", self.wrong(UNCLOSED, named))
+        self.assertEqual(self.wrong(UNCLOSED, named), "")
+        self.assertIn("no error of its own", self.wrong(UNCLOSED, other))
 
     def test_still_proved(self):
         self.assertIn("still proved", self.wrong("fn one::low: proved\nlogic=not-proved\n"))
+
+    def test_no_proof_for_another_reason(self):
+        self.assertIn("no error of its own", self.wrong(UNCLOSED[: UNCLOSED.index(";")] + "\n"))
 
     def test_only_the_callee_is_not_proved(self):
         self.assertIn("no fact of its own", self.wrong(CALLEE))

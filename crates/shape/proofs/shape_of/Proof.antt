@@ -14,6 +14,14 @@ add-t24 c =
     let mode = words-small (i .1 .0) in
     record { fits = omega (arith, c .before .popped-words3 .ensures, c .words-in2 .ensures, base, mode) }
 
+returns-13 : tie.Need-returns-13
+unfolding shapeOf
+returns-13 c = rw (c .before .i8 .given .1)
+
+returns-18 : tie.Need-returns-18
+unfolding shapeOf
+returns-18 c = rw (c .before .i12 .given .1)
+
 pub shape-of-spec : {M : Type 1} → statement M
 unfolding shapeOf
 shape-of-spec =
@@ -30,7 +38,7 @@ shape-of-spec =
     (λ c. rw (c .before .i4 .given .1)) (λ c. rw (c .enum-told2 .given .1)) (λ c. rw (c .enum-told3 .given .1))
     (λ c. rw (c .before .before .i5 .given .1, c .operand-words .ensures)) (λ c. rw (c .enum-told4 .given .1))
     (λ c. rw (c .enum-told5 .given .1)) (λ c. rw (c .before .i6 .given .1)) (λ c. rw (c .before .i7 .given .1))
-    (λ c. rw (c .before .i8 .given .1)) (λ c. rw (c .before .i9 .given .1)) (λ c. rw (c .before .i10 .given .1))
-    (λ c. rw (c .enum-told6 .given .1)) (λ c. rw (c .before .i11 .given .1)) (λ c. rw (c .before .i12 .given .1))
+    returns-13 (λ c. rw (c .before .i9 .given .1)) (λ c. rw (c .before .i10 .given .1))
+    (λ c. rw (c .enum-told6 .given .1)) (λ c. rw (c .before .i11 .given .1)) returns-18
     (λ c. rw (c .enum-told7 .given .1)) (λ c. rw (c .before .i13 .given .1)) (λ c. rw (c .before .i14 .given .1))
     (λ c. rw (c .enum-told8 .given .1)))
