@@ -1,12 +1,14 @@
 -- `check::check` meets its contract: the numbers up to 9, then the code with just its part of the workspace.
 use Prim.Native.Nat.{_*_}
-use mathlib.Core.Path.{sym, _∙_}
+use mathlib.Core.Path.{_≡_, sym, _∙_}
 use native.Mathlib.Omega.{arith}
-use lib.ListN.{length, length-take}
+use lib.ListN.{length, take, length-take}
 use borrow.Author.Needs.{needs}
 use borrow.Author.Tests.{ne-eqb}
 use Rattle.verifier.proofs.check.check.Statement.{statement}
+use Rattle.workspace.specs.Checking.{checking}
 use Rattle.verifier.specs.Check.{checkOf}
+use Rattle.verifier.specs.Examine.{examinedTop}
 use Rattle.verifier.proofs.Borrowing.{room, small, lends}
 use Rattle.verifier.proofs.check.check.Tie as tie
 
@@ -51,6 +53,14 @@ examine-requires c κs =
     (small (a .r .now) (a .results .now) (a .w .now) (sym (list-number .ensures) ∙ if1 .left)) in
     (c .before .before .formats .ensures, omega (arith, s))
 
+-- The code is examined in four halfwords for each of its bytes.
+examined : (c : tie.After-examine) →
+    let code = c .before .before .before .before .code-of .result .now in
+    let a = c .before .before .before .before .before .before .before .before .before .before .args in
+    checking (c .examine .result) (c .examine .last .1 .1 .1 .0)
+    ≡ examinedTop code (a .results .now) (take (4 * length code) (a .w .now))
+examined c = c .examine .ensures
+
 returns-2 : tie.Need-returns-2
 returns-2 c =
     let examine = c .before .before .examine in
@@ -63,7 +73,7 @@ returns-2 c =
     rw (code-of .ensures)
     (lends (a .r .now) (a .results .now) (a .w .now) (sym (list-number .ensures) ∙ if1 .left)
     (λ k. shared-slice-known .given k .fits) (examine .result) (examine .last .1 .1 .1 .0)
-    (rw (code-of .ensures) at (examine .ensures)))
+    (rw (code-of .ensures) at (examined (c .before .before))))
 
 pub check-spec : {M : Type 1} → statement M
 check-spec =

@@ -1,5 +1,5 @@
 -- `check::list_number` meets its contract, test by test.
-use Prim.Native.Nat.{_*_}
+use Prim.Native.Nat.{_*_, _<_}
 use native.Mathlib.Omega.{arith}
 use lib.ListN.{length}
 use borrow.Author.Needs.{needs}
@@ -12,10 +12,16 @@ returns : tie.Need-returns
 unfolding listNumber
 returns c = rw (← c .before .record-number .ensures, ne-eqb (c .before .record-number .result) 0 (c .if1 .taken))
 
-returns-2 : tie.Need-returns-2
+abbrev Narrow : (c : tie.Then2) → Type 0
+Narrow c = c .before .before .before .before .before .before .args .room < 4 * length (c .before .code-of .result .now)
+
+-- The room is less than four halfwords for each byte, and the number is then 8.
+narrow : (c : tie.Then2) → Narrow c
+narrow c = omega (arith, c .if2 .taken)
+
+narrow-is-8 : ((c : tie.Then2) → Narrow c) → tie.Need-returns-2
 unfolding listNumber
-returns-2 c =
-    let if2 = c .if2 in
+narrow-is-8 less c =
     let code-of = c .before .code-of in
     let if1 = c .before .before .if1 in
     let record-number = c .before .before .before .record-number in
@@ -24,8 +30,11 @@ returns-2 c =
       ← record-number .ensures,
       eq-eqb (record-number .result) 0 (if1 .left),
       ← code-of .ensures,
-      lt-ltb (a .room) (4 * length (code-of .result .now)) (omega (arith, if2 .taken)),
+      lt-ltb (a .room) (4 * length (code-of .result .now)) (less c),
     )
+
+returns-2 : tie.Need-returns-2
+returns-2 = narrow-is-8 narrow
 
 returns-3 : tie.Need-returns-3
 unfolding listNumber
