@@ -20,7 +20,10 @@ add-result-2 c =
     let byte = c .before .before .shared-slice-known .given in
     omega (arith, byte 5, byte (6 + resultsCount (c .before .before .before .args .f .now)))
 
+returns : tie.Need-returns
+returns c = search needs
+
 pub budget-at-spec : {M : Type 1} → statement M
 budget-at-spec =
     tie.close
-    (tie.spec (λ c κs. search needs) add-result (λ c κs. search needs) mul-result add-result-2 (λ c. search needs))
+    (tie.spec (λ c κs. search needs) add-result (λ c κs. search needs) mul-result add-result-2 returns)

@@ -21,6 +21,9 @@ abbrev μ-loop : tie.MeasureT-loop
 add-from : tie.Need-add-from Inv-loop μ-loop
 add-from c = omega (arith, c .before .before .shared-slice-known .given 5)
 
+loop-holds : tie.Need-loop-holds Inv-loop μ-loop
+loop-holds c = search needs
+
 add-word-at : tie.Need-add-word-at Inv-loop μ-loop
 add-word-at c = omega (arith, c .before .before .before .before .shared-slice-known .given 5)
 
@@ -51,6 +54,6 @@ returns c =
 pub read-parameters-spec : {M : Type 1} → statement M
 read-parameters-spec =
     tie.close
-    (tie.spec Inv-loop μ-loop (λ c κs. search needs) add-from (λ c. search needs) (λ c. search needs) add-word-at
+    (tie.spec Inv-loop μ-loop (λ c κs. search needs) add-from loop-holds (λ c. search needs) add-word-at
     (λ c κs. search needs) (λ c. search needs) (λ c. search needs) (λ c. search needs) (λ c. search needs) loop-again
     (λ c. search needs) returns)

@@ -1,5 +1,5 @@
 -- `run_file::well_formed` meets its contract: each return is the first test that fails, the last one its value.
-use Prim.Native.Nat.{_+_}
+use Prim.Native.Nat.{_+_, _≤_}
 use mathlib.Core.Bool.{_&&_}
 use mathlib.Core.Path.{_≡_}
 use native.Mathlib.Omega.{arith}
@@ -15,10 +15,18 @@ returns : tie.Need-returns
 unfolding wellFormed
 returns c = rw (lt-leb _ 8192 (c .if1 .taken))
 
+-- What the tests of the length tell where they pass.
+not-long : (c : tie.Else1) → length (c .before .before .args .f .now) ≤ 8192
+not-long c = omega (arith, c .if1 .left)
+
+with-record : (c : tie.Else4) →
+    c .before .budget-at .result + 8 ≤ length (c .before .before .before .before .before .before .before .before .args .f .now)
+with-record c = omega (arith, c .if4 .left)
+
 returns-2 : tie.Need-returns-2
 unfolding wellFormed
 returns-2 c = rw (
-  le-leb _ 8192 (c .before .before .if1 .left),
+  le-leb _ 8192 (not-long (c .before .before)),
   ← c .before .is-named .ensures,
   not-true (c .before .is-named .result) (c .if2 .taken),
 )
@@ -26,7 +34,7 @@ returns-2 c = rw (
 returns-3 : tie.Need-returns-3
 unfolding wellFormed
 returns-3 c = rw (
-  le-leb _ 8192 (c .before .before .before .before .if1 .left),
+  le-leb _ 8192 (not-long (c .before .before .before .before)),
   ← c .before .before .before .is-named .ensures,
   not-false (c .before .before .before .is-named .result) (c .before .before .if2 .left),
   ← c .before .halfword-at .ensures,
@@ -40,7 +48,7 @@ three-pass : (c : tie.Else3) →
 unfolding wellFormed
 three-pass c =
     rw (
-      le-leb _ 8192 (c .before .before .before .before .if1 .left),
+      le-leb _ 8192 (not-long (c .before .before .before .before)),
       ← c .before .before .before .is-named .ensures,
       not-false (c .before .before .before .is-named .result) (c .before .before .if2 .left),
       ← c .before .halfword-at .ensures,
@@ -59,7 +67,7 @@ returns-5 : tie.Need-returns-5
 returns-5 c = rw (
   three-pass (c .before .before .before),
   ← c .before .before .budget-at .ensures,
-  le-leb _ _ (c .before .if4 .left),
+  le-leb _ _ (with-record (c .before)),
   c .memory-words .ensures,
 )
 

@@ -17,7 +17,10 @@ returns-2 c =
     let a = c .before .before .before .args in
     sym (word-past (a .s .now) (a .at + a .k) (omega arith))
 
+returns-3 : tie.Need-returns-3
+returns-3 c = search needs
+
 pub word-behind-spec : {M : Type 1} → statement M
 word-behind-spec =
     tie.close
-    (tie.spec returns (λ c. search needs) returns-2 (λ c. search needs) (λ c κs. search needs) (λ c. search needs))
+    (tie.spec returns (λ c. search needs) returns-2 (λ c. search needs) (λ c κs. search needs) returns-3)
