@@ -28,7 +28,7 @@ static const struct {
     [WORKSPACE] = {"workspace", 2, ICODE_WORKSPACE_MAX + 64, false},
     [MEMORY] = {"memory", 4, ICODE_MEMORY_MAX + 8, false},
     [STACK] = {"stack", 4, ICODE_STACK_MAX + 8, false},
-    [STATE] = {"state", 4, ICODE_STATE_WORDS + 8, false},
+    [STATE] = {"state", 4, STATE_MAX, false},
     [OUTCOME] = {"outcome", 4, ICODE_OUTCOME_WORDS + 8, false},
     [DECODED] = {"out", 4, ICODE_DECODED_WORDS + 8, false},
 };

@@ -20,6 +20,9 @@ enum layout { FRONT, BACK, LAYOUTS };
 /* Limit the const inputs to some more elements than the library takes. */
 enum { RECORD_MAX = ICODE_MEND_MAX + 100, RESULTS_MAX = 300, PARAMETERS_MAX = 300, RUN_FILE_MAX = ICODE_RUN_FILE_MAX + 8 };
 
+/* And a state, which goes from call to call. */
+enum { STATE_MAX = ICODE_STATE_WORDS + 8 };
+
 enum { PAGE = 4096 };
 
 /* Maps the buffers, all 0 but for the pattern around an empty one. */

@@ -183,7 +183,8 @@ static void try_decode(const struct input *input)
 
 /* Keeps a machine between calls. */
 struct machine {
-    uint32_t memory[ICODE_MEMORY_MAX], stack[ICODE_STACK_MAX], state[ICODE_STATE_WORDS];
+    uint32_t memory[ICODE_MEMORY_MAX], stack[ICODE_STACK_MAX];
+    uint32_t state[STATE_MAX]; /* more words than a state has, for runs that are lent as many */
     size_t memory_len, stack_len;
     bool fits;  /* its state is one that load or run left */
     bool sound; /* and all its steps were those of accepted code */
@@ -221,7 +222,7 @@ static bool try_load(const struct input *input, uint32_t number, struct machine 
     machine->memory_len = call.len[MEMORY];
     machine->stack_len = call.len[STILL_STACK];
     memcpy(machine->memory, after(&call, MEMORY), machine->memory_len * sizeof machine->memory[0]);
-    memcpy(machine->state, after(&call, STATE), sizeof machine->state);
+    memcpy(machine->state, after(&call, STATE), ICODE_STATE_WORDS * sizeof machine->state[0]);
     return true;
 }
 
@@ -251,6 +252,8 @@ static struct call new_run(const struct input *input, struct machine *machine)
     call.at_once = once_in(2) ? 0 : random_below(5);
     if (once_in(10))
         call.len[OUTCOME] = some_len(OUTCOME, ICODE_OUTCOME_WORDS);
+    if (once_in(10))
+        call.len[STATE] = some_len(STATE, ICODE_STATE_WORDS);
     return call;
 }
 
@@ -265,7 +268,7 @@ static void hold_run(const struct call *call, struct machine *machine)
     followed += machine->sound && end != ICODE_SPENT;
     memcpy(machine->memory, after(call, MEMORY), machine->memory_len * sizeof machine->memory[0]);
     memcpy(machine->stack, after(call, STACK), machine->stack_len * sizeof machine->stack[0]);
-    memcpy(machine->state, after(call, STATE), sizeof machine->state);
+    memcpy(machine->state, after(call, STATE), ICODE_STATE_WORDS * sizeof machine->state[0]);
     machine->fits = true;
     machine->sound = machine->sound && end == ICODE_SPENT; /* a machine that has ended is not run on */
 }
@@ -273,7 +276,7 @@ static void hold_run(const struct call *call, struct machine *machine)
 static void try_run(const struct input *input, uint32_t number, struct machine *machine)
 {
     struct call call = new_run(input, machine);
-    bool lengths = call.len[OUTCOME] == ICODE_OUTCOME_WORDS;
+    bool lengths = call.len[STATE] == ICODE_STATE_WORDS && call.len[OUTCOME] == ICODE_OUTCOME_WORDS;
     uint32_t answer = (uint32_t)call_both(&call);
     note_number(call.function, answer);
     promise(&call, number != 0 ? answer == number : answer == 0 || answer == ICODE_STATE_WRONG, "a number out of place");
