@@ -1,4 +1,4 @@
-/* Prints what became of a run file, through the library. Exit status: 0 finished, 1 refused, trapped or spent, 2 no file. */
+/* Prints what became of a run file, through the library. Exit status: 0 finished, 1 refused, trapped or spent, 2 not read. */
 #include "icode.h"
 
 #include <stdio.h>
@@ -10,11 +10,11 @@ int main(int argc, char **argv)
     unsigned check = 0, end = 0, at = 0, line = 0;
 
     FILE *input = argc == 2 ? fopen(argv[1], "rb") : NULL;
-    if (input == NULL) {
-        fprintf(stderr, "usage: embed RUN_FILE\n");
+    size_t file_len = input != NULL ? fread(file, 1, sizeof file, input) : 0;
+    if (input == NULL || ferror(input)) { /* a read that fails is no end of the file */
+        fprintf(stderr, "usage: embed RUN_FILE, a file that can be read\n");
         return 2;
     }
-    size_t file_len = fread(file, 1, sizeof file, input);
     fclose(input);
 
     size_t page_len = icode_report(file, file_len, page, ICODE_REPORT_MAX); /* checks, loads and runs */
