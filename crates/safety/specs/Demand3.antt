@@ -1,6 +1,7 @@
 -- Demand 3, as the letter words it: each clause of the letter is a field of `Ends` or `Safe`; the other fields say what it is about.
 -- 01: "Demand 3 is a single claim about all states of a run, from the one loaded to the last".
 use mathlib.Core.List.{List, [], _∷_}
+use mathlib.Core.Option.{some}
 use mathlib.Core.Path.{_≡_}
 use Prim.Native.Nat.{ℕ, _≤_, _<_, _+_}
 use lib.ListN.{length, getD}
@@ -12,7 +13,7 @@ use Rattle.operate.specs.Traps.{DataTrap}
 use Rattle.registers.specs.declared.Registers.{Registers}
 use Rattle.stackmap.specs.Slots.{Slot, word, label}
 use Rattle.stackmap.specs.Ways.{Subject, labelWord}
-use Rattle.stackmap.specs.StackMap.{Reached}
+use Rattle.stackmap.specs.StackMap.{Map, IsMap, Reached}
 use Rattle.verifier.specs.Check.{checkOf}
 use Rattle.words.specs.Bytes.{Bytes}
 use Rattle.verifier.specs.Exact.{Ruled, subject, Shows}
@@ -55,27 +56,32 @@ pub record Unread (P : Program) (c : Configuration) (s' : List ℕ) : Type 0 whe
   pub same-registers : stepOn P (other c s') .state .registers ≡ stepOn P c .state .registers
   pub same-memory : stepOn P (other c s') .state .memory ≡ stepOn P c .state .memory
   pub same-share : SameFrom (shareOf (c .calls)) (stepOn P c .state .stack) (stepOn P (other c s') .state .stack)
+  pub keeps-size : length (stepOn P (other c s') .state .stack) ≡ length s'
   pub keeps-own : (i : ℕ) → i < shareOf (c .calls) → getD (stepOn P (other c s') .state .stack) i 0 ≡ getD s' i 0
 
--- What holds of each configuration: w is the workspace as the check left it, m0 the memory as loaded.
-pub record Safe (P : Program) (U : Subject) (w m0 : List ℕ) (c : Configuration) : Type 0 where
+-- What holds of each configuration: w is the workspace as the check left it, S0 the state as loaded.
+pub record Safe (P : Program) (U : Subject) (w : List ℕ) (S0 : State) (c : Configuration) : Type 0 where
   -- 01: "The last active call's procedure is the running one; with none, procedure 0." It is one of the record's, and the active calls
   -- are as many as the machine counts.
   pub procedure : running (c .calls) < entryCount (U .code)
   pub active : length (c .calls) ≡ c .state .registers .calls
-  -- "the place is one that the running procedure's stack picture has": what is reached has one list there (stackmap/specs/Theorems,
-  -- `HasReached`).
+  -- "the place is one that the running procedure's stack picture has": it is reached, and so every map of the procedure's region has
+  -- just these slots there.
   pub slots : List Slot
   pub placed : Reached U (running (c .calls)) (c .state .registers .pc) slots
+  pub pictured : (π : Map) → IsMap U (running (c .calls)) π → π (c .state .registers .pc) ≡ some slots
   -- "That procedure's share of the stack has exactly the height and labels of the picture there"
   pub height : c .state .registers .height ≡ shareOf (c .calls) + length slots
   pub labels : Holds (U .code) (c .state .stack) (shareOf (c .calls)) slots
   -- "the check's workspace, as the check left it, shows that height and the topmost label"
   pub shown : Shows w (c .state .registers .pc) slots
   -- "Header words and constants are as loaded"
-  pub header : (a : ℕ) → a < globalsStart → read (c .state .memory) a ≡ read m0 a
+  pub header : (a : ℕ) → a < globalsStart → read (c .state .memory) a ≡ read (S0 .memory) a
   pub constants : (a : ℕ) → constantsStart (P .attributes) ≤ a → a < framesStart (P .attributes)
-      → read (c .state .memory) a ≡ read m0 a
+      → read (c .state .memory) a ≡ read (S0 .memory) a
+  -- Memory and stack keep their sizes.
+  pub memory-size : length (c .state .memory) ≡ length (S0 .memory)
+  pub stack-size : length (c .state .stack) ≡ length (S0 .stack)
   -- "each active call's link words are as that call wrote them"
   pub links : Linked (c .state .memory) (c .calls)
   -- "No step, a trapped one included, reads or changes a stack word below the share that it starts with": with the run's own stack for
@@ -96,12 +102,19 @@ counted (Trapped k) n = n
 abbrev pub endedIn : End → ℕ → Configuration → Result
 endedIn ending n c = ended ending (counted ending n) (c .state)
 
-pub record Ends (P : Program) (U : Subject) (first : Configuration) (run : Result) : Type 0 where
+-- "spends its budget": it has completed just as many steps; a run that ends otherwise has completed fewer before its last step.
+abbrev pub Within : End → (n budget : ℕ) → Type 0
+Within Finished n budget = n < budget
+Within Spent n budget = n ≡ budget
+Within (Trapped k) n budget = n < budget
+
+pub record Ends (P : Program) (U : Subject) (first : Configuration) (budget : ℕ) (run : Result) : Type 0 where
   pub steps : ℕ
   pub last : Configuration
   pub visited : Visits P U first steps last
   pub ending : End
   pub proper : Proper ending
+  pub within : Within ending steps budget
   pub ends : run ≡ endedIn ending steps last
 
 -- 01: "Check, load and run get the same record; the run gets the load's memory and stack and all else it answered or wrote, as left".
@@ -109,12 +122,12 @@ pub record Ends (P : Program) (U : Subject) (first : Configuration) (run : Resul
 -- run it from there, with demand 2's steps and step count and any step budget. .. After every number of its steps, from none to the
 -- last, .."
 pub record Demand3 (r w : List ℕ) (S : State) (U : Subject) : Type 0 where
-  pub runs : (budget : ℕ) → Ends (programOf r) U (loadedConfiguration S) (runOf r budget S)
-  pub safe : (n : ℕ) (c : Configuration) → Visits (programOf r) U (loadedConfiguration S) n c → Safe (programOf r) U w (S .memory) c
+  pub runs : (budget : ℕ) → Ends (programOf r) U (loadedConfiguration S) budget (runOf r budget S)
+  pub safe : (n : ℕ) (c : Configuration) → Visits (programOf r) U (loadedConfiguration S) n c → Safe (programOf r) U w S c
 
+-- It holds for every way in which the record meets the rules up to 14; that it meets them is `AcceptsExactly` (verifier/specs/Exact).
 abbrev pub Claim : Type 0
 Claim =
     (r results w parameters m s : List ℕ) (q : Registers) → Bytes r → checkOf r results w .number ≡ 0
-    → loadOf r parameters m s .answer ≡ Ready q
-    → (R : Ruled r results)
-    × Demand3 r (checkOf r results w .workspace) (state q (loadOf r parameters m s .memory) s) (subject r results R)
+    → loadOf r parameters m s .answer ≡ Ready q → (R : Ruled r results)
+    → Demand3 r (checkOf r results w .workspace) (state q (loadOf r parameters m s .memory) s) (subject r results R)

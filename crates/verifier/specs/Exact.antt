@@ -38,27 +38,24 @@ Room r w = 4 * length (codeOf r) ≤ length w
 abbrev pub Unmapped : (r results : List ℕ) → Ruled r results → Type 0
 Unmapped r results R = (p : ℕ) × (p < entryCount (codeOf r)) × ((π : Map) → IsMap (subject r results R) p π → ⊥)
 
--- The check answers a number: then there is room, the rules up to 14 are met and a property holds; and the other way round.
-abbrev pub AnswersOnly : ℕ → ((r results : List ℕ) → Ruled r results → Type 0) → Type 0
-AnswersOnly number Property =
-    (r results w : List ℕ) → Bytes r → checkOf r results w .number ≡ number → Room r w × (R : Ruled r results) × Property r results R
+-- There is room, the rules up to 14 are met, and a property holds.
+abbrev pub Met : ((r results : List ℕ) → Ruled r results → Type 0) → (r results w : List ℕ) → Type 0
+Met Property r results w = Room r w × (R : Ruled r results) × Property r results R
 
-abbrev pub AnswersAll : ℕ → ((r results : List ℕ) → Ruled r results → Type 0) → Type 0
-AnswersAll number Property =
-    (r results w : List ℕ) → Bytes r → Room r w → (R : Ruled r results) → Property r results R → checkOf r results w .number ≡ number
+-- The check answers a number exactly where that is so.
+abbrev pub Exactly : ℕ → ((r results : List ℕ) → Ruled r results → Type 0) → Type 0
+Exactly number Property =
+    (r results w : List ℕ) → Bytes r
+    → (checkOf r results w .number ≡ number → Met Property r results w)
+    × (Met Property r results w → checkOf r results w .number ≡ number)
 
--- Accepted exactly when every region has a map; 15 exactly when some region has none.
-abbrev pub AcceptsOnly : Type 0
-AcceptsOnly = AnswersOnly 0 Mapped
+-- The letter: "The check accepts exactly the records that meet the written rules".
+abbrev pub AcceptsExactly : Type 0
+AcceptsExactly = Exactly 0 Mapped
 
-abbrev pub AcceptsAll : Type 0
-AcceptsAll = AnswersAll 0 Mapped
-
-abbrev pub RefusesOnly : Type 0
-RefusesOnly = AnswersOnly 15 Unmapped
-
-abbrev pub RefusesAll : Type 0
-RefusesAll = AnswersAll 15 Unmapped
+-- 01: 15 is given exactly when "some region has no picture", and no lower number is.
+abbrev pub RefusesExactly : Type 0
+RefusesExactly = Exactly 15 Unmapped
 
 -- After acceptance the workspace shows the map of just what is reached: height plus 1 and the topmost label where there is a list, and
 -- 0 and 0 at every other offset.
