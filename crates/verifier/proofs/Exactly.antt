@@ -17,8 +17,8 @@ use Rattle.stackmap.proofs.Placing.{in-told}
 use Rattle.stackmap.proofs.Exact.{finds-maps, refutes-maps, finds-reached, has-reached}
 use Rattle.verifier.specs.Check.{listNumber, accepted, walked, verdictOf, concluded, shownState, shownFrom, checkOf}
 use Rattle.words.specs.Bytes.{Bytes}
-use Rattle.verifier.specs.Exact.{Ruled, subject, Unmapped, Room, AcceptsOnly}
-use Rattle.verifier.specs.Exact.{AcceptsAll, RefusesOnly, RefusesAll, ShowsReached, ShowsNoMore}
+use Rattle.verifier.specs.Exact.{Ruled, subject, Mapped, Unmapped, Room, Met}
+use Rattle.verifier.specs.Exact.{AcceptsExactly, RefusesExactly, ShowsReached, ShowsNoMore}
 use Rattle.record.proofs.Sound.{numberless}
 use Rattle.verifier.proofs.Records.{Listed, code-bytes}
 use Rattle.verifier.proofs.Keeping.{state-shows}
@@ -91,41 +91,48 @@ module _ (r results w : List ℕ) where
       let near : 4 * at + k < length shown = omega (arith, shown-length (P .states) 0 (length code)) in
       rw (e, P .leaves, List·getD-append shown (drop (4 * length code) w) 0 (4 * at + k) near, shown-at (P .states) 0 (length code) at k a b, zero-add at)
 
-pub accepts-only : AcceptsOnly
-accepts-only r results w b e =
-    let met = ruled r results w (λ l. e) in
-    let U = subject r results (met .1) in
-    let P = passed r results w e (met .1) in
-    (met .0, met .1, λ p h. (mapIn U p (P .states), finds-maps U (ruled-sound r results w b (met .1)) (P .states) (P .walks) p h))
+module _ (r results w : List ℕ) (b : Bytes r) where
+  accepts-only : checkOf r results w .number ≡ 0 → Met Mapped r results w
+  accepts-only e =
+      let met = ruled r results w (λ l. e) in
+      let U = subject r results (met .1) in
+      let P = passed r results w e (met .1) in
+      (met .0, met .1, λ p h. (mapIn U p (P .states), finds-maps U (ruled-sound r results w b (met .1)) (P .states) (P .walks) p h))
 
-pub accepts-all : AcceptsAll
-accepts-all r results w b room R maps = rw (ruled-leaves r results w room R) (by (walkOf (subject r results R)) refl)
-  where
-    by : (o : Option States) → walkOf (subject r results R) ≡ o → concluded (length (codeOf r)) w (walked o) .number ≡ 0
-    by none f =
-        let x = refutes-maps (subject r results R) (ruled-sound r results w b R) f in
-        let m = maps (x .0) (x .1) in
-        absurd (x .2 (m .0) (m .1))
-    by (some σ) f = refl
+  accepts-all : Met Mapped r results w → checkOf r results w .number ≡ 0
+  accepts-all (room, R, maps) = rw (ruled-leaves r results w room R) (by (walkOf (subject r results R)) refl)
+    where
+      by : (o : Option States) → walkOf (subject r results R) ≡ o → concluded (length (codeOf r)) w (walked o) .number ≡ 0
+      by none f =
+          let x = refutes-maps (subject r results R) (ruled-sound r results w b R) f in
+          let m = maps (x .0) (x .1) in
+          absurd (x .2 (m .0) (m .1))
+      by (some σ) f = refl
 
-pub refuses-only : RefusesOnly
-refuses-only r results w b e =
-    let met = ruled r results w (λ l. absurd (omega arith)) in
-    (met .0, met .1, by (met .1) (walkOf (subject r results (met .1))) refl (ruled-leaves r results w (met .0) (met .1)))
-  where
-    by : (R : Ruled r results) (o : Option States) → walkOf (subject r results R) ≡ o
-        → checkOf r results w ≡ concluded (length (codeOf r)) w (walked o) → Unmapped r results R
-    by R none f g = refutes-maps (subject r results R) (ruled-sound r results w b R) f
-    by R (some σ) f g = let z : _≡_ {A = ℕ} 0 15 = rw g at e in absurd (omega arith)
+  refuses-only : checkOf r results w .number ≡ 15 → Met Unmapped r results w
+  refuses-only e =
+      let met = ruled r results w (λ l. absurd (omega arith)) in
+      (met .0, met .1, by (met .1) (walkOf (subject r results (met .1))) refl (ruled-leaves r results w (met .0) (met .1)))
+    where
+      by : (R : Ruled r results) (o : Option States) → walkOf (subject r results R) ≡ o
+          → checkOf r results w ≡ concluded (length (codeOf r)) w (walked o) → Unmapped r results R
+      by R none f g = refutes-maps (subject r results R) (ruled-sound r results w b R) f
+      by R (some σ) f g = let z : _≡_ {A = ℕ} 0 15 = rw g at e in absurd (omega arith)
 
-pub refuses-all : RefusesAll
-refuses-all r results w b room R N = rw (ruled-leaves r results w room R) (by (walkOf (subject r results R)) refl)
-  where
-    by : (o : Option States) → walkOf (subject r results R) ≡ o → concluded (length (codeOf r)) w (walked o) .number ≡ 15
-    by none f = refl
-    by (some σ) f =
-        let U = subject r results R in
-        absurd (N .2 (mapIn U (N .0) σ) (finds-maps U (ruled-sound r results w b R) σ f (N .0) (N .1)))
+  refuses-all : Met Unmapped r results w → checkOf r results w .number ≡ 15
+  refuses-all (room, R, N) = rw (ruled-leaves r results w room R) (by (walkOf (subject r results R)) refl)
+    where
+      by : (o : Option States) → walkOf (subject r results R) ≡ o → concluded (length (codeOf r)) w (walked o) .number ≡ 15
+      by none f = refl
+      by (some σ) f =
+          let U = subject r results R in
+          absurd (N .2 (mapIn U (N .0) σ) (finds-maps U (ruled-sound r results w b R) σ f (N .0) (N .1)))
+
+pub accepts-exactly : AcceptsExactly
+accepts-exactly r results w b = (accepts-only r results w b, accepts-all r results w b)
+
+pub refuses-exactly : RefusesExactly
+refuses-exactly r results w b = (refuses-only r results w b, refuses-all r results w b)
 
 -- What is reached has its list in the states found.
 pub shows-reached : ShowsReached
