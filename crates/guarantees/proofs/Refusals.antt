@@ -1,8 +1,7 @@
--- A refused load or run is the case of its definition that hands everything back; a run's count grows by one a step, and it is spent
--- where none is left.
+-- A refused load or run is the case of its definition that hands everything back; a run's count grows by one a step, and it is
+-- spent where none is left.
 use mathlib.Core.Path.{_≡_, refl}
 use mathlib.Core.Bool.{Bool, true, false, cond}
-use mathlib.Core.List.{List}
 use Prim.Native.Nat.{ℕ, zero, suc, _+_, _≤_}
 use native.Mathlib.Omega.{arith}
 use lib.Dec.{eqb}
@@ -27,7 +26,8 @@ pub record Counted (a : Answer) (most : ℕ) : Type 0 where
   pub all : ending .ending ≡ Spent → ending .steps ≡ most
 
 counted : (P : Program) (left count : ℕ) (S : State) → Counted (runFrom P left count S .answer) (count + left)
-counted P zero count S = record { ending = endedAt Spent count (S .registers); is = refl; few = omega arith; all = λ e. omega arith }
+counted P zero count S =
+    record { ending = endedAt Spent count (S .registers); is = refl; few = omega arith; all = λ e. omega arith }
 counted P (suc left) count S = by (stepOf P S .outcome) (stepOf P S .state) (counted P left (count + 1) (stepOf P S .state))
   where
     by : (o : Outcome) (T : State) → Counted (runFrom P left (count + 1) T .answer) (count + 1 + left)
@@ -86,5 +86,6 @@ unfolding runOf
 spends-budget r budget S e h spent =
     let P = programOf r in
     let l : e .steps ≡ 0 + budget =
-    pick-count (runFrom P budget 0 S) (0 + budget) (runNumber r S) S (counted P budget 0 S) (eqb (runNumber r S) 0) e h .1 spent in
+    pick-count (runFrom P budget 0 S) (0 + budget) (runNumber r S) S (counted P budget 0 S) (eqb (runNumber r S) 0) e h .1
+    spent in
     omega arith

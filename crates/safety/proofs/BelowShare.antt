@@ -26,6 +26,7 @@ use Rattle.step.specs.declared.Outcome.{Outcome}
 use Rattle.step.specs.Step.{After, after, pushed, apply, perform, stepOf}
 use Rattle.safety.specs.Active.{shareOf}
 use Rattle.safety.specs.Demand3.{SameFrom}
+use Rattle.safety.proofs.Sizes.{stack-kept}
 use Rattle.safety.proofs.Framing.{Does, does-trap, does-finish, does-go, acts-do}
 use Rattle.safety.proofs.Invariant.{registersOf, programIn, StepUnread}
 
@@ -124,5 +125,6 @@ step-unread U A c i next D h s' same =
       same-registers = a .registers;
       same-memory = a .memory;
       same-share = a .above;
+      keeps-size = stack-kept P (state q m s');
       keeps-own = a .own;
     }

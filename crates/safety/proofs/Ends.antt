@@ -1,7 +1,7 @@
--- How a run of accepted code ends: in a configuration that it visits, finished, spent or in a data trap. A step that does not
--- go on leaves everything as it was, and where it traps it is on data.
+-- How a run of accepted code ends: in a configuration that it visits, finished, spent or in a data trap, within its budget. A
+-- step that does not go on leaves everything as it was, and where it traps it is on data.
 use mathlib.Core.Path.{_≡_, refl, subst}
-use Prim.Native.Nat.{ℕ, zero, suc, _+_}
+use Prim.Native.Nat.{ℕ, zero, suc, _+_, _<_}
 use native.Mathlib.Omega.{arith}
 use Rattle.shape.specs.Shape.{shapeOf}
 use Rattle.shape.specs.Linkage.{linkageOf}
@@ -11,12 +11,11 @@ use Rattle.registers.specs.State.{state}
 use Rattle.operate.specs.Traps.{DataTrap}
 use Rattle.stackmap.specs.Ways.{Subject}
 use Rattle.verifier.specs.Exact.{subject}
-use Rattle.verifier.proofs.Exactly.{accepts-only}
 use Rattle.machine.specs.declared.run.End.the-variants.{Finished as finish, Spent, Trapped as stop}
 use Rattle.step.specs.declared.Outcome.{Outcome}
 use Rattle.step.specs.declared.Outcome.the-variants.{Went, Finished, Trapped}
 use Rattle.load.specs.Load.{loadOf}
-use Rattle.machine.specs.Run.{proceed, runFrom, runNumber, runOf}
+use Rattle.machine.specs.Run.{Result, ended, proceed, runFrom, runNumber, runOf}
 use Rattle.step.proofs.Outcomes.{step-stops}
 use Rattle.safety.specs.Active.{Configuration, Visits, at-first, one-more}
 use Rattle.safety.specs.Demand3.{loadedConfiguration, Ends, Claim}
@@ -25,40 +24,53 @@ use Rattle.safety.proofs.Places.{Checked, checked}
 use Rattle.safety.proofs.Advance.{at-place, steps}
 use Rattle.safety.proofs.Safety.{keeps, at-load, run-safe}
 
-module _ (U : Subject) (C : Checked U) (A : Attributes) (first : Configuration) (I : Inv U A first) where
+module _ (U : Subject) (C : Checked U) (A : Attributes) (first : Configuration) (I : Inv U A first) (budget : ℕ) where
   abbrev P : Program
   P = programIn U A
 
-  ended-at : {n : ℕ} {c : Configuration} → Visits P U first n c → (left : ℕ) → Inv U A c → (o : Outcome)
-      → stepIn U A c .outcome ≡ o
-      → (stepIn U A c .outcome ≡ Went → Ends P U first (runFrom P left (suc n) (advanceIn U A c .state)))
-      → Ends P U first (proceed (runFrom P left (n + 1)) n o (stepIn U A c .state))
-  ended-at {n = n} v left J Went e later = let z : n + 1 ≡ suc n = omega arith in rw z (later e)
-  ended-at {n = n} {c = c} v left J Finished e later =
-      let T = step-stops P (c .state) (λ w. let z : _≡_ {A = ℕ} 0 1 = cc in omega arith) in
-      record { steps = n; last = c; visited = v; ending = finish; proper = tt; ends = rw T }
-  ended-at {n = n} {c = c} v left J (Trapped k) e later =
-      let T = step-stops P (c .state) (λ w. let z : _≡_ {A = ℕ} 0 1 = cc in omega arith) in
-      let d : DataTrap k =
-      subst (λ (x : Outcome). Steps U A c (at-place U C A c J .out) (linkageOf (shapeOf (at-place U C A c J .instruction))) x) e
-      (steps U C A c J) in
-      record { steps = n; last = c; visited = v; ending = stop k; proper = d; ends = rw T }
+  abbrev EndsSo : Result → Type 0
+  EndsSo R = Ends P U first budget R
 
-  ended : (left : ℕ) {n : ℕ} {c : Configuration} → Visits P U first n c → Ends P U first (runFrom P left n (c .state))
-  ended zero {n = n} {c = c} v = record { steps = n; last = c; visited = v; ending = Spent; proper = tt; ends = refl }
-  ended (suc left) {c = c} v =
-      ended-at v left (keeps U C A first I v .inv) (stepIn U A c .outcome) refl (λ w. ended left (one-more v w))
+  spent-at : {n : ℕ} {c : Configuration} → Visits P U first n c → n ≡ budget → EndsSo (ended Spent n (c .state))
+  spent-at {n = n} {c = c} v l = record { steps = n; last = c; visited = v; ending = Spent; proper = tt; within = l; ends = refl }
+
+  module _ {n : ℕ} {c : Configuration} (v : Visits P U first n c) (l : n < budget) where
+    finished-at : stepIn U A c .outcome ≡ Finished → EndsSo (ended finish (n + 1) (stepIn U A c .state))
+    finished-at e =
+        let T = step-stops P (c .state) (λ w. let z : _≡_ {A = ℕ} 0 1 = cc in omega arith) in
+        record { steps = n; last = c; visited = v; ending = finish; proper = tt; within = l; ends = rw T }
+
+    trapped-at : (k : ℕ) → stepIn U A c .outcome ≡ Trapped k → DataTrap k → EndsSo (ended (stop k) n (stepIn U A c .state))
+    trapped-at k e d =
+        let T = step-stops P (c .state) (λ w. let z : _≡_ {A = ℕ} 0 1 = cc in omega arith) in
+        record { steps = n; last = c; visited = v; ending = stop k; proper = d; within = l; ends = rw T }
+
+    ended-at : (left : ℕ) → Inv U A c → (o : Outcome) → stepIn U A c .outcome ≡ o
+        → (stepIn U A c .outcome ≡ Went → EndsSo (runFrom P left (suc n) (advanceIn U A c .state)))
+        → EndsSo (proceed (runFrom P left (n + 1)) n o (stepIn U A c .state))
+    ended-at left J Went e later = let z : n + 1 ≡ suc n = omega arith in rw z (later e)
+    ended-at left J Finished e later = finished-at e
+    ended-at left J (Trapped k) e later =
+        let now = at-place U C A c J in
+        trapped-at k e
+        (subst (λ (x : Outcome). Steps U A c (now .out) (linkageOf (shapeOf (now .instruction))) x) e (steps U C A c J))
+
+  run-ends : (left : ℕ) {n : ℕ} {c : Configuration} → Visits P U first n c → n + left ≡ budget
+      → EndsSo (runFrom P left n (c .state))
+  run-ends zero v l = spent-at v (omega arith)
+  run-ends (suc left) {c = c} v l =
+      ended-at v (omega arith) left (keeps U C A first I v .inv) (stepIn U A c .outcome) refl
+      (λ w. run-ends left (one-more v w) (omega arith))
 
 pub claim : Claim
 unfolding runOf runNumber
-claim r results w parameters m s q b accepted ready =
-    let R = accepts-only r results w b accepted .1 in
+claim r results w parameters m s q b accepted ready R =
     let first = loadedConfiguration (state q (loadOf r parameters m s .memory) s) in
     let C = checked r results w b accepted R in
-    let I = at-load r results w parameters m s q b accepted ready R in (
-      R,
-      record {
-        runs = λ budget. rw (R .record-sound, I .fitted) (ended (subject r results R) C (attributesOf r) first I budget at-first);
-        safe = run-safe r results w parameters m s q b accepted ready R;
-      },
-    )
+    let I = at-load r results w parameters m s q b accepted ready R in
+    record {
+      runs = λ budget.
+          rw (R .record-sound, I .fitted)
+          (run-ends (subject r results R) C (attributesOf r) first I budget budget at-first (omega arith));
+      safe = run-safe r results w parameters m s q b accepted ready R;
+    }

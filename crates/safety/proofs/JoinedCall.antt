@@ -11,6 +11,7 @@ use Rattle.registers.specs.Program.{programOf}
 use Rattle.registers.specs.State.{state}
 use Rattle.record.proofs.Sound.{after-range}
 use Rattle.verifier.proofs.Accepting.{check-range}
+use Rattle.verifier.proofs.Exactly.{accepts-exactly}
 use Rattle.verifier.specs.Check.{checkOf}
 use Rattle.workspace.specs.Checking.{Checking, checking}
 use Rattle.words.specs.Bytes.{Bytes}
@@ -54,7 +55,7 @@ module _ (r results w parameters : List ℕ) (budget : ℕ) (m s : List ℕ) (b 
   ran-well : (q : Registers) → checkOf r results w .number ≡ 0 → loadOf r parameters m s .answer ≡ Ready q
       → ProperAnswer (runOf r budget (state q (loadOf r parameters m s .memory) s) .answer)
   ran-well q c l =
-      let E = claim r results w parameters m s q b c l .1 .runs budget in
+      let E = claim r results w parameters m s q b c l (accepts-exactly r results w b .0 c .1) .runs budget in
       subst (λ (a : Result). ProperAnswer (a .answer)) (sym (E .ends)) (E .proper)
 
   -- From what the three calls promise.
@@ -85,7 +86,7 @@ refused-joined r results w parameters budget m s n b e = checks (checkOf r resul
     loads : checkOf r results w .number ≡ 0 → (x : Loaded) → l .answer ≡ x → (j .memory ≡ m) × (j .stack ≡ s)
     loads c (NotLoaded k) g = rw (c, g) (refused-memory r parameters m s k g, refl)
     loads c (Ready q) g =
-        let E = claim r results w parameters m s q b c g .1 .runs budget in
+        let E = claim r results w parameters m s q b c g (accepts-exactly r results w b .0 c .1) .runs budget in
         let h : runOf r budget (state q (l .memory) s) .answer ≡ Refused n = rw (c, g) at e in
         absurd (ended-not (E .ends) refl h)
 

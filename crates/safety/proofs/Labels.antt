@@ -1,19 +1,13 @@
--- The instructions that make or use a label. ITER and the switches push the word that their origin's label must hold; NEXT
--- and LEAVE find it on top of the share.
+-- The instructions that make or use a label. ITER and the switches push the word that their origin's label must hold
+-- (`LabelWords`); NEXT and LEAVE find it on top of the share.
 use mathlib.Core.List.{List, [], _∷_}
 use mathlib.Core.Option.{some}
 use mathlib.Core.Path.{_≡_, refl, _∙_}
 use Prim.Native.Nat.{ℕ, suc, _+_, _-_, _≤_}
 use native.Mathlib.Omega.{arith}
 use lib.ListN.{length}
-use borrow.Author.Tests.{eq-eqb}
-use Rattle.words.specs.Bytes.{byteAt}
 use Rattle.operand.specs.Distance.{placeAt}
-use Rattle.opcode.specs.declared.instruction.Instruction.{Instruction}
-use Rattle.shape.specs.Shape.{shapeOf}
-use Rattle.shape.specs.declared.Shape.the-variants.{Iter, Switch}
 use Rattle.shape.specs.declared.Table.{Table}
-use Rattle.shape.proofs.Origins.{iter-origin, switch-origin}
 use Rattle.effect.specs.declared.effect.Effect.the-variants.{Go}
 use Rattle.effect.specs.declared.effect.Push.the-variants.{NoPush, PushOne}
 use Rattle.effect.specs.declared.effect.Write.{Write}
@@ -24,29 +18,15 @@ use Rattle.registers.specs.Changes.{moved}
 use Rattle.execute.specs.Execute.{topWords}
 use Rattle.execute.proofs.Top.{found}
 use Rattle.successors.specs.Successors.{switchTargets}
-use Rattle.switch_table.specs.Switch.{exitLabel}
 use Rattle.stackmap.specs.Slots.{Slot, word, label, popWords, popSlots}
-use Rattle.stackmap.specs.Ways.{Subject, Way, _gets_, isIter, isSwitch, labelWord, after, both, toAll, nextOut, leaveOut}
+use Rattle.stackmap.specs.Ways.{Way, _gets_, isIter, isSwitch, labelWord, after, both, toAll, nextOut, leaveOut}
 use Rattle.stackmap.specs.StackMap.{here}
 use Rattle.safety.specs.Active.{shareOf, Configuration}
-use Rattle.safety.proofs.Invariant.{registersOf, Doing}
+use Rattle.safety.proofs.Invariant.{registersOf}
 use Rattle.safety.proofs.Shares.{nothing, only-if, popped-size, popped-words, holds-top}
 use Rattle.safety.proofs.Movement.{Start, Taken, taken, among-taken, Stays, words-go, popped-go, label-goes}
 use Rattle.safety.proofs.Jumps.{among-on, among-away}
 use Rattle.safety.proofs.Tables.{In, among-all}
-
--- The words that the origins push.
-module _ (U : Subject) (c : Configuration) (i : Instruction) (next : ℕ) (D : Doing U c i next) where
-  pub iter-word : {d : ℕ} → shapeOf i ≡ Iter d → next ≡ labelWord (U .code) (registersOf c .pc)
-  iter-word s =
-      let o = iter-origin (U .code) (length (U .code)) (registersOf c .pc) next i (D .decoded) s in
-      rw (eq-eqb (byteAt (U .code) (registersOf c .pc)) 0xE0 (o .0)) (o .1)
-
-  pub switch-word : {t : Table} {n : ℕ} → shapeOf i ≡ Switch t n
-      → exitLabel (U .code) (registersOf c .pc) ≡ labelWord (U .code) (registersOf c .pc)
-  switch-word s =
-      let o = switch-origin (U .code) (length (U .code)) (registersOf c .pc) next i (D .decoded) s in
-      rw (o .0)
 
 module _ {code : List ℕ} {c : Configuration} {l : List Slot} {out : List Way} {Done : Type 0} (S : Start code c l out) where
   -- ITER: past the loop, or into it.

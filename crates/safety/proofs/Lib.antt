@@ -1,6 +1,7 @@
 -- Demand 3 from its parts: memory and frames, the stack below the share, slots and labels.
 pub mod Invariant
 pub mod FoundWords
+pub mod Sizes
 pub mod Framing
 pub mod BelowShare
 pub mod ProtectedWords
@@ -10,6 +11,7 @@ pub mod Application
 pub mod Movement
 pub mod Jumps
 pub mod Tables
+pub mod LabelWords
 pub mod Labels
 pub mod Slots
 pub mod Places

@@ -30,7 +30,7 @@ use Rattle.verifier.specs.Check.{subjectOf, checkOf}
 use Rattle.words.specs.Bytes.{Bytes}
 use Rattle.verifier.specs.Exact.{Ruled, subject}
 use Rattle.record.proofs.Sound.{numberless}
-use Rattle.verifier.proofs.Exactly.{accepts-only}
+use Rattle.verifier.proofs.Exactly.{accepts-exactly}
 use Rattle.step.proofs.Intact.{apart}
 use Rattle.safety.proofs.Invariant.{InCode, Callable}
 
@@ -43,7 +43,7 @@ pub record Checked (U : Subject) : Type 0 where
 pub checked : (r results w : List ℕ) → Bytes r → checkOf r results w .number ≡ 0 → (R : Ruled r results)
     → Checked (subject r results R)
 checked r results w b e R =
-    let (enough, S, maps) = accepts-only r results w b e in
+    let (enough, S, maps) = accepts-exactly r results w b .0 e in
     let same : S .marks ≡ R .marks = same-marks (sym (S .is-cut) ∙ R .is-cut) in
     record {
       cutted = cutting-starts (codeOf r) (R .marks) (numberless r (R .record-sound) .entries) (R .is-cut);

@@ -31,7 +31,8 @@ use Rattle.safety.proofs.Application.{good-trap, good-finish, good-go, 
 use Rattle.safety.proofs.Movement.{Start, straight-goes}
 use Rattle.safety.proofs.Jumps.{pop-goes, jump-goes, jump-c-goes, jump-tf-goes}
 use Rattle.safety.proofs.Tables.{in-targets}
-use Rattle.safety.proofs.Labels.{iter-word, switch-word, iter-goes, switch-goes, next-goes, leave-goes}
+use Rattle.safety.proofs.LabelWords.{iter-word, switch-word}
+use Rattle.safety.proofs.Labels.{iter-goes, switch-goes, next-goes, leave-goes}
 
 -- A procedure that can be called is there.
 callee : {A : Type 0} (code : List ℕ) (d : ℕ) → Callable code d → noCallee code d ≡ true → A
@@ -56,12 +57,14 @@ module _ (U : Subject) (A : Attributes) (c : Configuration) (i : Instruction) (n
   acts-go s e is w call back (keeps-boolean {d = d}) = jump-tf-goes S next d w .0
   acts-go s e is w call back (pops-boolean {d = d}) = jump-tf-goes S next d w .1
   acts-go s e is w call back (skips-loop {d = d}) = iter-goes S next d w .0
-  acts-go s e is w call back (enters-loop {d = d} a x n) = iter-goes S next d w .1 _ (iter-word U c i next D is)
+  acts-go s e is w call back (enters-loop {d = d} a x n) = iter-goes S next d w .1 _
+      (iter-word (U .code) (registersOf c .pc) next i (D .decoded) is)
   acts-go s e is w call back (leaves-loop a x n) = next-goes next _ l S w .0
   acts-go s e is w call back leaves-by-sum = next-goes next _ l S w .0
   acts-go s e is w call back (repeats-loop a x n) = next-goes next _ l S w .1
   acts-go s e is w call back (switches {t = t} {n = n} x) =
-      switch-goes S t n _ _ (switch-word U c i next D is) (in-targets (U .code) (registersOf c .pc) t n x) w
+      switch-goes S t n _ _ (switch-word (U .code) (registersOf c .pc) next i (D .decoded) is)
+      (in-targets (U .code) (registersOf c .pc) t n x) w
   acts-go s e is w call back leaves-switch = leave-goes l S w
   acts-go s e is w call back (no-callee {p = d} n) = callee (U .code) d (call d refl) n
   acts-go s e is w call back (calls {p = d} k r) =

@@ -97,7 +97,8 @@ module _ (r results w : List ℕ) (b : Bytes r) where
       let met = ruled r results w (λ l. e) in
       let U = subject r results (met .1) in
       let P = passed r results w e (met .1) in
-      (met .0, met .1, λ p h. (mapIn U p (P .states), finds-maps U (ruled-sound r results w b (met .1)) (P .states) (P .walks) p h))
+      let sound = ruled-sound r results w b (met .1) in
+      (met .0, met .1, λ p h. (mapIn U p (P .states), finds-maps U sound (P .states) (P .walks) p h))
 
   accepts-all : Met Mapped r results w → checkOf r results w .number ≡ 0
   accepts-all (room, R, maps) = rw (ruled-leaves r results w room R) (by (walkOf (subject r results R)) refl)
