@@ -1,19 +1,24 @@
 -- How a run of accepted code ends: in a configuration that it visits, finished, spent or in a data trap, within its budget. A
 -- step that does not go on leaves everything as it was, and where it traps it is on data.
+use mathlib.Core.List.{List}
 use mathlib.Core.Path.{_≡_, refl, subst}
 use Prim.Native.Nat.{ℕ, zero, suc, _+_, _<_}
 use native.Mathlib.Omega.{arith}
 use Rattle.shape.specs.Shape.{shapeOf}
 use Rattle.shape.specs.Linkage.{linkageOf}
 use Rattle.registers.specs.declared.Attributes.{Attributes}
-use Rattle.registers.specs.Program.{Program, attributesOf}
-use Rattle.registers.specs.State.{state}
+use Rattle.registers.specs.declared.Registers.{Registers}
+use Rattle.registers.specs.Program.{Program, programOf, attributesOf}
+use Rattle.registers.specs.State.{State, state}
 use Rattle.operate.specs.Traps.{DataTrap}
 use Rattle.stackmap.specs.Ways.{Subject}
-use Rattle.verifier.specs.Exact.{subject}
+use Rattle.verifier.specs.Check.{checkOf}
+use Rattle.words.specs.Bytes.{Bytes}
+use Rattle.verifier.specs.Exact.{Ruled, subject}
 use Rattle.machine.specs.declared.run.End.the-variants.{Finished as finish, Spent, Trapped as stop}
 use Rattle.step.specs.declared.Outcome.{Outcome}
 use Rattle.step.specs.declared.Outcome.the-variants.{Went, Finished, Trapped}
+use Rattle.load.specs.declared.Loaded.the-variants.{Ready}
 use Rattle.load.specs.Load.{loadOf}
 use Rattle.machine.specs.Run.{Result, ended, proceed, runFrom, runNumber, runOf}
 use Rattle.step.proofs.Outcomes.{step-stops}
@@ -62,15 +67,22 @@ module _ (U : Subject) (C : Checked U) (A : Attributes) (first : Configuration) 
       ended-at v (omega arith) left (keeps U C A first I v .inv) (stepIn U A c .outcome) refl
       (λ w. run-ends left (one-more v w) (omega arith))
 
+module _ (r results w parameters m s : List ℕ) (q : Registers) (b : Bytes r) (accepted : checkOf r results w .number ≡ 0)
+    (ready : loadOf r parameters m s .answer ≡ Ready q) (R : Ruled r results) where
+  abbrev S : State
+  S = state q (loadOf r parameters m s .memory) s
+
+  pub loaded-ends : (budget : ℕ) → Ends (programOf r) (subject r results R) (loadedConfiguration S) budget (runOf r budget S)
+  unfolding runOf runNumber
+  loaded-ends budget =
+      let C = checked r results w b accepted R in
+      let I = at-load r results w parameters m s q b accepted ready R in
+      rw (R .record-sound, I .fitted)
+      (run-ends (subject r results R) C (attributesOf r) (loadedConfiguration S) I budget budget at-first (omega arith))
+
 pub claim : Claim
-unfolding runOf runNumber
 claim r results w parameters m s q b accepted ready R =
-    let first = loadedConfiguration (state q (loadOf r parameters m s .memory) s) in
-    let C = checked r results w b accepted R in
-    let I = at-load r results w parameters m s q b accepted ready R in
     record {
-      runs = λ budget.
-          rw (R .record-sound, I .fitted)
-          (run-ends (subject r results R) C (attributesOf r) first I budget budget at-first (omega arith));
+      runs = loaded-ends r results w parameters m s q b accepted ready R;
       safe = run-safe r results w parameters m s q b accepted ready R;
     }

@@ -111,7 +111,7 @@ module _ (U : Subject) (start next : ℕ) (m n popped : List ℕ) (q : Registers
       (a-frame (y .fp) first back same-frames, omega (arith, count, y .calls))
 
   unlinks-framed : (write : Write) (q' : Registers) → Unlinks q m write q' → n ≡ written m popped write
-      → InStep n start q' (callers calls)
+      → InStep n start q' (callsBy U q next returning calls)
   unlinks-framed write q' y e =
       let made : n ≡ m = e ∙ rw (y .wrote) in
       let f = frame-below m start (q .fp) (q .calls) calls F (y .active) count in

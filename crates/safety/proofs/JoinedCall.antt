@@ -26,7 +26,7 @@ use Rattle.load.specs.Load.{Loading, loading, startOf, loadTests, loadNumber, l
 use Rattle.machine.specs.Run.{Result, ran, runOf}
 use Rattle.safety.specs.Joined.{Joined, joinedOf, ProperAnswer, RefusedJoined}
 use Rattle.safety.proofs.LoadedState.{refused-not}
-use Rattle.safety.proofs.Ends.{claim}
+use Rattle.safety.proofs.Ends.{loaded-ends, claim}
 
 -- The load's numbers are 1 to 8.
 load-number-range : (r parameters m s : List ℕ) → loadNumber r parameters m s ≤ 8
@@ -86,7 +86,7 @@ refused-joined r results w parameters budget m s n b e = checks (checkOf r resul
     loads : checkOf r results w .number ≡ 0 → (x : Loaded) → l .answer ≡ x → (j .memory ≡ m) × (j .stack ≡ s)
     loads c (NotLoaded k) g = rw (c, g) (refused-memory r parameters m s k g, refl)
     loads c (Ready q) g =
-        let E = claim r results w parameters m s q b c g (accepts-exactly r results w b .0 c .1) .runs budget in
+        let E = loaded-ends r results w parameters m s q b c g (accepts-exactly r results w b .0 c .1) budget in
         let h : runOf r budget (state q (l .memory) s) .answer ≡ Refused n = rw (c, g) at e in
         absurd (ended-not (E .ends) refl h)
 
