@@ -36,6 +36,7 @@ module _ (U : Subject) (C : Checked U) (A : Attributes) (first : Configuration) 
   abbrev EndsSo : Result → Type 0
   EndsSo R = Ends P U first budget R
 
+  -- Goes by the three ends, each a law of its own, for each has its count of steps.
   spent-at : {n : ℕ} {c : Configuration} → Visits P U first n c → n ≡ budget → EndsSo (ended Spent n (c .state))
   spent-at {n = n} {c = c} v l = record { steps = n; last = c; visited = v; ending = Spent; proper = tt; within = l; ends = refl }
 
@@ -72,6 +73,7 @@ module _ (r results w parameters m s : List ℕ) (q : Registers) (b : Bytes r) (
   abbrev S : State
   S = state q (loadOf r parameters m s .memory) s
 
+  -- Stands apart from `claim`, for a joined call needs no more to know that its run is not refused.
   pub loaded-ends : (budget : ℕ) → Ends (programOf r) (subject r results R) (loadedConfiguration S) budget (runOf r budget S)
   unfolding runOf runNumber
   loaded-ends budget =

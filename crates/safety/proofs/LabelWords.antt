@@ -26,6 +26,7 @@ use Rattle.switch_table.specs.Switch.{exitLabel}
 use Rattle.stackmap.specs.Ways.{labelWord}
 use Rattle.safety.specs.Labels.{IterPushes, SwitchPushes}
 
+-- Speak of a place in the code alone, so that they serve the theorems below and the invariant (`Slots`).
 module _ (code : List ℕ) (at next : ℕ) (i : Instruction) (decoded : decodeAt code (length code) at ≡ At i next) where
   pub iter-word : {d : ℕ} → shapeOf i ≡ Iter d → next ≡ labelWord code at
   iter-word s =
