@@ -1,11 +1,12 @@
 //! One-word arithmetic, order tests and sets. An error is the trap: zero divisor (30), result out
-//! of range (31).
+//! of range (31), unless it wraps (02, K11).
 
 use crate::instruction::Operator;
 use crate::machine::Stop;
 
+/// Takes X and Y; `wraps` is the rule for unsigned add, subtract and multiply.
 #[inline(always)]
-pub fn binary(operator: Operator, x: u32, y: u32) -> Result<u32, Stop> {
+pub fn binary(operator: Operator, x: u32, y: u32, wraps: bool) -> Result<u32, Stop> {
     use Operator::*;
     let (i, j) = (x as i32, y as i32);
     match operator {
@@ -17,9 +18,9 @@ pub fn binary(operator: Operator, x: u32, y: u32) -> Result<u32, Stop> {
         DivI => signed(i.checked_div(j)),
         ModI if j == 0 => Err(Stop::ZeroDivisor),
         ModI => Ok(modulus(i, j) as u32),
-        AddU => x.checked_add(y).ok_or(Stop::DoesNotFit),
-        SubU => x.checked_sub(y).ok_or(Stop::DoesNotFit),
-        MulU => x.checked_mul(y).ok_or(Stop::DoesNotFit),
+        AddU => unsigned(x.overflowing_add(y), wraps),
+        SubU => unsigned(x.overflowing_sub(y), wraps),
+        MulU => unsigned(x.overflowing_mul(y), wraps),
         DivU => x.checked_div(y).ok_or(Stop::ZeroDivisor),
         ModU => x.checked_rem(y).ok_or(Stop::ZeroDivisor),
         AddS => Ok(x | y),
@@ -52,6 +53,15 @@ fn signed(result: Option<i32>) -> Result<u32, Stop> {
     result.map(|value| value as u32).ok_or(Stop::DoesNotFit)
 }
 
+/// Gives the result modulo 2^32, unless that is another number and the rule is to trap.
+#[inline(always)]
+fn unsigned((wrapped, leaves_range): (u32, bool), wraps: bool) -> Result<u32, Stop> {
+    if leaves_range && !wraps {
+        return Err(Stop::DoesNotFit);
+    }
+    Ok(wrapped)
+}
+
 /// Ada's mod: the result has the divisor's sign.
 fn modulus(i: i32, j: i32) -> i32 {
     let rest = i.wrapping_rem(j);
@@ -59,5 +69,52 @@ fn modulus(i: i32, j: i32) -> i32 {
         rest + j
     } else {
         rest
+    }
+}
+
+#[cfg(test)]
+mod tests {
+    use super::binary;
+    use crate::instruction::Operator::{self, *};
+    use crate::machine::Stop;
+    use crate::random::EDGES;
+
+    const MODULUS: i128 = 1 << 32;
+
+    /// Tries every pair of edge words, by either rule.
+    fn try_edges(mut hold: impl FnMut(u32, u32, bool)) {
+        for x in EDGES {
+            for y in EDGES {
+                [false, true].into_iter().for_each(|wraps| hold(x, y, wraps));
+            }
+        }
+    }
+
+    #[test]
+    fn unsigned_results_are_those_of_request_k11() {
+        let exact: [(Operator, fn(i128, i128) -> i128); 3] =
+            [(AddU, |x, y| x + y), (SubU, |x, y| x - y), (MulU, |x, y| x * y)];
+        for (operator, exact) in exact {
+            try_edges(|x, y, wraps| {
+                let result = exact(x.into(), y.into());
+                let expected = match u32::try_from(result) {
+                    Ok(word) => Ok(word),
+                    Err(_) if wraps => Ok(result.rem_euclid(MODULUS) as u32),
+                    Err(_) => Err(Stop::DoesNotFit),
+                };
+                assert_eq!(binary(operator, x, y, wraps), expected, "{operator:?} {x} {y} {wraps}");
+            });
+        }
+    }
+
+    #[test]
+    fn all_else_keeps_its_results() {
+        for operator in [DivU, ModU, AddI, SubI, MulI, DivI, ModI] {
+            try_edges(|x, y, wraps| {
+                assert_eq!(binary(operator, x, y, wraps), binary(operator, x, y, false));
+            });
+        }
+        assert_eq!(binary(DivU, 1, 0, true), Err(Stop::ZeroDivisor));
+        assert_eq!(binary(AddI, 0x7fff_ffff, 1, true), Err(Stop::DoesNotFit));
     }
 }

@@ -153,6 +153,21 @@ pub fn left_by_its_sum(opcode: Option<u32>, before: &Words, after: &Words) -> bo
     opcode == Some(0xe1) && before.state[4] == after.state[4] + 5 && before.memory == after.memory
 }
 
+/// ADD_U, SUB_U and MUL_U, whose results wrap in records of old issues (02, K11).
+pub const WRAPPING: [u32; 3] = [0xa8, 0xa9, 0xaa];
+
+/// Gives the opcode of a completed step whose result left the range, and so was wrapped.
+pub fn wrapped(opcode: Option<u32>, before: &Words) -> Option<u32> {
+    let [.., x, y] = before.stack[..before.state[4] as usize] else { return None };
+    let exact = match opcode? {
+        0xa8 => x.checked_add(y),
+        0xa9 => x.checked_sub(y),
+        0xaa => x.checked_mul(y),
+        _ => return None,
+    };
+    opcode.filter(|_| exact.is_none())
+}
+
 /// The answer that a library and the reference agree on, or the case and both answers.
 pub fn agree(case: &Case, library: &Interface) -> Result<Answer, String> {
     let found = case.answer(library);

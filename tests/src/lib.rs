@@ -3,6 +3,7 @@
 
 // The reference, in the order of the data: bytes, record, instructions, machine | check, report.
 pub mod bytes;
+pub mod issue;
 pub mod record;
 pub mod mend;
 pub mod switch_table;

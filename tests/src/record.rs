@@ -1,6 +1,7 @@
 //! The I-Code record (manual 5.1; 01, "The record"): parts, entries, regions, source lines.
 
 use crate::bytes::{halfword, word};
+use crate::issue::{wraps, Issue};
 
 pub const HEADER_BYTES: usize = 28;
 
@@ -22,6 +23,8 @@ pub struct Record<'a> {
     /// The source table's pairs as bytes.
     source: &'a [u8],
     pub procedures: u32,
+    /// Whether unsigned results wrap (02, K11).
+    pub wraps: bool,
 }
 
 /// The code of one procedure.
@@ -103,7 +106,7 @@ impl<'a> Record<'a> {
             return Err(6);
         }
         let procedures = count_procedures(code).ok_or(7u32)?;
-        Ok(Record { code, globals, constants, source, procedures })
+        Ok(Record { code, globals, constants, source, procedures, wraps: wraps(version) })
     }
 
     /// Entry offset of a procedure (PROC of 5.2.2).
@@ -160,17 +163,9 @@ pub fn number(bytes: &[u8]) -> u32 {
     Record::read(bytes).err().unwrap_or(0)
 }
 
-/// Empty, or the first word reads "nn/x": a digit or space, a digit, "/", a hyphen or capital.
+/// Tells whether it is empty, or its first word names an issue.
 pub fn version_sound(table: &[u8]) -> bool {
-    match table {
-        [] => true,
-        [tens, units, b'/', issue, ..] => {
-            (tens.is_ascii_digit() || *tens == b' ')
-                && units.is_ascii_digit()
-                && (*issue == b'-' || issue.is_ascii_uppercase())
-        }
-        _ => false,
-    }
+    table.is_empty() || Issue::of_table(table).is_some()
 }
 
 /// Whole pairs whose offsets rise strictly and lie below the code size.

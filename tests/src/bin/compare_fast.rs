@@ -7,7 +7,7 @@ use conformance::ffi::{GENERAL, MIXED, PROVED};
 use conformance::generate::damage::damage;
 use conformance::generate::program;
 use conformance::generate::{instructions, state};
-use conformance::harness::{self, Expected, Tally};
+use conformance::harness::{self, wrapped, Expected, Tally, WRAPPING};
 use conformance::random::Random;
 use conformance::record::Record;
 
@@ -22,6 +22,7 @@ fn main() -> std::process::ExitCode {
         Expected::new("end", 20..=23, 100),
         Expected::new("end", 30..=38, 20),
         Expected { kind: "opcode done", numbers: instructions::served(), least: 5 },
+        Expected { kind: "wrapped", numbers: WRAPPING.to_vec(), least: 50 },
     ];
     let served = instructions::served();
     harness::main(CASES, &expected, |random, tally| compare(random, tally, &served))
@@ -53,6 +54,9 @@ fn compare(random: &mut Random, tally: &mut Tally, served: &[u32]) -> Result<(),
         tally.add("steps", 0, u64::from(steps));
         if let (1, 1, Some(opcode)) = (budget, steps, first) {
             tally.note("opcode done", opcode);
+            if let Some(opcode) = wrapped(first, &machine) {
+                tally.note("wrapped", opcode);
+            }
         }
         if end != 1 || budget == GREATER[2] {
             tally.note("end", end);

@@ -7,7 +7,7 @@ use conformance::generate::damage::damage;
 use conformance::generate::program::{self, Program};
 use conformance::generate::record::Parts;
 use conformance::generate::{instructions, record, state};
-use conformance::harness::{self, agree, left_by_its_sum, Expected, Tally};
+use conformance::harness::{self, agree, left_by_its_sum, wrapped, Expected, Tally, WRAPPING};
 use conformance::instruction::{decode, Instruction};
 use conformance::interface::{Interface, REFERENCE};
 use conformance::random::{Random, EDGES};
@@ -25,8 +25,9 @@ fn main() -> std::process::ExitCode {
         Expected::new("run refused", 24..=24, 100),
         Expected { kind: "opcode done", numbers: instructions::served(), least: 5 },
         Expected::new("left by its sum", 0..=0, 50),
+        Expected { kind: "wrapped", numbers: WRAPPING.to_vec(), least: 50 },
     ];
-    if let Err(difference) = arithmetic_edges() {
+    if let Err(difference) = arithmetic_edges().and_then(|()| every_issue()) {
         println!("different:\n{difference}");
         return std::process::ExitCode::FAILURE;
     }
@@ -69,20 +70,41 @@ fn compare(random: &mut Random, tally: &mut Tally, served: &[u32]) -> Result<(),
     }
 }
 
-/// Every arithmetic, order and set instruction on every pair of edge words.
+/// Every arithmetic, order and set instruction on every pair of edge words, by either rule of K11.
 fn arithmetic_edges() -> Result<(), String> {
     let arithmetic = |code: &u8| {
         let decoded = decode(&[*code], 1, 0);
         matches!(decoded, Ok((Instruction::Binary(_) | Instruction::NegI | Instruction::Neg, _)))
     };
     for opcode in (0..=255).filter(arithmetic) {
-        let code = vec![0, 2, opcode, 0xff];
-        let record = Parts { code, ..Parts::default() }.assemble();
         for x in EDGES {
             for y in EDGES {
-                let (memory, stack) = (vec![0, 0, 3], vec![x, y]);
-                let machine = Words { state: [2, 3, 3, 3, 2, 0], memory, stack };
-                agree(&Case::Run { record: record.clone(), budget: 1, machine }, &PROVED)?;
+                agree_on_two(opcode, [x, y], vec![])?;
+                agree_on_two(opcode, [x, y], vec![*b" 2/Z"])?;
+            }
+        }
+    }
+    Ok(())
+}
+
+/// Compares one step on two words, in a record with this version table.
+fn agree_on_two(opcode: u8, words: [u32; 2], version: Vec<[u8; 4]>) -> Result<(), String> {
+    let code = vec![0, 2, opcode, 0xff];
+    let record = Parts { code, version, ..Parts::default() }.assemble();
+    let (memory, stack) = (vec![0, 0, 3], words.to_vec());
+    let machine = Words { state: [2, 3, 3, 3, 2, 0], memory, stack };
+    agree(&Case::Run { record, budget: 1, machine }, &PROVED).map(drop)
+}
+
+/// Compares results outside the range under every issue, and with some malformed version words.
+fn every_issue() -> Result<(), String> {
+    for tens in *b" 0123456789-" {
+        for units in *b"0123456789 " {
+            for revision in *b"-ABCDEFGHIJKLMNOPQRSTUVWXYZ@" {
+                let version = vec![[tens, units, b'/', revision], *b" 2/Z", *b" 3/-"];
+                agree_on_two(0xa8, [u32::MAX, 2], version.clone())?;
+                agree_on_two(0xa9, [2, 3], version.clone())?;
+                agree_on_two(0xaa, [0x1_0001, 0x1_0001], version)?;
             }
         }
     }
@@ -144,6 +166,9 @@ fn run_on(
                 }
                 if steps == 1 && left_by_its_sum(first, &before, &after) {
                     tally.note("left by its sum", 0);
+                }
+                if let (Some(opcode), 1..) = (wrapped(first, &before), steps) {
+                    tally.note("wrapped", opcode);
                 }
             }
             Err(number) => {

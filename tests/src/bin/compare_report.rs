@@ -6,7 +6,8 @@ use conformance::ffi::PROVED;
 use conformance::generate::run_file;
 use conformance::harness::{self, Expected, Tally};
 use conformance::random::Random;
-use conformance::report;
+use conformance::record::Split;
+use conformance::report::{self, RunFile};
 
 const CASES: u64 = 100_000;
 /// Stands in the buffer before the call.
@@ -18,6 +19,7 @@ fn main() -> std::process::ExitCode {
         Expected::new("end", 0..=1, 100),
         Expected::new("end", 30..=38, 20),
         Expected::new("too short", 0..=1, 1_000),
+        Expected::new("wrapped", 1..=1, 200),
     ];
     harness::main(CASES, &expected, compare)
 }
@@ -26,6 +28,7 @@ fn compare(random: &mut Random, tally: &mut Tally) -> Result<(), String> {
     let file = run_file::any(random);
     let text = report::text(&file);
     note(tally, &text);
+    tally.note("wrapped", u32::from(wrapped(&file, &text)));
     for length in lengths(random, text.len()) {
         let mut expected = vec![FILL; length];
         let expected_written = report::report(&file, &mut expected);
@@ -68,4 +71,17 @@ fn note(tally: &mut Tally, text: &str) {
     if let Some(end) = number_after("end") {
         tally.note("end", end);
     }
+}
+
+/// Tells whether some unsigned result wrapped: with issue 3/- the page is another one (02, K11).
+fn wrapped(file: &[u8], text: &str) -> bool {
+    let Some(RunFile { record, .. }) = RunFile::read(file) else { return false };
+    let Ok(Split { version, source, .. }) = Split::read(record) else { return false };
+    if version.is_empty() || !text.starts_with("check 0\n") {
+        return false;
+    }
+    let at = file.len() - version.len() - source.len();
+    let mut other = file.to_vec();
+    other[at..at + 4].copy_from_slice(b" 3/-");
+    report::text(&other) != text
 }

@@ -6,7 +6,7 @@ use conformance::check::{self, topmost_label, Slot, StackMaps, STRIDE};
 use conformance::ffi::PROVED;
 use conformance::generate::damage::reroute;
 use conformance::generate::program;
-use conformance::harness::{self, left_by_its_sum, Expected, Tally};
+use conformance::harness::{self, left_by_its_sum, wrapped, Expected, Tally, WRAPPING};
 use conformance::instruction::{decode, Instruction};
 use conformance::listing::listing;
 use conformance::random::Random;
@@ -22,6 +22,7 @@ fn main() -> std::process::ExitCode {
         Expected::new("end", 0..=0, 100),
         Expected::new("end", 30..=38, 20),
         Expected::new("left by its sum", 0..=0, 100),
+        Expected { kind: "wrapped", numbers: WRAPPING.to_vec(), least: 100 },
     ];
     harness::main(CASES, &expected, compare)
 }
@@ -107,9 +108,12 @@ impl Follower<'_> {
                 _ => return Err(format!("end {end} at {}", machine.state[0])),
             }
             tally.note("steps", 0);
-            let opcode = self.record.code[machine.state[0] as usize];
-            if left_by_its_sum(Some(opcode.into()), &machine, &after) {
+            let opcode = Some(self.record.code[machine.state[0] as usize].into());
+            if left_by_its_sum(opcode, &machine, &after) {
                 tally.note("left by its sum", 0);
+            }
+            if let Some(opcode) = wrapped(opcode, &machine) {
+                tally.note("wrapped", opcode);
             }
             let base = self.base();
             if after.stack[..base] != machine.stack[..base] {

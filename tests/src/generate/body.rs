@@ -20,6 +20,8 @@ pub struct Scope {
     pub wild: usize,
     /// Chance in percent of a statement that the check refuses.
     pub flaw: usize,
+    /// Unsigned results wrap (02, K11), so that they may leave the range.
+    pub wraps: bool,
 }
 
 #[derive(Clone, Copy, Debug, PartialEq, Eq)]

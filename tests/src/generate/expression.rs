@@ -34,6 +34,7 @@ impl Body<'_> {
             };
         }
         match self.random.below(12) {
+            _ if self.scope.wraps && self.random.percent(10) => self.wrapped(),
             0 | 1 => {
                 let value = self.random.word();
                 self.constant(value);
@@ -98,6 +99,15 @@ impl Body<'_> {
         self.value(depth - 1);
         self.value(depth - 1);
         self.operator(family);
+    }
+
+    /// Writes ADD_U, SUB_U or MUL_U of words whose result often leaves the range.
+    fn wrapped(&mut self) {
+        for _ in 0..2 {
+            let word = self.random.bits();
+            self.constant(word);
+        }
+        self.operator(&UNSIGNED[..3]);
     }
 
     fn operator(&mut self, family: &[u8]) {

@@ -2,7 +2,8 @@
 
 use super::assembler::Assembler;
 use super::body::{Body, Scope, Signature};
-use super::record::{around, set_entry, Parts};
+use super::record::{around, set_entry, version_table, Parts};
+use crate::issue::wraps;
 use crate::random::Random;
 use crate::record::{Record, LARGEST};
 
@@ -21,14 +22,16 @@ const FLAWED: usize = 12;
 
 /// A structured program of about `fuel` statements, with `nest` loops inside each other.
 fn structured(random: &mut Random, fuel: usize, nest: usize, flaw: usize) -> Program {
-    let scope = scope(random, flaw);
+    let version = version_table(random);
+    let scope = scope(random, flaw, wraps(version.as_flattened()));
     // What is too long is tried again with less.
     let code = (1..)
         .find_map(|attempt| code(random, &scope, fuel / attempt, nest / attempt))
         .expect("a program without statements fits");
     let results = scope.signatures.iter().map(|signature| signature.results as u8).collect();
     let constants = random.words(scope.constants);
-    Program { parts: around(random, code, scope.globals as u32, constants), results }
+    let parts = Parts { version, ..around(random, code, scope.globals as u32, constants) };
+    Program { parts, results }
 }
 
 /// A program of usual size; at times a larger one.
@@ -60,7 +63,7 @@ pub fn of_code(random: &mut Random, code: Vec<u8>) -> Program {
     Program { parts, results }
 }
 
-fn scope(random: &mut Random, flaw: usize) -> Scope {
+fn scope(random: &mut Random, flaw: usize, wraps: bool) -> Scope {
     let procedures = match random.below(40) {
         0..=14 => 1,
         15..=37 => random.within(2..=5),
@@ -72,7 +75,7 @@ fn scope(random: &mut Random, flaw: usize) -> Scope {
     let signatures =
         (0..procedures).map(|procedure| signature(random, procedure, procedures)).collect();
     let wild = random.pick(&[TAME, TAME, WILD]);
-    Scope { signatures, globals, constants, wild, flaw }
+    Scope { signatures, globals, constants, wild, flaw, wraps }
 }
 
 fn signature(random: &mut Random, procedure: usize, procedures: usize) -> Signature {

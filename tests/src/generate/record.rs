@@ -49,16 +49,26 @@ pub fn around(random: &mut Random, code: Vec<u8>, globals: u32, constants: Vec<u
     Parts { code, globals, constants, version, source, ..Parts::default() }
 }
 
-fn version_table(random: &mut Random) -> Vec<[u8; 4]> {
+/// Makes a sound version table. Only its first word counts; those behind it name issues too, or are any bytes.
+pub fn version_table(random: &mut Random) -> Vec<[u8; 4]> {
     let count = random.pick(&[0, 0, 0, 1, 1, 1, 2, 16]);
-    let mut table: Vec<[u8; 4]> = (0..count).map(|_| random.bits().to_be_bytes()).collect();
-    if let Some(first) = table.first_mut() {
-        let tens = random.pick(b" 0123456789");
-        let units = random.pick(b"0123456789");
-        let issue = random.pick(b"-ABCMXYZ");
-        *first = [tens, units, b'/', issue];
-    }
-    table
+    let word = |index| match index == 0 || random.percent(50) {
+        true => issue(random),
+        false => random.bits().to_be_bytes(),
+    };
+    (0..count).map(word).collect()
+}
+
+/// Makes a version word. Half of them name an issue before 3/-, whose unsigned results wrap (02, K11);
+/// some others are 3/- or near it, or differ from an old one in the first digit alone.
+fn issue(random: &mut Random) -> [u8; 4] {
+    let (tens, units) = match random.below(10) {
+        0..=4 => (random.pick(b" 0"), random.pick(b"012")),
+        5 | 6 => (random.pick(b" 0"), b'3'),
+        7 => (random.pick(b"129"), random.pick(b"0129")),
+        _ => (random.pick(b" 0123456789"), random.pick(b"0123456789")),
+    };
+    [tens, units, b'/', random.pick(b"--ABCMXYZ")]
 }
 
 /// Pairs of rising offsets and any lines.

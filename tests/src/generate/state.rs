@@ -69,17 +69,30 @@ pub fn fitting(random: &mut Random, record: &Record) -> Words {
     Words { state, memory, stack }
 }
 
-/// A state that fits, mostly at the entry of the main program; where a loop begins or goes round there, mostly with its words.
+/// A state that fits, mostly at the entry of the main program; where a loop begins or goes round there, or an unsigned result may
+/// leave the range, mostly with words for it.
 pub fn begun(random: &mut Random, record: &Record) -> Words {
     let mut words = fitting(random, record);
     if random.percent(70) {
         words.state[0] = record.entry(0);
-        let opcode = record.code[record.entry(0) as usize];
-        if matches!(opcode, 0xe0 | 0xe1) && random.percent(70) {
-            loop_operands(random, record, &mut words, opcode == 0xe1);
+        match record.code[record.entry(0) as usize] {
+            _ if random.percent(30) => {}
+            opcode @ (0xe0 | 0xe1) => loop_operands(random, record, &mut words, opcode == 0xe1),
+            0xa8..=0xaa => unsigned_operands(random, &mut words),
+            _ => {}
         }
     }
     words
+}
+
+/// Puts two words on top of the stack, where there is room, whose sum, difference or product often leaves the unsigned range.
+fn unsigned_operands(random: &mut Random, words: &mut Words) {
+    let height = words.state[4] as usize;
+    if let [.., x, y] = &mut words.stack[..height] {
+        for word in [x, y] {
+            *word = if random.percent(50) { random.pick(&EDGES) } else { random.bits() };
+        }
+    }
 }
 
 /// Puts operands of ITER and NEXT on top of the stack, where there is room: address, first, last,

@@ -16,6 +16,7 @@ pub struct Machine<'a> {
     pub(super) procedures: u32,
     pub(super) constants_at: u32,
     pub(super) frames_at: u32,
+    wraps: bool,
     pub(super) memory: &'a mut [u32],
     pub(super) stack: &'a mut [u32],
     pub registers: Registers,
@@ -44,6 +45,7 @@ impl<'a> Machine<'a> {
             procedures: record.procedures,
             constants_at: record.constants_at(),
             frames_at: record.frames_at(),
+            wraps: record.wraps,
             memory,
             stack,
             registers,
@@ -76,7 +78,7 @@ impl<'a> Machine<'a> {
             Nop => self.go(next, self.registers.height)?,
             Binary(operator) => {
                 let low = self.without(2)? as usize;
-                let value = binary(operator, self.stack[low], self.stack[low + 1])?;
+                let value = binary(operator, self.stack[low], self.stack[low + 1], self.wraps)?;
                 self.push(2, value, next)?;
             }
             NegI => {
