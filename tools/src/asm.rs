@@ -43,7 +43,8 @@ output. Each line has one of these; ; begins a comment:
 
   .globals N            words of globals
   .constants WORD ..    words of the constants
-  .version \"12/B\" ..    words of the version table, as four characters or numbers
+  .version \"12/B\" ..    words of the version table, as four characters or numbers; where the first
+                        names an issue before 3/-, unsigned add, subtract and multiply wrap
   .results N ..         result words of each procedure from 0 on, else 0 for each; a record is
                         checked with them, but does not hold them
   .parameters WORD ..   the run file's parameters

@@ -33,8 +33,8 @@ pub const COMMAND: Command = Command {
 const USAGE: &str = "icode list [--asm] [--results DIGITS] FILE";
 
 const HELP: &str = "\
-Shows a record or a run file (- is standard input): its parts, what check and load say of it, then
-its code. For each instruction:
+Shows a record or a run file (- is standard input): its parts, whether unsigned results wrap by its
+issue, what check and load say of it, then its code. For each instruction:
 
   offset  of its first byte in the code
   line    in the source, 0 where the source table has none

@@ -2,8 +2,9 @@
 
 use crate::failure::Failure;
 use crate::library::{self, CALLS, FP, HEIGHT, PC, STATE_WORDS};
-use crate::record::Record;
+use crate::record::{self, Record};
 use crate::run_file::RunFile;
+use crate::sheet::Sheet;
 
 /// Ends of a run that are no traps.
 pub const FINISHED: u32 = 0;
@@ -90,4 +91,15 @@ pub fn words_found(record: &Record, at: usize) -> usize {
         !matches!(machine.run(1), Ok(Outcome { end: TOO_FEW_WORDS, .. }))
     };
     (0..MAX_STACK_WORDS).find(enough).unwrap_or(0)
+}
+
+/// Tells whether unsigned results wrap with a version table, by asking the machine: where they do
+/// not, SUB_U of 0 and 1 traps. None where the table is refused.
+pub fn wraps(version: &[u8]) -> Option<bool> {
+    let [zero, one, subtract, end] =
+        ["LOAD_C.0", "LOAD_C.1", "SUB_U", "RTN"].map(|name| Sheet::get().code_of(name));
+    let record = record::from_code(&[0, 2, zero, one, subtract, end], version);
+    let mut machine = Machine::with_sizes(&record, &[], 3, 2).ok()?;
+    let outcome = machine.run(4).ok()?;
+    Some(outcome.end == FINISHED)
 }

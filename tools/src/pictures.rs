@@ -3,7 +3,7 @@
 use crate::code::Procedure;
 use crate::faults::Fault;
 use crate::library;
-use crate::record::HEADER_BYTES;
+use crate::record;
 use crate::sheet::Sheet;
 
 /// The number of a record with a procedure that has no stack picture.
@@ -43,20 +43,20 @@ fn beside_stubs(code: &[u8], procedures: &[Procedure], results: &[u8], kept: usi
             body.extend(stub(own, procedure.number, results));
         }
     }
-    let mut record = vec![0; HEADER_BYTES];
-    let len = 2 * entries.len() + body.len();
-    record[4..8].copy_from_slice(&(len as u32).to_be_bytes());
-    record.extend(entries.iter().flat_map(|&entry| (entry as u16).to_be_bytes()));
-    record.extend(body);
-    record
+    let entries = entries.iter().flat_map(|&entry| (entry as u16).to_be_bytes());
+    let code: Vec<u8> = entries.chain(body).collect();
+    record::from_code(&code, &[])
 }
 
 /// Makes the shortest code that has a picture: RTN where there are no results to leave, else a jump
 /// to itself.
 fn stub(own: &[u8], number: usize, results: &[u8]) -> Vec<u8> {
     const ENTER_BYTES: usize = 3;
-    let code_of = |name| Sheet::get().with_name(name).map_or(0, |form| form.code);
+    let sheet = Sheet::get();
     let enter = if number == 0 { &[] } else { &own[..ENTER_BYTES] };
-    let end: &[u8] = if results[number] == 0 { &[code_of("RTN")] } else { &[code_of("JUMP.b"), 0] };
+    let end: &[u8] = match results[number] {
+        0 => &[sheet.code_of("RTN")],
+        _ => &[sheet.code_of("JUMP.b"), 0],
+    };
     [enter, end].concat()
 }

@@ -40,6 +40,13 @@ pub fn total_bytes(sizes: &[u32; 7]) -> u64 {
     HEADER_BYTES as u64 + parts.map(len).sum::<u64>()
 }
 
+/// Makes a record that has nothing but code and a version table.
+pub fn from_code(code: &[u8], version: &[u8]) -> Vec<u8> {
+    let sizes = [0, code.len(), 0, 0, 0, version.len() / 4, 0];
+    let header = sizes.iter().flat_map(|&size| (size as u32).to_be_bytes());
+    header.chain(code.iter().chain(version).copied()).collect()
+}
+
 /// A record whose parts stand where its sizes say.
 pub struct Record<'a> {
     pub bytes: &'a [u8],

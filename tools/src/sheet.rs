@@ -45,7 +45,8 @@ impl Sheet {
         }
         // A switch has 9+2n or 7+10n.
         let (len, per_entry) = length.split_once('+').unwrap_or((length, "0n"));
-        if let (Ok(len), Ok(len_per_entry)) = (len.parse(), per_entry.trim_end_matches('n').parse()) {
+        if let (Ok(len), Ok(len_per_entry)) = (len.parse(), per_entry.trim_end_matches('n').parse())
+        {
             let double = marks.contains(&"double");
             self.forms.push(Form { code, name, len, len_per_entry, double });
         }
@@ -57,6 +58,11 @@ impl Sheet {
 
     pub fn with_name(&self, name: &str) -> Option<&Form> {
         self.forms.iter().find(|form| form.name == name)
+    }
+
+    /// Answers the code of a served instruction.
+    pub fn code_of(&self, name: &str) -> u8 {
+        self.with_name(name).map_or(0, |form| form.code)
     }
 
     /// Finds the names that are a word up to their size or implied number.

@@ -76,6 +76,28 @@ def test_lines(tests):
     tests.expect("source pairs", "offset 3 line 7\n" in out and "offset 4 line 4294967295\n" in out, out)
 
 
+def issue_line(name, wraps):
+    return f"\n  issue      {name}: unsigned add, subtract and multiply {'wrap' if wraps else 'do not wrap'}\n"
+
+
+def test_issues(tests):
+    """Unsigned results wrap before issue 3/-, by the first version word alone (02, K11). A record that is refused for something else
+    has an issue too."""
+    words = [tens + units + "/" + revision for tens in " 0123456789" for units in "0123456789" for revision in "-AZ"]
+    code, behind = bytes([0, 2, 0xE9]), {True: b" 3/-", False: b" 2/Z"}
+    for word in words:
+        wraps = word[0] in " 0" and word[1] in "012"
+        name = word[1:] if word[0] in " 0" else word
+        _, out, _ = tests.list(record_of(code, word.encode() + behind[wraps]))
+        tests.expect(f"issue {word}", issue_line(name, wraps) in out, out)
+    _, out, _ = tests.list(record_of(code))
+    tests.expect("no issue", issue_line("none", False) in out, out)
+    _, out, _ = tests.list(record_of(code, b" 2/a"))
+    tests.expect("malformed issue", "\n  issue" not in out, out)
+    _, out, _ = tests.list(record_of(bytes([0, 2]), b"02/Z"))
+    tests.expect("issue of a refused record", issue_line("2/Z", True) in out and "\ncheck 7: " in out, out)
+
+
 def test_switches(tests):
     """Targets count from the switch's own first byte; a range's distance 0 is ELSE, a branch's is the switch itself."""
     switch = bytes([0, 2, 0x00, 0xE2, 0, 1, 0, 12, 0, 11, 0, 0, 0, 11, 0xE4, 0xE9])
@@ -160,6 +182,7 @@ def test(tests):
     test_codes(tests)
     test_workspaces(tests)
     test_lines(tests)
+    test_issues(tests)
     test_switches(tests)
     test_trap_marks(tests)
     for page, report in pages():

@@ -47,6 +47,7 @@ def test_sentences(tests):
         (run([0x83, 3, 0xE8, 0x00, 0xA3, 0x50, 0xE9]), "trap 30: zero divisor at source line 12: DIV_I found 1000 and 0"),
         (run([0x84, 0x7F, 0xFF, 0xFF, 0xFF, 0x01, 0xA0, 0x50, 0xE9]),
          "trap 31: number does not fit at source line 12: ADD_I found 2147483647 and 1"),
+        (run([0x00, 0x01, 0xA9, 0x50, 0xE9]), "trap 31: number does not fit at source line 12: SUB_U found 0 and 1"),
         (run([0x82, 100, 0x30, 0x50, 0xE9]), "trap 32: not live at source line 12: LOAD_F.0 found 100"),
         (run([0x86, 200, 0x50, 0xE9]), "trap 32: not live at source line 12: LOAD_G.b 200"),
         (run([0x00, 0x07, 0x60, 0xE9]), "trap 33: protected at source line 12: STOR_F.0 found 0 and 7"),
@@ -70,6 +71,10 @@ def test_sentences(tests):
     last = [0x84, 0x7F, 0xFF, 0xFF, 0xFF]
     status, out, err = tests.run("page", "-", input=run([0x8E, 0, *last, *last, 0x01, 0xE0, 0, 4, 0xE1, 0xE9]))
     tests.expect("last NEXT", (status, out) == (0, "check 0\nend 0 at 19 line 12 steps 7\ns\ng 2147483647 0\n"), (status, out, err))
+    # Before issue 3/- a result runs round: LOAD_C.0, LOAD_C.1, SUB_U, STOR_G.0 (02, K11)
+    record = record_of(bytes([0, 2, 0x00, 0x01, 0xA9, 0x50, 0xE9]), b" 2/A", globals_=1)
+    status, out, err = tests.run("page", "-", input=run_file_of(record))
+    tests.expect("wrapped", (status, out) == (0, "check 0\nend 0 at 6 line 0 steps 5\ns\ng 4294967295\n"), (status, out, err))
 
 
 def test_signed(tests):

@@ -1,6 +1,7 @@
 //! The head of a run file, and the sizes and tables of a record.
 
 use crate::bytes::{hex, quoted, spaced, words};
+use crate::machine::wraps;
 use crate::record::{sizes, total_bytes, Kind, Record, KINDS};
 use crate::run_file::RunFile;
 use std::io::{self, Write};
@@ -46,12 +47,23 @@ pub fn print_tables(
     Ok(())
 }
 
-/// Prints the version table as text, and as bytes.
+/// Prints the version table as text and as bytes, and what its issue means for unsigned results (02,
+/// K11); a malformed word names none.
 fn print_version(out: &mut impl Write, version: &[u8]) -> io::Result<()> {
-    if version.is_empty() {
-        return Ok(());
+    if !version.is_empty() {
+        writeln!(out, "  version    {}  {}", quoted(version), hex(version))?;
     }
-    writeln!(out, "  version    {}  {}", quoted(version), hex(version))
+    let Some(wraps) = wraps(version) else { return Ok(()) };
+    let verb = if wraps { "wrap" } else { "do not wrap" };
+    writeln!(out, "  issue      {}: unsigned add, subtract and multiply {verb}", issue(version))
+}
+
+/// Names the issue as the papers do: 3/- for " 3/-" and "03/-".
+fn issue(version: &[u8]) -> String {
+    match version.get(..4) {
+        Some([b' ' | b'0', name @ ..] | name) => String::from_utf8_lossy(name).into_owned(),
+        None => "none".to_string(),
+    }
 }
 
 /// Prints words in rows, each with the index of its first.
