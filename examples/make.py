@@ -7,7 +7,8 @@
 Pages eleven and twelve have the same record. It takes two catalogue positions as parameters, stores their separation and divides
 by it. On page eleven the positions differ; on page twelve a star is listed twice. page-twelve-damaged.run is page twelve from a tape
 that has damaged both tables of the record, page-twelve-mended.run the same without what request K12 (02) drops of it.
-page-azimuths.run has a loop that runs to the last number there is (request K3).
+page-azimuths.run has a loop that runs to the last number there is (request K3), page-timestamps.run a record of an old issue, whose
+unsigned results run round (request K11).
 """
 
 import sys
@@ -46,13 +47,32 @@ AZIMUTHS = bytes([
     0xE9,                          # 19  RTN             line 24: end
 ])
 
+TIMESTAMPS = bytes([
+    0x00, 0x02,  #  0  entry of procedure 0
+    0x21,        #  2  LOAD_G.1    line 31: elapsed := second - first
+    0x20,        #  3  LOAD_G.0
+    0xA9,        #  4  SUB_U
+    0x52,        #  5  STOR_G.2
+    0x20,        #  6  LOAD_G.0    line 32: due := first + 3 * elapsed
+    0x03,        #  7  LOAD_C.3
+    0x22,        #  8  LOAD_G.2
+    0xAA,        #  9  MUL_U
+    0xA8,        # 10  ADD_U
+    0x53,        # 11  STOR_G.3
+    0xE9,        # 12  RTN         line 33: end
+])
+
 VERSION = b" 3/-"  # one word: issue 3, revision -
+
+OLD_VERSION = b" 2/A"  # an issue before 3/-
 
 SOURCE_PAIRS = [(2, 11), (6, 12), (12, 13)]  # offset in the code, source line
 
 AZIMUTH_PAIRS = [(2, 21), (14, 22), (18, 23), (19, 24)]
 
-GLOBALS = 4  # first position, second position, separation, figure; or first azimuth, step, azimuth, turns
+TIMESTAMP_PAIRS = [(2, 31), (6, 32), (12, 33)]
+
+GLOBALS = 4  # first position, second position, separation, figure; or those that the text of a page names
 
 DAMAGED_VERSION = b"!3/-"  # a bit of the first byte has turned, so that it is neither a digit nor a space
 
@@ -93,8 +113,8 @@ def run_file(first, second, code=CODE, version=VERSION, source=pairs(SOURCE_PAIR
         bytes([1]),    # results list: one procedure ..
         bytes([0]),    # .. and it leaves no result words
         bytes([2]),    # two parameters, which fill the first globals
-        word(first),   # first catalogue position, or azimuth
-        word(second),  # second catalogue position, or the step
+        word(first),   # first catalogue position, azimuth or stamp
+        word(second),  # second catalogue position, the step, or the second stamp
         word(100),     # budget, in steps
         halfword(64),  # memory, in words
         halfword(16),  # stack, in words
@@ -108,6 +128,7 @@ PAGES = {
     "page-twelve-damaged.run": run_file(7216, 7216, version=DAMAGED_VERSION, source=DAMAGED_SOURCE),
     "page-twelve-mended.run": run_file(7216, 7216, version=b"", source=MENDED_SOURCE),
     "page-azimuths.run": run_file(2147483644, 1, code=AZIMUTHS, source=pairs(AZIMUTH_PAIRS)),
+    "page-timestamps.run": run_file(4294967046, 250, code=TIMESTAMPS, version=OLD_VERSION, source=pairs(TIMESTAMP_PAIRS)),
 }
 
 

@@ -49,7 +49,8 @@ enum icode_number {
     ICODE_TRAP_CALLEE = 23,   /* no such callee, 0 included */
     /* A refusal again. */
     ICODE_STATE_WRONG = 24, /* run: a state that does not fit */
-    /* Data traps. */
+    /* Data traps. Where the first version word names an issue before 3/-, unsigned add, subtract and multiply give no 31: they
+     * wrap. */
     ICODE_TRAP_ZERO_DIVISOR = 30, /* zero divisor */
     ICODE_TRAP_RANGE = 31,        /* number does not fit */
     ICODE_TRAP_NOT_LIVE = 32,     /* not live */
