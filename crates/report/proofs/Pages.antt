@@ -1,18 +1,42 @@
--- A page is its lines, one after the other, and is not long.
+-- A page is its lines, one after the other, and is not long: no number has more than ten digits, a run ends only on a record of at most
+-- 1,024 globals with a stack of at most 1,024 words, and it leaves the stack as long as it was.
 use mathlib.Core.List.{List, _++_}
-use mathlib.Core.Path.{_≡_}
-use Prim.Native.Nat.{ℕ, _+_, _*_, _≤_}
+use mathlib.Core.Path.{_≡_, refl, _∙_}
+use Prim.Native.Nat.{ℕ, zero, suc, _+_, _-_, _*_, _≤_}
 use native.Mathlib.Omega.{arith}
+use borrow.Author.Tests.{eqb-true, not-false}
+use lib.Dec.{eqb}
 use lib.ListN.{length, take, drop, length-append, length-take, length-drop}
+use lib.Seq.{length-sets}
+use Rattle.words.proofs.Tests.{either, by-test}
 use Rattle.header.specs.Header.{headerOf}
 use Rattle.source.specs.Source.{lineAt}
 use Rattle.header.specs.declared.Header.{Header}
+use Rattle.record.proofs.Sound.{after-cleared, sound-sizes}
+use Rattle.registers.specs.Program.{Program, programOf, attributesOf, globalsStart}
+use Rattle.registers.specs.State.{State, state}
+use Rattle.state.specs.Fits.{fits}
+use Rattle.state.proofs.Fitting.{fitting}
+use Rattle.load.specs.declared.Loaded.{Loaded}
+use Rattle.load.specs.declared.Loaded.the-variants.{Refused as NotLoaded, Ready}
+use Rattle.load.specs.Load.{loadOf}
+use Rattle.step.specs.declared.Outcome.{Outcome}
+use Rattle.step.specs.declared.Outcome.the-variants.{Went, Finished, Trapped}
+use Rattle.step.specs.Step.{pushed, stepOf}
+use Rattle.step.proofs.Outcomes.{step-leaves}
+use Rattle.machine.specs.declared.run.Answer.{Answer}
+use Rattle.machine.specs.declared.run.Answer.the-variants.{Refused, Ended}
 use Rattle.machine.specs.declared.run.Ended.{Ended as Ending}
-use Rattle.machine.specs.Run.{endNumber}
+use Rattle.machine.specs.Run.{Result, endNumber, proceed, runFrom, runTests, runNumber, runOf}
+use Rattle.verifier.specs.Check.{checkOf}
+use Rattle.safety.specs.Joined.{Joined, thenLoad, joinedOf}
+use Rattle.run_file.specs.RunFile.{resultsOf, parametersOf, budgetOf, memoryWords, stackWords, recordOf, wellFormed}
 use Rattle.text.specs.Text.{decimal, checkText, endText, atText, lineText, stepsText, newline, wordsText, listLine, numbered}
 use Rattle.text.specs.Text.{checkLine, endLine, Wrote}
 use Rattle.text.proofs.Writing.{wrote-then, decimal-short, words-short}
-use Rattle.report.specs.Report.{endedText}
+use Rattle.report.specs.Report.{endedText, answerText, zeros, textOf, output, printed}
+use Rattle.report.specs.Pages.{PagesFit}
+use Rattle.report.proofs.Printing.{printed-whole}
 
 numbered-short : (text : List ℕ) (n : ℕ) (rest : List ℕ) → length (numbered text n ++ rest) ≤ length text + 10 + length rest
 unfolding numbered
@@ -60,3 +84,100 @@ pub ended-page : (r : List ℕ) (e : Ending) (m s : List ℕ) {h : Header} → h
 unfolding endedText
 ended-page r e m s h x l p q u v w y =
     rw (h) at (rw (x, l, p, q) at (wrote-then u (wrote-then v (wrote-then w y))))
+
+-- A text that is there, and that 32,768 bytes hold.
+abbrev Fits : List ℕ → Type 0
+Fits t = (1 ≤ length t) × (length t ≤ 32768)
+
+check-fits : (n : ℕ) → Fits (checkLine n)
+unfolding checkLine
+check-fits n =
+    let e : length (checkLine n) ≡ length (numbered checkText n) + 1 = length-append (numbered checkText n) newline in
+    (omega arith, omega (arith, check-short n))
+
+-- 17 bytes, 62, and twice 2 and 11 for each of 1,024 words: 22,611.
+ended-fits : (r : List ℕ) (e : Ending) (m s : List ℕ) → headerOf r .globals ≤ 1024 → length s ≤ 1024 → Fits (endedText r e m s)
+unfolding endedText
+ended-fits r e m s g d =
+    let stack = take (e .registers .height) s in
+    let globals = take (headerOf r .globals) (drop globalsStart m) in
+    let line = lineAt r (headerOf r) (e .registers .pc) in
+    let end = endLine (endNumber (e .ending)) (e .registers .pc) line (e .steps) in
+    let a = length-append (checkLine 0) (end ++ (listLine 115 stack ++ listLine 103 globals)) in
+    let b = length-append end (listLine 115 stack ++ listLine 103 globals) in
+    let c = length-append (listLine 115 stack) (listLine 103 globals) in
+    let f = length-take (e .registers .height) s in
+    let h = length-take (headerOf r .globals) (drop globalsStart m) in
+    (omega (arith, a, check-fits 0 .0), omega (
+      arith,
+      a,
+      b,
+      c,
+      f,
+      h,
+      check-short 0,
+      end-short (endNumber (e .ending)) (e .registers .pc) line (e .steps),
+      list-short 115 stack,
+      list-short 103 globals,
+    ))
+
+step-keeps : (P : Program) (S : State) → length (stepOf P S .state .stack) ≡ length (S .stack)
+step-keeps P S =
+    step-leaves P S (λ a. length (a .state .stack) ≡ length (S .stack)) (λ e. Unit {0}) (λ o n. refl)
+    (λ pops push write q e room. length-sets (S .stack) (S .registers .height - pops) (pushed push)) (λ i next. tt)
+
+run-keeps : (P : Program) (left count : ℕ) (S : State) → length (runFrom P left count S .state .stack) ≡ length (S .stack)
+run-keeps P zero count S = refl
+run-keeps P (suc left) count S =
+    by (stepOf P S .outcome) (stepOf P S .state) (run-keeps P left (count + 1) (stepOf P S .state)) ∙ step-keeps P S
+  where
+    by : (o : Outcome) (T : State) → length (runFrom P left (count + 1) T .state .stack) ≡ length (T .stack)
+        → length (proceed (runFrom P left (count + 1)) count o T .state .stack) ≡ length (T .stack)
+    by Went T e = e
+    by Finished T e = refl
+    by (Trapped n) T e = refl
+
+answer-fits : (r : List ℕ) (a : Answer) (m s : List ℕ) → headerOf r .globals ≤ 1024 → length s ≤ 1024 → Fits (answerText r a m s)
+answer-fits r (Refused n) m s g d = check-fits n
+answer-fits r (Ended e) m s g d = ended-fits r e m s g d
+
+run-fits : (r : List ℕ) (budget : ℕ) (S : State)
+    → Fits (answerText r (runOf r budget S .answer) (runOf r budget S .state .memory) (runOf r budget S .state .stack))
+unfolding runOf runNumber
+run-fits r budget S =
+    by-test (λ (a : Result). Fits (answerText r (a .answer) (a .state .memory) (a .state .stack))) (eqb (runNumber r S) 0) _ _
+    (λ t.
+    let k = after-cleared r (runTests r S) refl (eqb-true (runNumber r S) 0 t) in
+    let F = fitting (attributesOf r) S (not-false (fits (attributesOf r) S) (k .1 .0)) in
+    let a = runFrom (programOf r) budget 0 S in
+    answer-fits r (a .answer) (a .state .memory) (a .state .stack) (sound-sizes r (k .0) .globals)
+    (rw (run-keeps (programOf r) budget 0 S) (F .deep)))
+    (λ t. check-fits (runNumber r S))
+
+joined-fits : (r results w ps : List ℕ) (budget : ℕ) (m s : List ℕ)
+    → Fits (answerText r (joinedOf r results w ps budget m s .answer) (joinedOf r results w ps budget m s .memory)
+    (joinedOf r results w ps budget m s .stack))
+unfolding joinedOf
+joined-fits r results w ps budget m s =
+    either (λ (j : Joined). Fits (answerText r (j .answer) (j .memory) (j .stack))) (eqb (checkOf r results w .number) 0) _ _
+    (loaded (loadOf r ps m s .answer) (loadOf r ps m s .memory)) (check-fits (checkOf r results w .number))
+  where
+    loaded : (l : Loaded) (m' : List ℕ)
+        → Fits (answerText r (thenLoad r budget (checkOf r results w .workspace) s l m' .answer)
+        (thenLoad r budget (checkOf r results w .workspace) s l m' .memory)
+        (thenLoad r budget (checkOf r results w .workspace) s l m' .stack))
+    loaded (NotLoaded n) m' = check-fits n
+    loaded (Ready q) m' = run-fits r budget (state q m' s)
+
+pub pages-fit : PagesFit
+unfolding textOf
+pages-fit f =
+    either Fits (wellFormed f) _ _
+    (joined-fits (recordOf f) (resultsOf f) (zeros 16384) (parametersOf f) (budgetOf f) (zeros (memoryWords f)) (zeros (stackWords f)))
+    (check-fits 16)
+
+-- So a buffer of 32,768 bytes does not come back empty.
+pub never-empty : (f out : List ℕ) {n : ℕ} {out' : List ℕ} → output n out' ≡ printed (textOf f) out → 32768 ≤ length out → 1 ≤ n
+never-empty f out {n} e h =
+    let p = pages-fit f in
+    omega (arith, printed-whole (textOf f) out e (omega (arith, p .1)), p .0)

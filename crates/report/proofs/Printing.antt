@@ -9,7 +9,7 @@ use lib.Dec.{leb}
 use lib.ListN.{length, take, drop}
 use lib.Seq.{sets, sets-eq}
 use Rattle.text.specs.Text.{Wrote}
-use Rattle.report.specs.Report.{output, printed}
+use Rattle.report.specs.Report.{Output, output, printed}
 
 sets-nothing : (i : ℕ) (vs : List ℕ) → sets [] i vs ≡ []
 sets-nothing i [] = refl
@@ -57,3 +57,9 @@ answer-fits text out = answered (leb (length text) (length out)) refl where
       → cond b (output (length text) (text ++ drop (length text) out)) (output 0 out) .answer ≤ length out
   answered true e = leb-true (length text) (length out) e
   answered false e = omega arith
+
+-- Where there is room, these are all bytes of the text.
+pub printed-whole : (text out : List ℕ) {n : ℕ} {after : List ℕ} → output n after ≡ printed text out → length text ≤ length out
+    → n ≡ length text
+unfolding printed
+printed-whole text out e h = ap (λ (o : Output). o .answer) e ∙ rw (le-leb (length text) (length out) h) refl
