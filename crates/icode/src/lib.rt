@@ -87,10 +87,11 @@ pub extern "C" fn icode_check(bytes: &[u8], results: &[u8], workspace: &mut [u16
     verifier::check::check(bytes, results, workspace)
 }
 
-// Run-and-report with memory and stack of its own.
+// Run-and-report with memory and stack of its own. A buffer of 32,768 bytes never comes back empty.
 #[no_mangle]
 pub extern "C" fn icode_report(file: &[u8], out: &mut [u8]) -> usize
     ensures { λ n. ⌜ output n (now (out .exit)) ≡ printed (textOf (now (file .entry))) (now (out .entry)) ⌝ }
+    ensures { λ n. ⌜ (32768 ≤ length (now (out .entry)) → 1 ≤ n) ⌝ }
 {
     let mut workspace = [0u16; 16384];
     let mut memory = [0u32; 4096];

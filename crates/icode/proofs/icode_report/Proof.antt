@@ -1,5 +1,6 @@
--- `icode_report` meets its contract: over arrays of zeros the report is the text of the run file.
+-- `icode_report` meets its contract: over arrays of zeros the report is the text of the run file, which 32,768 bytes hold.
 use Rattle.report.proofs.OwnMemory.{report-prints}
+use Rattle.report.proofs.Pages.{never-empty}
 use borrow.Author.Needs.{needs}
 use Rattle.icode.proofs.icode_report.Statement.{statement}
 use Rattle.icode.proofs.icode_report.Tie as tie
@@ -8,7 +9,8 @@ returns : tie.Need-returns
 returns c =
     let report = c .before .before .before .before .before .report in
     let a = c .before .before .before .before .before .before .before .before .before .before .before .before .args in
-    report-prints (a .file .now) (a .out .now) (report .ensures)
+    let prints = report-prints (a .file .now) (a .out .now) (report .ensures) in
+    (prints, never-empty (a .file .now) (a .out .now) prints)
 
 pub icode-report-spec : {M : Type 1} → statement M
 icode-report-spec =
