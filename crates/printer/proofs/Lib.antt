@@ -1,0 +1,2 @@
+-- What reading and printing answer.
+pub mod Answers

@@ -1,0 +1,2 @@
+-- What reading the input may answer.
+pub mod Input
