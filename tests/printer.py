@@ -37,7 +37,7 @@ def with_output(printer, file, **output):
 
 
 def outside(printer, page, report):
-    """What surrounds a page: short reads, inputs that are no run file, outputs that cannot be written."""
+    """What surrounds a page: short reads, inputs that are no run file or cannot be read, outputs that cannot be written."""
     file = page.read_bytes()
     yield "a byte at a time", in_pieces(printer, file, 1), report
     yield "an empty input", printed(printer, b"")[1], MALFORMED
@@ -48,7 +48,11 @@ def outside(printer, page, report):
     with open("/dev/full", "wb") as full:
         yield "a full output", with_output(printer, file, stdout=full), (0, message)
     yield "a closed output", with_output(printer, file, stdout=None, preexec_fn=lambda: os.close(1)), (0, message)
-    yield "a closed input", printed(printer, None, stdin=None, preexec_fn=lambda: os.close(0))[1], MALFORMED
+    unread = (0, b"", b"printer: the input could not be read\n")
+    folder = os.open(page.parent, os.O_RDONLY)
+    yield "a folder as input", printed(printer, None, stdin=folder), unread
+    os.close(folder)
+    yield "a closed input", printed(printer, None, stdin=None, preexec_fn=lambda: os.close(0)), unread
 
 
 def main():
