@@ -1,2 +1,3 @@
--- The table of cases stands.
+-- The table of cases stands, and the page.
 pub mod Table
+pub mod Page

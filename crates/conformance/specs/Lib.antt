@@ -1,2 +1,3 @@
--- 01's "Twelve plates for the wall": the cases marked P.
+-- 01's "Twelve plates for the wall": the cases marked P; and its page.
 pub mod Cases
+pub mod Page

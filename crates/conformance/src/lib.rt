@@ -1,1 +1,2 @@
-// The worked cases of 01's table, as one statement over the definitions: specs/Cases.antt and proofs/Table.antt. There is no code here.
+// The worked cases of 01's table, and its page, as statements over the definitions: specs/Cases.antt and specs/Page.antt. There is no code
+// here.

@@ -107,19 +107,21 @@ ended-fits r e m s g d =
     let b = length-append end (listLine 115 stack ++ listLine 103 globals) in
     let c = length-append (listLine 115 stack) (listLine 103 globals) in
     let f = length-take (e .registers .height) s in
-    let h = length-take (headerOf r .globals) (drop globalsStart m) in
-    (omega (arith, a, check-fits 0 .0), omega (
-      arith,
-      a,
-      b,
-      c,
-      f,
-      h,
-      check-short 0,
-      end-short (endNumber (e .ending)) (e .registers .pc) line (e .steps),
-      list-short 115 stack,
-      list-short 103 globals,
-    ))
+    let h = length-take (headerOf r .globals) (drop globalsStart m) in (
+      omega (arith, a, check-fits 0 .0),
+      omega (
+        arith,
+        a,
+        b,
+        c,
+        f,
+        h,
+        check-short 0,
+        end-short (endNumber (e .ending)) (e .registers .pc) line (e .steps),
+        list-short 115 stack,
+        list-short 103 globals,
+      ),
+    )
 
 step-keeps : (P : Program) (S : State) → length (stepOf P S .state .stack) ≡ length (S .stack)
 step-keeps P S =
@@ -174,7 +176,7 @@ unfolding textOf
 pages-fit f =
     either Fits (wellFormed f) _ _
     (joined-fits (recordOf f) (resultsOf f) (zeros 16384) (parametersOf f) (budgetOf f) (zeros (memoryWords f)) (zeros (stackWords f)))
-    (check-fits 16)
+    (check-fits _)
 
 -- So a buffer of 32,768 bytes does not come back empty.
 pub never-empty : (f out : List ℕ) {n : ℕ} {out' : List ℕ} → output n out' ≡ printed (textOf f) out → 32768 ≤ length out → 1 ≤ n
