@@ -25,7 +25,7 @@ pub record Counted (a : Answer) (most : ℕ) : Type 0 where
   pub few : ending .steps ≤ most
   pub all : ending .ending ≡ Spent → ending .steps ≡ most
 
-counted : (P : Program) (left count : ℕ) (S : State) → Counted (runFrom P left count S .answer) (count + left)
+pub counted : (P : Program) (left count : ℕ) (S : State) → Counted (runFrom P left count S .answer) (count + left)
 counted P zero count S =
     record { ending = endedAt Spent count (S .registers); is = refl; few = omega arith; all = λ e. omega arith }
 counted P (suc left) count S = by (stepOf P S .outcome) (stepOf P S .state) (counted P left (count + 1) (stepOf P S .state))

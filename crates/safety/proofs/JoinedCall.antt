@@ -29,7 +29,7 @@ use Rattle.safety.proofs.LoadedState.{refused-not}
 use Rattle.safety.proofs.Ends.{loaded-ends, claim}
 
 -- The load's numbers are 1 to 8.
-load-number-range : (r parameters m s : List ℕ) → loadNumber r parameters m s ≤ 8
+pub load-number-range : (r parameters m s : List ℕ) → loadNumber r parameters m s ≤ 8
 unfolding loadNumber
 load-number-range r parameters m s = after-range r 8 (loadTests r parameters m s) (omega arith) refl
 

@@ -1,0 +1,4 @@
+-- The demands, collected.
+pub mod Sentences
+pub mod InTurn
+pub mod Collected

@@ -1,0 +1,57 @@
+-- The sentences of demand 3: each is a part of safety's claim, and what the picture has at a place is one list, since every map of the
+-- region has what is reached.
+use mathlib.Core.List.{List}
+use mathlib.Core.Logic.{_⊎_, inl, inr}
+use mathlib.Core.Option.{some}
+use mathlib.Core.Path.{_≡_, _∙_, sym, subst}
+use Prim.Native.Nat.{ℕ}
+use Rattle.stackmap.specs.Slots.{Slot}
+use Rattle.stackmap.proofs.Exact.{has-reached}
+use Rattle.safety.specs.Active.{Configuration, running}
+use Rattle.safety.specs.Demand3.{Demand3, Safe}
+use Rattle.safety.proofs.Places.{checked}
+use Rattle.safety.proofs.Ends.{claim}
+use Rattle.demands.specs.Fresh.{Fresh, programIn, subjectIn, workspaceLeft, loadedState, After, Pictured, Shared}
+use Rattle.demands.specs.Third.{EndsProperly, HasPlace, HasPicture, HasShare, KeepsFixed, KeepsSizes, KeepsLinks, LeavesBelow}
+
+claimed : (F : Fresh) → Demand3 (F .bytes) (workspaceLeft F) (loadedState F) (subjectIn F)
+claimed F =
+    claim (F .bytes) (F .results) (F .workspace) (F .parameters) (F .memory) (F .stack) (F .registers) (F .are-bytes) (F .accepted)
+    (F .loaded) (F .ruled)
+
+safe : (F : Fresh) (n : ℕ) (c : Configuration) → After F n c → Safe (programIn F) (subjectIn F) (workspaceLeft F) (loadedState F) c
+safe F n c v = claimed F .safe n c v
+
+pub ends-properly : EndsProperly
+ends-properly F budget = claimed F .runs budget
+
+pub has-place : HasPlace
+has-place F n c v =
+    let S = safe F n c v in
+    (S .procedure, S .slots, S .placed)
+
+pub has-picture : HasPicture
+has-picture F n c v slots p π is = has-reached (subjectIn F) (running (c .calls)) π is (c .state .registers .pc) slots p
+
+pub has-share : HasShare
+has-share F n c v slots p =
+    let S = safe F n c v in
+    let C = checked (F .bytes) (F .results) (F .workspace) (F .are-bytes) (F .accepted) (F .ruled) in
+    let (π, is) = C .maps (running (c .calls)) (S .procedure) in
+    let has = has-reached (subjectIn F) (running (c .calls)) π is (c .state .registers .pc) slots p in
+    let same : some (S .slots) ≡ some slots = sym (S .pictured π is) ∙ has in
+    let equal : S .slots ≡ slots = cc in
+    subst (Shared F c) equal (record { height = S .height; labels = S .labels; shown = S .shown })
+
+pub keeps-fixed : KeepsFixed
+keeps-fixed F n c v a (inl l) = safe F n c v .header a l
+keeps-fixed F n c v a (inr (l, h)) = safe F n c v .constants a l h
+
+pub keeps-sizes : KeepsSizes
+keeps-sizes F n c v = let S = safe F n c v in (S .memory-size, S .stack-size)
+
+pub keeps-links : KeepsLinks
+keeps-links F n c v = let S = safe F n c v in (S .active, S .links)
+
+pub leaves-below : LeavesBelow
+leaves-below F n c v = safe F n c v .unread

@@ -1,0 +1,63 @@
+-- The letter's demands, a field a sentence, over the definitions that the promises of reading, check, load and run equal. The letter:
+-- "Rattle's checker should, and this is what it should say".
+use Rattle.verifier.specs.Exact.{AcceptsExactly, RefusesExactly, ShowsReached, ShowsNoMore}
+use Rattle.safety.specs.Joined.{RefusedJoined}
+use Rattle.safety.specs.Labels.{IterPushes, SwitchPushes}
+use Rattle.guarantees.specs.Guarantees.{RefusedLoad, RefusedRun, TrappedStep, CountWithinBudget, SpendsBudget, WritesBelowHeight, StaysFit}
+use Rattle.guarantees.specs.Guarantees.{KeepsProtected}
+use Rattle.guarantees.specs.Answers.{ReadingNumbers, CheckNumbers, LoadNumbers, RunNumbers, StepTraps}
+use Rattle.guarantees.specs.Runs.{RunsBySteps}
+use Rattle.demands.specs.Third.{EndsProperly, HasPlace, HasPicture, HasShare, KeepsFixed, KeepsSizes, KeepsLinks, LeavesBelow}
+use Rattle.demands.specs.Calls.{ReadsBack, CallsInTurn}
+
+-- 1. "Reading, checking, loading and running answer for any bytes, sizes and lent memory." That they answer at all is what the checker
+-- says of every function, and none of these has a `requires`; what they answer is one of 01's numbers.
+pub record Demand1 : Type 0 where
+  pub reading : ReadingNumbers
+  pub checking : CheckNumbers
+  pub loading : LoadNumbers
+  pub running : RunNumbers
+  pub trapping : StepTraps
+  -- "A refused record leaves memory and stack as they were"
+  pub refused-load : RefusedLoad
+  pub refused-run : RefusedRun
+  pub refused-call : RefusedJoined
+  -- "a trapped step leaves the machine as it stood before that step."
+  pub trapped-step : TrappedStep
+
+-- 2. "The check accepts exactly the records that meet the written rules"
+pub record Demand2 : Type 0 where
+  pub accepts : AcceptsExactly
+  pub refuses : RefusesExactly
+  pub shows : ShowsReached
+  pub shows-no-more : ShowsNoMore
+  -- "and every run, accepted code or not, gives the memory, stack, trap, place and step count that the manual's steps give as our document
+  -- reads them."
+  pub runs : RunsBySteps
+  pub counts : CountWithinBudget
+  pub spends : SpendsBudget
+  pub fits-on : StaysFit
+  pub writes-below : WritesBelowHeight
+  pub protects : KeepsProtected
+
+-- 3. "Take any record that the check accepts and load it fresh, with any parameters, memory and stack that the loader takes; run it from
+-- there": the sentences stand in Third.
+pub record Demand3 : Type 0 where
+  pub ends : EndsProperly
+  pub place : HasPlace
+  pub picture : HasPicture
+  pub share : HasShare
+  pub iter-label : IterPushes
+  pub switch-label : SwitchPushes
+  pub data-areas : KeepsFixed
+  pub sizes : KeepsSizes
+  pub links : KeepsLinks
+  pub below : LeavesBelow
+  -- For callers that make the three calls in turn.
+  pub reads-back : ReadsBack
+  pub in-turn : CallsInTurn
+
+pub record Demands : Type 0 where
+  pub first : Demand1
+  pub second : Demand2
+  pub third : Demand3
