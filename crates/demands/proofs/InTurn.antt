@@ -1,4 +1,5 @@
--- The three calls in turn: where the check and the load answer 0, the load was ready, and the run reads the six words that it wrote.
+-- The three calls in turn: where the check and the load answer 0, the load was ready, and the run reads the six words that it
+-- wrote.
 use mathlib.Core.Bool.{Bool, true, false, _&&_}
 use mathlib.Core.List.{List}
 use mathlib.Core.Path.{_≡_, refl}

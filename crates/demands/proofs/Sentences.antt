@@ -1,5 +1,5 @@
--- The sentences of demand 3: each is a part of safety's claim, and what the picture has at a place is one list, since every map of the
--- region has what is reached.
+-- The sentences of demand 3: each is a part of safety's claim, and what the picture has at a place is one list, since every map
+-- of the region has what is reached.
 use mathlib.Core.List.{List}
 use mathlib.Core.Logic.{_⊎_, inl, inr}
 use mathlib.Core.Option.{some}
@@ -12,14 +12,16 @@ use Rattle.safety.specs.Demand3.{Demand3, Safe}
 use Rattle.safety.proofs.Places.{checked}
 use Rattle.safety.proofs.Ends.{claim}
 use Rattle.demands.specs.Fresh.{Fresh, programIn, subjectIn, workspaceLeft, loadedState, After, Pictured, Shared}
-use Rattle.demands.specs.Third.{EndsProperly, HasPlace, HasPicture, HasShare, KeepsFixed, KeepsSizes, KeepsLinks, LeavesBelow}
+use Rattle.demands.specs.Third.{EndsProperly, HasPlace, HasPicture, HasShare}
+use Rattle.demands.specs.Third.{KeepsFixed, KeepsSizes, KeepsLinks, LeavesBelow}
 
 claimed : (F : Fresh) → Demand3 (F .bytes) (workspaceLeft F) (loadedState F) (subjectIn F)
 claimed F =
-    claim (F .bytes) (F .results) (F .workspace) (F .parameters) (F .memory) (F .stack) (F .registers) (F .are-bytes) (F .accepted)
-    (F .loaded) (F .ruled)
+    claim (F .bytes) (F .results) (F .workspace) (F .parameters) (F .memory) (F .stack) (F .registers) (F .are-bytes)
+    (F .accepted) (F .loaded) (F .ruled)
 
-safe : (F : Fresh) (n : ℕ) (c : Configuration) → After F n c → Safe (programIn F) (subjectIn F) (workspaceLeft F) (loadedState F) c
+safe : (F : Fresh) (n : ℕ) (c : Configuration) → After F n c
+    → Safe (programIn F) (subjectIn F) (workspaceLeft F) (loadedState F) c
 safe F n c v = claimed F .safe n c v
 
 pub ends-properly : EndsProperly

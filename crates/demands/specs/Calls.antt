@@ -1,5 +1,5 @@
--- Demand 3 for callers that make the three calls in turn, through C: icode_check, icode_bench_load and icode_bench_run, whose promises
--- equal `checkOf`, `benchLoad` and `benchRun`.
+-- Demand 3 for callers that make the three calls in turn, through C: icode_check, icode_bench_load and icode_bench_run, whose
+-- promises equal `checkOf`, `benchLoad` and `benchRun`.
 use mathlib.Core.List.{List}
 use mathlib.Core.Path.{_≡_}
 use Prim.Native.Nat.{ℕ}

@@ -1,17 +1,19 @@
--- The letter's demands, a field a sentence, over the definitions that the promises of reading, check, load and run equal. The letter:
--- "Rattle's checker should, and this is what it should say".
+-- The letter's demands, a field a sentence, over the definitions that the promises of reading, check, load and run equal. The
+-- letter: "Rattle's checker should, and this is what it should say".
 use Rattle.verifier.specs.Exact.{AcceptsExactly, RefusesExactly, ShowsReached, ShowsNoMore}
 use Rattle.safety.specs.Joined.{RefusedJoined}
 use Rattle.safety.specs.Labels.{IterPushes, SwitchPushes}
-use Rattle.guarantees.specs.Guarantees.{RefusedLoad, RefusedRun, TrappedStep, CountWithinBudget, SpendsBudget, WritesBelowHeight, StaysFit}
+use Rattle.guarantees.specs.Guarantees.{RefusedLoad, RefusedRun, TrappedStep}
+use Rattle.guarantees.specs.Guarantees.{CountWithinBudget, SpendsBudget, WritesBelowHeight, StaysFit}
 use Rattle.guarantees.specs.Guarantees.{KeepsProtected}
 use Rattle.guarantees.specs.Answers.{ReadingNumbers, CheckNumbers, LoadNumbers, RunNumbers, StepTraps}
 use Rattle.guarantees.specs.Runs.{RunsBySteps}
-use Rattle.demands.specs.Third.{EndsProperly, HasPlace, HasPicture, HasShare, KeepsFixed, KeepsSizes, KeepsLinks, LeavesBelow}
+use Rattle.demands.specs.Third.{EndsProperly, HasPlace, HasPicture, HasShare}
+use Rattle.demands.specs.Third.{KeepsFixed, KeepsSizes, KeepsLinks, LeavesBelow}
 use Rattle.demands.specs.Calls.{ReadsBack, CallsInTurn}
 
--- 1. "Reading, checking, loading and running answer for any bytes, sizes and lent memory." That they answer at all is what the checker
--- says of every function, and none of these has a `requires`; what they answer is one of 01's numbers.
+-- 1. "Reading, checking, loading and running answer for any bytes, sizes and lent memory." That they answer at all is what the
+-- checker says of every function, and none of these has a `requires`; what they answer is one of 01's numbers.
 pub record Demand1 : Type 0 where
   pub reading : ReadingNumbers
   pub checking : CheckNumbers
@@ -31,8 +33,8 @@ pub record Demand2 : Type 0 where
   pub refuses : RefusesExactly
   pub shows : ShowsReached
   pub shows-no-more : ShowsNoMore
-  -- "and every run, accepted code or not, gives the memory, stack, trap, place and step count that the manual's steps give as our document
-  -- reads them."
+  -- "and every run, accepted code or not, gives the memory, stack, trap, place and step count that the manual's steps give as
+  -- our document reads them."
   pub runs : RunsBySteps
   pub counts : CountWithinBudget
   pub spends : SpendsBudget
@@ -40,8 +42,8 @@ pub record Demand2 : Type 0 where
   pub writes-below : WritesBelowHeight
   pub protects : KeepsProtected
 
--- 3. "Take any record that the check accepts and load it fresh, with any parameters, memory and stack that the loader takes; run it from
--- there": the sentences stand in Third.
+-- 3. "Take any record that the check accepts and load it fresh, with any parameters, memory and stack that the loader takes;
+-- run it from there": the sentences stand in Third.
 pub record Demand3 : Type 0 where
   pub ends : EndsProperly
   pub place : HasPlace

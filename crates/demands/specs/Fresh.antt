@@ -1,6 +1,6 @@
--- What demand 3 speaks of. The letter: "Take any record that the check accepts and load it fresh, with any parameters, memory and stack
--- that the loader takes; run it from there". 01: "Check, load and run get the same record; the run gets the load's memory and stack and
--- all else it answered or wrote, as left, and nothing else writes these before its end."
+-- What demand 3 speaks of. The letter: "Take any record that the check accepts and load it fresh, with any parameters, memory
+-- and stack that the loader takes; run it from there". 01: "Check, load and run get the same record; the run gets the load's
+-- memory and stack and all else it answered or wrote, as left, and nothing else writes these before its end."
 use mathlib.Core.List.{List}
 use mathlib.Core.Path.{_≡_}
 use Prim.Native.Nat.{ℕ, _+_}
@@ -54,8 +54,8 @@ firstOf F = loadedConfiguration (loadedState F)
 abbrev pub After : (F : Fresh) (n : ℕ) → Configuration → Type 0
 After F n c = Visits (programIn F) (subjectIn F) (firstOf F) n c
 
--- The running procedure's picture has a list of slots at the place. 01: "the picture is that of just the instructions reached from the
--- entry".
+-- The running procedure's picture has a list of slots at the place. 01: "the picture is that of just the instructions reached
+-- from the entry".
 abbrev pub Pictured : (F : Fresh) → Configuration → List Slot → Type 0
 Pictured F c slots = Reached (subjectIn F) (running (c .calls)) (c .state .registers .pc) slots
 

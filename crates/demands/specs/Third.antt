@@ -16,10 +16,12 @@ use Rattle.safety.specs.Active.{Configuration, running, shareOf}
 use Rattle.safety.specs.Demand3.{Ends, Linked, SameFrom, Unread}
 use Rattle.demands.specs.Fresh.{Fresh, programIn, subjectIn, loadedState, firstOf, After, Pictured, Shared}
 
--- "Whatever memory and stack held before, the run finishes, spends its budget, or ends in one of the nine data traps, never in one of the
--- four code traps", "with demand 2's steps and step count and any step budget".
+-- "Whatever memory and stack held before, the run finishes, spends its budget, or ends in one of the nine data traps, never in
+-- one of the four code traps", "with demand 2's steps and step count and any step budget".
 abbrev pub EndsProperly : Type 0
-EndsProperly = (F : Fresh) (budget : ℕ) → Ends (programIn F) (subjectIn F) (firstOf F) budget (runOf (F .bytes) budget (loadedState F))
+EndsProperly =
+    (F : Fresh) (budget : ℕ)
+    → Ends (programIn F) (subjectIn F) (firstOf F) budget (runOf (F .bytes) budget (loadedState F))
 
 -- "After every number of its steps, from none to the last": what holds of each configuration.
 abbrev pub Always : (Fresh → Configuration → Type 0) → Type 0
@@ -35,8 +37,8 @@ HasPicture =
     Always (λ F c. (slots : List Slot) → Pictured F c slots → (π : Map) → IsMap (subjectIn F) (running (c .calls)) π
     → π (c .state .registers .pc) ≡ some slots)
 
--- "That procedure's share of the stack has exactly the height and labels of the picture there, and the check's workspace, as the check left
--- it, shows that height and the topmost label."
+-- "That procedure's share of the stack has exactly the height and labels of the picture there, and the check's workspace, as
+-- the check left it, shows that height and the topmost label."
 abbrev pub HasShare : Type 0
 HasShare = Always (λ F c. (slots : List Slot) → Pictured F c slots → Shared F c slots)
 

@@ -68,8 +68,8 @@ module _ (code : List ℕ) (A : Attributes) (q : Registers) (pc h : ℕ) (m s : 
       (omega arith) room
 
   pub two-arm : (k : ℕ) (op : Operation) (v : Value) → byteAt code pc ≡ k → rowOf k ≡ row none normal (λ mode a b. Operate op)
-      → (k ≡ 0xF5 → ⊥) → operands op ≡ 2 → operationValue (A .wraps) op (read s (h - 2)) (read s (h - 1)) ≡ v → pc + 1 < length code
-      → (t : Bool) (T' : Spot) → PutsTwo t (pc + 1) v T T' → Did t P q T T'
+      → (k ≡ 0xF5 → ⊥) → operands op ≡ 2 → operationValue (A .wraps) op (read s (h - 2)) (read s (h - 1)) ≡ v
+      → pc + 1 < length code → (t : Bool) (T' : Spot) → PutsTwo t (pc + 1) v T T' → Did t P q T T'
   two-arm k op v e r not-double two value room t T' =
       did t P q _ T _ T' (λ c. two-goes op v two value (decoded k op e r not-double (omega arith)) room c)
 

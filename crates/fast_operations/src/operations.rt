@@ -70,8 +70,8 @@ fn put_one(stack: &mut [u32], pc: &mut usize, height: &mut usize, v: Value) -> b
 fn signed_two(stack: &mut [u32], pc: &mut usize, height: &mut usize, op: Arithmetic) -> bool
     requires { ⌜ now height ≤ length (now stack) ⌝ }
     requires { ⌜ now pc + 1 < 0x1_0000_0000_0000_0000 ⌝ }
-    ensures { λ b. ⌜ ((m : List ℕ) → PutsTwo b (now (pc .entry) + 1) (signedValue op (read (now (stack .entry)) (now (height .entry) - 2))
-        (read (now (stack .entry)) (now (height .entry) - 1)))
+    ensures { λ b. ⌜ ((m : List ℕ) → PutsTwo b (now (pc .entry) + 1) (signedValue op
+        (read (now (stack .entry)) (now (height .entry) - 2)) (read (now (stack .entry)) (now (height .entry) - 1)))
         (spot (now (pc .entry)) (now (height .entry)) m (now (stack .entry)))
         (spot (now (pc .exit)) (now (height .exit)) m (now (stack .exit)))) ⌝ }
 {

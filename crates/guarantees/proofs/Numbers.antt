@@ -1,5 +1,5 @@
--- Which numbers are handed back: a call's tests have no others, and a step traps on code in decoding, for want of words or of a callee, or
--- at the next place, else on data.
+-- Which numbers are handed back: a call's tests have no others, and a step traps on code in decoding, for want of words or of a
+-- callee, or at the next place, else on data.
 use mathlib.Core.Bool.{true, not}
 use mathlib.Core.List.{List}
 use mathlib.Core.Logic.{_⊎_, inl, inr}
@@ -129,7 +129,8 @@ run-number : (r : List ℕ) (S : State) → (runNumber r S ≡ 0 → ⊥) → Ru
 unfolding runNumber
 run-number r S =
     by-test (λ (k : ℕ). (k ≡ 0 → ⊥) → Runs k) (eqb (recordNumber r) 0) _ _
-    (λ t. by-test (λ (k : ℕ). (k ≡ 0 → ⊥) → Runs k) (not (fits (attributesOf r) S)) 24 0 (λ u h. inr refl) (λ u h. absurd (h refl)))
+    (λ t. by-test (λ (k : ℕ). (k ≡ 0 → ⊥) → Runs k) (not (fits (attributesOf r) S)) 24 0
+    (λ u h. inr refl) (λ u h. absurd (h refl)))
     (λ t h. inl (omega (arith, eqb-false (recordNumber r) 0 t), record-range r))
 
 -- What was not refused ended.

@@ -37,7 +37,8 @@ CountWithinBudget =
 -- 01: "After as many steps as the budget the run answers "spent"", and after no fewer.
 abbrev pub SpendsBudget : Type 0
 SpendsBudget =
-    (r : List ℕ) (budget : ℕ) (S : State) (e : Ending) → runOf r budget S .answer ≡ Ended e → e .ending ≡ Spent → e .steps ≡ budget
+    (r : List ℕ) (budget : ℕ) (S : State) (e : Ending) → runOf r budget S .answer ≡ Ended e
+    → e .ending ≡ Spent → e .steps ≡ budget
 
 -- 01: "A step writes only stack words below its new height"; and the stack keeps its size.
 abbrev pub WritesBelowHeight : Type 0

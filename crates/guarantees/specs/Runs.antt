@@ -17,8 +17,8 @@ pub data Completes (P : Program) (S : State) : ℕ → State → Type 0 where
   none : Completes P S 0 S
   one-more : {n : ℕ} {S' : State} → Completes P S n S' → stepOf P S' .outcome ≡ Went → Completes P S (suc n) (stepOf P S' .state)
 
--- What the next step does where a run ends after n steps in state S: 01, "After as many steps as the budget the run answers "spent",
--- unless the last of them finished."
+-- What the next step does where a run ends after n steps in state S: 01, "After as many steps as the budget the run answers
+-- "spent", unless the last of them finished."
 abbrev pub EndsBy : (P : Program) (n budget : ℕ) (S : State) → End → Type 0
 EndsBy P n budget S Finished = (n < budget) × (stepOf P S .outcome ≡ finishes)
 EndsBy P n budget S Spent = n ≡ budget

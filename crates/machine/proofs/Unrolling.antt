@@ -109,7 +109,8 @@ module _ (r : List ℕ) (budget : ℕ) (S : State) where
       let t = refused-number r n e in
       rw (t .1) (simp (ne-eqb (recordNumber r) 0 (t .0)))
 
-  module _ (h : Header) (e : readingOf r ≡ Sound h) (A : Attributes) (a : A ≡ attributesIn r h) (t : Bool) (f : t ≡ fits A S) where
+  module _ (h : Header) (e : readingOf r ≡ Sound h) (A : Attributes) (a : A ≡ attributesIn r h) (t : Bool)
+      (f : t ≡ fits A S) where
     tested : t ≡ fits (attributesOf r) S
     tested = f ∙ rw (a, sound-header r h e .1)
 

@@ -1,5 +1,5 @@
--- Unsigned results by both rules: what is left of a number by 2^32 differs from it by a multiple of 2^32, and a quotient or a remainder
--- is no larger than the dividend.
+-- Unsigned results by both rules: what is left of a number by 2^32 differs from it by a multiple of 2^32, and a quotient or a
+-- remainder is no larger than the dividend.
 use mathlib.Core.Bool.{Bool, true, false}
 use mathlib.Core.Path.{_≡_, _∙_, refl, sym}
 use Prim.Native.Nat.{ℕ, suc, _/_, _%_, _≤_, _<_}
@@ -30,7 +30,8 @@ by-rule true (negsuc n) = (
   (suc (n / 0x1_0000_0000), omega (arith, div-add-mod' n 0x1_0000_0000, left n)),
 )
 by-rule false (pos n) =
-    by-test (ByRule false (pos n)) (ltb n 0x1_0000_0000) (Word n) (Trap 31) (λ e. (ltb-true n 0x1_0000_0000 e, refl)) (λ e. (e, refl))
+    by-test (ByRule false (pos n)) (ltb n 0x1_0000_0000) (Word n) (Trap 31)
+    (λ e. (ltb-true n 0x1_0000_0000 e, refl)) (λ e. (e, refl))
 by-rule false (negsuc n) = (refl, refl)
 
 pub three-by-rule : ThreeByRule

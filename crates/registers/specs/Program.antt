@@ -6,7 +6,8 @@ use Rattle.header.specs.declared.Header.{Header}
 use Rattle.version.specs.Issue.{wraps}
 use Rattle.registers.specs.declared.Attributes.{Attributes}
 
--- What runs: the code of a module, and its attributes, which are the sizes of its data areas, and whether its unsigned results wrap.
+-- What runs: the code of a module, and its attributes, which are the sizes of its data areas, and whether its unsigned results
+-- wrap.
 pub record Program : Type 0 where
   pub code : List ℕ
   pub attributes : Attributes

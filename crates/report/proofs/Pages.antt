@@ -1,5 +1,5 @@
--- A page is its lines, one after the other, and is not long: no number has more than ten digits, a run ends only on a record of at most
--- 1,024 globals with a stack of at most 1,024 words, and it leaves the stack as long as it was.
+-- A page is its lines, one after the other, and is not long: no number has more than ten digits, a run ends only on a record of
+-- at most 1,024 globals with a stack of at most 1,024 words, and it leaves the stack as long as it was.
 use mathlib.Core.List.{List, _++_}
 use mathlib.Core.Path.{_≡_, refl, _∙_}
 use Prim.Native.Nat.{ℕ, zero, suc, _+_, _-_, _*_, _≤_}
@@ -175,7 +175,8 @@ pub pages-fit : PagesFit
 unfolding textOf
 pages-fit f =
     either Fits (wellFormed f) _ _
-    (joined-fits (recordOf f) (resultsOf f) (zeros 16384) (parametersOf f) (budgetOf f) (zeros (memoryWords f)) (zeros (stackWords f)))
+    (joined-fits (recordOf f) (resultsOf f) (zeros 16384) (parametersOf f) (budgetOf f)
+    (zeros (memoryWords f)) (zeros (stackWords f)))
     (check-fits _)
 
 -- So a buffer of 32,768 bytes does not come back empty.

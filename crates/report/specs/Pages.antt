@@ -1,5 +1,5 @@
--- How long pages are. 01: run-and-report "answers the bytes written, or 0 for a buffer too short, which stays untouched". Every run file
--- has a page, and 32,768 bytes hold any: so with such a buffer 0 is never answered.
+-- How long pages are. 01: run-and-report "answers the bytes written, or 0 for a buffer too short, which stays untouched". Every
+-- run file has a page, and 32,768 bytes hold any: so with such a buffer 0 is never answered.
 use mathlib.Core.List.{List}
 use Prim.Native.Nat.{ℕ, _≤_}
 use lib.ListN.{length}

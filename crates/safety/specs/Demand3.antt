@@ -65,8 +65,8 @@ pub record Safe (P : Program) (U : Subject) (w : List ℕ) (S0 : State) (c : Con
   -- are as many as the machine counts.
   pub procedure : running (c .calls) < entryCount (U .code)
   pub active : length (c .calls) ≡ c .state .registers .calls
-  -- "the place is one that the running procedure's stack picture has": it is reached, and so every map of the procedure's region has
-  -- just these slots there.
+  -- "the place is one that the running procedure's stack picture has": it is reached, and so every map of the procedure's
+  -- region has just these slots there.
   pub slots : List Slot
   pub placed : Reached U (running (c .calls)) (c .state .registers .pc) slots
   pub pictured : (π : Map) → IsMap U (running (c .calls)) π → π (c .state .registers .pc) ≡ some slots
@@ -125,7 +125,8 @@ pub record Demand3 (r w : List ℕ) (S : State) (U : Subject) : Type 0 where
   pub runs : (budget : ℕ) → Ends (programOf r) U (loadedConfiguration S) budget (runOf r budget S)
   pub safe : (n : ℕ) (c : Configuration) → Visits (programOf r) U (loadedConfiguration S) n c → Safe (programOf r) U w S c
 
--- It holds for every way in which the record meets the rules up to 14; that it meets them is `AcceptsExactly` (verifier/specs/Exact).
+-- It holds for every way in which the record meets the rules up to 14; that it meets them is `AcceptsExactly`
+-- (verifier/specs/Exact).
 abbrev pub Claim : Type 0
 Claim =
     (r results w parameters m s : List ℕ) (q : Registers) → Bytes r → checkOf r results w .number ≡ 0

@@ -1,5 +1,5 @@
--- The word that a label's maker pushes. 01: "A label slot holds the word that its maker pushes." ITER that goes on pushes this word, or
--- nothing (where it skips its loop); a switch that goes on pushes this word.
+-- The word that a label's maker pushes. 01: "A label slot holds the word that its maker pushes." ITER that goes on pushes this
+-- word, or nothing (where it skips its loop); a switch that goes on pushes this word.
 use mathlib.Core.Logic.{_⊎_}
 use mathlib.Core.Path.{_≡_}
 use Prim.Native.Nat.{ℕ}

@@ -1,5 +1,5 @@
--- The order of issues, and which of them wrap. 02, K11: "Issues order by number, then hyphen before letters; a leading space counts
--- as 0."
+-- The order of issues, and which of them wrap. 02, K11: "Issues order by number, then hyphen before letters; a leading space
+-- counts as 0."
 use mathlib.Core.Bool.{Bool, true, cond, not, _&&_, _||_}
 use mathlib.Core.List.{List, [], _∷_}
 use mathlib.Core.Path.{_≡_}

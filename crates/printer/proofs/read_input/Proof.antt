@@ -1,5 +1,5 @@
--- `printer::read_input` meets its contract: what a read gives lies within the rest of the buffer, whose length stays, and each turn
--- reads a byte at least.
+-- `printer::read_input` meets its contract: what a read gives lies within the rest of the buffer, whose length stays, and each
+-- turn reads a byte at least.
 use Prim.Native.Nat.{ℕ, _-_, _≤_}
 use mathlib.Core.Path.{_≡_}
 use native.Mathlib.Omega.{arith}

@@ -1,5 +1,5 @@
--- `operate::arithmetic::unsigned_value` meets its contract: a sum, a product or a difference goes by the rule, and a quotient or a
--- remainder is no larger than x.
+-- `operate::arithmetic::unsigned_value` meets its contract: a sum, a product or a difference goes by the rule, and a quotient
+-- or a remainder is no larger than x.
 use native.Mathlib.Nat.{div-le-self, mod-le}
 use borrow.Author.Needs.{needs}
 use borrow.Author.Tests.{eq-eqb, ne-eqb}
@@ -46,6 +46,6 @@ rest c =
 pub unsigned-value-spec : {M : Type 1} → statement M
 unsigned-value-spec =
     tie.close
-    (tie.spec (λ c. search needs) (λ c. search needs) (λ c κs. search needs) (λ c. search needs) (λ c κs. search needs) (λ c. search needs)
-    mul-unsigned-word (λ c κs. search needs) (λ c. search needs) no-divisor (λ c. search needs) (λ c. search needs) no-divisor-of-rest
-    (λ c. search needs) sum difference product quotient rest)
+    (tie.spec (λ c. search needs) (λ c. search needs) (λ c κs. search needs) (λ c. search needs) (λ c κs. search needs)
+    (λ c. search needs) mul-unsigned-word (λ c κs. search needs) (λ c. search needs) no-divisor (λ c. search needs)
+    (λ c. search needs) no-divisor-of-rest (λ c. search needs) sum difference product quotient rest)
