@@ -7,13 +7,13 @@ ghost use Rattle.printer.specs.Input.{Within};
 use libc::STDIN_FILENO;
 use libc::STDOUT_FILENO;
 
-// What reading gave: so many bytes at the start of the buffer, or nothing that can be relied on.
+// Tells what reading gave: so many bytes at the start of the buffer, or that a read failed.
 enum Input {
     Read(usize),
     Failed,
 }
 
-// One read. That a signal interrupts it before a byte has come counts as a failure, as in io.
+// Reads once. A read that a signal interrupts before a byte has come counts as one that failed, as in io.
 fn read_some(buf: &mut [u8]) -> Input
     ensures { λ r. ⌜ Within r (length (now (buf .entry))) ⌝ }
 {
@@ -42,7 +42,7 @@ fn read_input(buf: &mut [u8]) -> Input
     Input::Read(done)
 }
 
-// The page of a run file, with memory and stack of the printer's own.
+// Writes the page of a run file, with workspace, memory and stack of the printer's own. A buffer of 32,768 bytes never stays empty.
 fn page_of(file: &[u8], page: &mut [u8]) -> usize
     ensures { λ n. ⌜ output n (now (page .exit)) ≡ printed (textOf (now (file .entry))) (now (page .entry)) ⌝ }
     ensures { λ n. ⌜ (32768 ≤ length (now (page .entry)) → 1 ≤ n) ⌝ }
