@@ -12,15 +12,15 @@ A batch is a file crates/CRATE/must-fail/BATCH.edit; `rt` applies all of it to a
 
   edit: NAME
   function: MODULE::FUNCTION      or   theorem: FILE.NAME, of proofs/FILE.antt
-  clause: NAME                    of the function's proof, or the need that a search for it does not close; only where the batch has
-                                  other edits of this function
+  clause: NAME                    of the function's proof, or the need that a search for it does not close, or the field of a theorem
+                                  that is a record; only where the batch has other edits of this function or theorem
   file: src/lib.rt
   old: text that stands there once
   new: text in its place
 
 with one or more pairs of old and new. A batch changes the bodies of functions, or contracts, or definitions, and only one of these: what
-is changed in a contract or a definition may break more than the edit names. It breaks a theorem once, and a function once or, where
-each of its edits names a clause of its own, once a clause.
+is changed in a contract or a definition may break more than the edit names. It breaks a function or a theorem once or, where each of
+its edits names a clause of its own, once a clause.
 """
 
 import re
@@ -45,7 +45,7 @@ class Edit:
     name: str
     kind: str = ""  # function or theorem
     breaks: str = ""
-    clause: str = ""  # the clause of the function's proof that is refused; any, where none is named
+    clause: str = ""  # the clause of the proof that is refused; any, where none is named
     pairs: list = field(default_factory=list)  # (file, old, new)
 
 
@@ -268,12 +268,21 @@ UNFIT = re.compile(r"was not admitted|can be named from here|has no field|`: mod
 
 
 def errors_in(log, file):
-    """The errors in a proof file: (declaration, message)."""
+    """The errors in a proof file: (line, declaration, message)."""
     for line in log.splitlines():
-        found = re.match(r"(\S+?):\d+:\d+: error:? ?(.*)", line)
+        found = re.match(r"(\S+?):(\d+):\d+: error:? ?(.*)", line)
         if found and found.group(1).endswith("/" + file):
-            named = re.match(r"`([^`]+)`: (.*)", found.group(2))
-            yield (named.group(1), named.group(2)) if named else ("", found.group(2))
+            named = re.match(r"`([^`]+)`: (.*)", found.group(3))
+            yield int(found.group(2)), *(named.groups() if named else ("", found.group(3)))
+
+
+def field_at(path, line):
+    """The field of a record that a line of a proof file stands in."""
+    for text in reversed(path.read_text().splitlines()[:line]):
+        found = re.match(r" +([\w-]+) =( |$)", text)
+        if found or not text.startswith(" "):
+            return found.group(1) if found else ""
+    return ""
 
 
 def unclosed(verdict):
@@ -281,15 +290,17 @@ def unclosed(verdict):
     return re.findall(r"`([^`]+)`", verdict.partition("`search` does not close")[2]) if verdict.startswith("no proof") else []
 
 
-def refusal(edit, crate, log):
+def refusal(edit, crate, log, root=ROOT):
     """Says why a log does not show that what the edit names is refused for a fact of its own; nothing where it does."""
     if edit.kind == "theorem":
         file, _, name = edit.breaks.partition(".")
-        own = [message for declared, message in errors_in(log, f"proofs/{file}.antt") if declared == name]
+        path = root / "crates" / crate / f"proofs/{file}.antt"
+        found = [(line, message) for line, declared, message in errors_in(log, f"proofs/{file}.antt") if declared == name]
+        own = [message for line, message in found if not edit.clause or edit.clause == field_at(path, line)]
         verdict = "not proved"
     else:
         found = errors_in(log, f"proofs/{edit.breaks.replace('::', '/')}/Proof.antt")
-        own = [message for declared, message in found if edit.clause in ("", declared)]
+        own = [message for _, declared, message in found if edit.clause in ("", declared)]
         said = re.search(rf"^fn {re.escape(crate)}::{re.escape(edit.breaks)}: (.*)$", log, re.M)
         verdict = said.group(1) if said else "no verdict"
         if any(edit.clause in ("", need) for need in unclosed(verdict)):
@@ -309,7 +320,7 @@ def read_logs(root=ROOT):
         path = root / "target/must-fail" / batch.crate / batch.label / ".log"
         log = path.read_text(errors="replace") if path.is_file() else None
         for edit in batch.edits:
-            wrong = "there is no log" if log is None else refusal(edit, batch.crate, log)
+            wrong = "there is no log" if log is None else refusal(edit, batch.crate, log, root)
             yield f"{batch.name}: {edit.name}: {edit.breaks}", wrong
 
 

@@ -192,6 +192,15 @@ class After(unittest.TestCase):
         self.assertIn("no error of its own", self.wrong(OTHER_LAW, FALSE, "definitions_1"))
         self.assertIn("no fact of its own", self.wrong(LAW_BELOW, FALSE, "definitions_1"))
 
+    def test_another_field_of_a_theorem_is_refused(self):
+        fields = PROOFS.replace("omega arith", "record {\n  low = omega arith;\n  high =\n      omega arith;\n}")
+        batch = FALSE.replace("theorem: Order.rises", "theorem: Order.rises\nclause: high")
+        with tempfile.TemporaryDirectory() as folder:
+            root = repository(folder, proofs=fields)
+            edit = edits.parse("one", "definitions_1", batch).edits[0]
+            self.assertIn("no error of its own", edits.refusal(edit, "one", FALSIFIED.replace(":2:1", ":3:9"), root))
+            self.assertEqual(edits.refusal(edit, "one", FALSIFIED.replace(":2:1", ":5:7"), root), "")
+
     def test_log_that_is_missing(self):
         with tempfile.TemporaryDirectory() as folder:
             root = repository(folder)
