@@ -1,3 +1,3 @@
--- Laws about how far a decoded instruction reaches, and about words that are written one after the other.
+-- Laws about how far a decoded instruction reaches, and about the values of a line lookup.
 pub mod Reach
-pub mod Written
+pub mod Values

@@ -1,31 +1,17 @@
 -- Load and run for the bench: what each answers, and what it leaves in memory, stack, state and outcome.
 use mathlib.Core.Bool.{cond, _&&_}
-use mathlib.Core.List.{List, [], _∷_}
+use mathlib.Core.List.{List, []}
 use Prim.Native.Nat.{ℕ}
 use lib.Dec.{eqb}
-use lib.ListN.{length, getD}
+use lib.ListN.{length}
 use Rattle.record.specs.Number.{recordNumber}
-use Rattle.registers.specs.declared.Registers.{Registers}
-use Rattle.registers.specs.State.{state}
+use Rattle.registers.specs.State.{state, stateWords, registersIn}
 use Rattle.load.specs.declared.Loaded.{Loaded}
-use Rattle.load.specs.declared.Loaded.the-variants.{Refused, Ready}
+use Rattle.load.specs.Load.{loadedNumber, loadedValues, loadOf}
 use Rattle.machine.specs.declared.run.Answer.{Answer}
-use Rattle.machine.specs.declared.run.Answer.the-variants.{Refused as NotRun, Ended}
-use Rattle.machine.specs.declared.run.Ended.{Ended as Ending}
-use Rattle.load.specs.Load.{loadOf}
-use Rattle.machine.specs.Run.{endNumber, runOf}
-
--- Registers as six words.
-abbrev pub stateWords : Registers → List ℕ
-stateWords q = q .pc ∷ q .fp ∷ q .mp ∷ q .gp ∷ q .height ∷ q .calls ∷ []
-
-unfoldable pub registersIn : List ℕ → Registers
-registersIn w =
-    record { pc = getD w 0 0; fp = getD w 1 0; mp = getD w 2 0; gp = getD w 3 0; height = getD w 4 0; calls = getD w 5 0 }
-
--- An end as three words: its number, its place, and the completed steps.
-abbrev pub outcomeWords : Ending → List ℕ
-outcomeWords e = endNumber (e .ending) ∷ e .registers .pc ∷ e .steps ∷ []
+use Rattle.machine.specs.declared.run.Answer.the-variants.{Refused, Ended}
+use Rattle.machine.specs.Run.{answerNumber, answerValues, runOf}
+use Rattle.icode.specs.Interface.{laid}
 
 pub record BenchLoaded : Type 0 where
   pub answer : ℕ
@@ -36,8 +22,7 @@ abbrev pub loadedAs : ℕ → List ℕ → List ℕ → BenchLoaded
 loadedAs a m w = record { answer = a; memory = m; state = w }
 
 abbrev pub loadReply : Loaded → List ℕ → List ℕ → BenchLoaded
-loadReply (Refused n) m w = loadedAs n m w
-loadReply (Ready q) m w = loadedAs 0 m (stateWords q)
+loadReply a m w = loadedAs (loadedNumber a) m (laid (loadedValues a) w)
 
 -- Numbers 1 to 7; then 8, for a state that has not six words too.
 unfoldable pub benchLoad : List ℕ → List ℕ → List ℕ → List ℕ → List ℕ → BenchLoaded
@@ -56,9 +41,13 @@ pub record BenchRan : Type 0 where
 abbrev pub ranAs : ℕ → List ℕ → List ℕ → List ℕ → List ℕ → BenchRan
 ranAs a m s w o = record { answer = a; memory = m; stack = s; state = w; outcome = o }
 
+-- The registers of an end; a refused run leaves the state.
+abbrev pub registerWords : Answer → List ℕ
+registerWords (Refused n) = []
+registerWords (Ended e) = stateWords (e .registers)
+
 abbrev pub runReply : Answer → List ℕ → List ℕ → List ℕ → List ℕ → BenchRan
-runReply (NotRun n) m s w o = ranAs n m s w o
-runReply (Ended e) m s w o = ranAs 0 m s (stateWords (e .registers)) (outcomeWords e)
+runReply a m s w o = ranAs (answerNumber a) m s (laid (registerWords a) w) (laid (answerValues a) o)
 
 -- Numbers 1 to 7; then 24, for a state or an outcome of another length too.
 unfoldable pub benchRun : List ℕ → ℕ → List ℕ → List ℕ → List ℕ → List ℕ → BenchRan

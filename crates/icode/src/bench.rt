@@ -1,7 +1,10 @@
 // Load and run for the bench: code that was not checked may be loaded and run.
 ghost use mathlib.Core.Path.{_≡_};
 ghost use lib.ListN.{length};
-ghost use Rattle.icode.specs.Bench.{stateWords, registersIn, outcomeWords, loadedAs, benchLoad, ranAs, benchRun};
+ghost use Rattle.registers.specs.State.{stateWords, registersIn};
+ghost use Rattle.machine.specs.Run.{outcomeWords};
+ghost use Rattle.icode.specs.Interface.{laid};
+ghost use Rattle.icode.specs.Bench.{loadedAs, benchLoad, ranAs, benchRun};
 use load::Loaded;
 use machine::run::Answer;
 use machine::run::Ended;
@@ -9,7 +12,7 @@ use registers::Registers;
 
 fn write_state(state: &mut [u32], q: Registers)
     requires { ⌜ length (now state) ≡ 6 ⌝ }
-    ensures { λ _. ⌜ now (state .exit) ≡ stateWords q ⌝ }
+    ensures { λ _. ⌜ now (state .exit) ≡ laid (stateWords q) (now (state .entry)) ⌝ }
 {
     state[0] = q.pc;
     state[1] = q.fp;
@@ -34,7 +37,7 @@ fn read_state(state: &[u32]) -> Registers
 
 fn write_outcome(outcome: &mut [u32], e: Ended)
     requires { ⌜ length (now outcome) ≡ 3 ⌝ }
-    ensures { λ _. ⌜ now (outcome .exit) ≡ outcomeWords e ⌝ }
+    ensures { λ _. ⌜ now (outcome .exit) ≡ laid (outcomeWords e) (now (outcome .entry)) ⌝ }
 {
     let ending = e.ending;
     let registers = e.registers;

@@ -9,7 +9,7 @@ ghost use Rattle.opcode.specs.Decode.{decodeAt};
 ghost use Rattle.verifier.specs.Check.{checkOf};
 ghost use Rattle.workspace.specs.Checking.{checking};
 ghost use Rattle.report.specs.Report.{output, printed, textOf};
-ghost use Rattle.icode.specs.Interface.{lineCode, lookupReply, spanReply, decodeReply};
+ghost use Rattle.icode.specs.Interface.{lineCode, spanReply, decodeReply};
 
 pub mod bench;
 pub mod mending;
@@ -57,7 +57,7 @@ fn write_span(out: &mut [u32], outside: u32, first: u32, last: u32, line: u32)
 }
 
 fn write_lookup(out: &mut [u32], lookup: Lookup) -> u32
-    ensures { λ n. ⌜ output n (now (out .exit)) ≡ lookupReply lookup (now (out .entry)) ⌝ }
+    ensures { λ n. ⌜ output n (now (out .exit)) ≡ spanReply (Line.At lookup) (now (out .entry)) ⌝ }
 {
     if out.len() < 4 {
         return 8;
@@ -110,8 +110,8 @@ pub extern "C" fn icode_bench_decode(code: &[u8], limit: usize, at: usize, out: 
     let formats = opcode::format::formats();
     let decoded = opcode::decode(&formats, code, limit, at);
     match decoded {
-        Decoded::Unserved => 10,
-        Decoded::Past => 11,
+        Decoded::Unserved => opcode::decoded_number(decoded),
+        Decoded::Past => opcode::decoded_number(decoded),
         Decoded::At(i, next) => {
             let parts = mnemonic::parts_of(i);
             out[0] = parts.number;

@@ -6,7 +6,7 @@ use Prim.Native.Nat.{ℕ, zero, suc, _+_, _-_}
 use lib.Dec.{eqb, ltb}
 use lib.ListN.{length}
 use Rattle.entries.specs.Entries.{entryAt, entryCount, regionEnd}
-use Rattle.opcode.specs.Decode.{unservedNumber, pastNumber, decodeAt}
+use Rattle.opcode.specs.Decode.{decodedNumber, decodeAt}
 use Rattle.opcode.specs.declared.Decoded.{Decoded}
 use Rattle.opcode.specs.declared.Decoded.the-variants.{Unserved, Past, At}
 
@@ -24,8 +24,8 @@ pub data Cut : Type 0 where
   cut : Marks → Cut
 
 abbrev pub cutAt : (ℕ → Marks → Cut) → ℕ → ℕ → Marks → Decoded → Cut
-cutAt go p at marks Unserved = bad unservedNumber
-cutAt go p at marks Past = bad pastNumber
+cutAt go p at marks Unserved = bad (decodedNumber Unserved)
+cutAt go p at marks Past = bad (decodedNumber Past)
 cutAt go p at marks (At i next) = go next (updated marks at (p + 1))
 
 -- The region of procedure p from an offset on, in at most so many instructions: each has a byte, so the size of the code is enough.

@@ -6,7 +6,7 @@ use Prim.Native.Nat.{ℕ, zero, suc, _+_, _-_, _*_}
 use lib.Dec.{ltb}
 use lib.ListN.{length, getD, set}
 use Rattle.entries.specs.Entries.{entryAt, entryCount, regionEnd}
-use Rattle.opcode.specs.Decode.{unservedNumber, pastNumber, decodeAt}
+use Rattle.opcode.specs.Decode.{decodedNumber, decodeAt}
 use Rattle.opcode.specs.declared.Decoded.{Decoded}
 use Rattle.opcode.specs.declared.Decoded.the-variants.{Unserved, Past, At}
 use Rattle.workspace.specs.Checking.{Checking, checking}
@@ -17,8 +17,8 @@ abbrev pub marksIn : List ℕ → ℕ → Marks
 marksIn w size at = cond (ltb at size) (getD w (4 * at + 3) 0) 0
 
 abbrev pub markAt : (ℕ → List ℕ → Checking) → ℕ → ℕ → List ℕ → Decoded → Checking
-markAt go p at w Unserved = checking unservedNumber w
-markAt go p at w Past = checking pastNumber w
+markAt go p at w Unserved = checking (decodedNumber Unserved) w
+markAt go p at w Past = checking (decodedNumber Past) w
 markAt go p at w (At i next) = go next (set w (4 * at + 3) (p + 1))
 
 abbrev pub markFrom : List ℕ → ℕ → ℕ → ℕ → List ℕ → Checking

@@ -41,12 +41,13 @@ fn cut_region(formats: &[u16], code: &[u8], p: u32, w: &mut [u16]) -> u32
         if limit <= at {
             return 0;
         }
-        match opcode::decode(formats, code, limit, at) {
+        let decoded = opcode::decode(formats, code, limit, at);
+        match decoded {
             Decoded::Unserved => {
-                return 10;
+                return opcode::decoded_number(decoded);
             }
             Decoded::Past => {
-                return 11;
+                return opcode::decoded_number(decoded);
             }
             Decoded::At(_, next) => {
                 workspace::set_half(w, 4 * at + 3, (p + 1) as u16);

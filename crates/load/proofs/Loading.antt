@@ -1,6 +1,6 @@
 -- What reading a record tells, and the memory that load leaves, word by word.
 use Prim.Native.Nat.{ℕ, zero, suc, _+_, _*_, _-_, _<_, _≤_}
-use mathlib.Core.Path.{_≡_, _∙_, refl, sym}
+use mathlib.Core.Path.{_≡_, _∙_, refl, sym, ap}
 use mathlib.Core.Bool.{Bool, true, false, cond, _&&_}
 use mathlib.Core.List.{List, [], _∷_, _++_}
 use native.Mathlib.Omega.{arith}
@@ -20,10 +20,12 @@ use Rattle.record.specs.Number.{recordNumber, readingOf}
 use Rattle.registers.specs.declared.Attributes.{Attributes}
 use Rattle.registers.specs.Memory.{read}
 use Rattle.registers.specs.Program.{attributesIn, attributesOf, programOf, framesStart}
+use Rattle.load.specs.declared.Loaded.{Loaded}
 use Rattle.load.specs.declared.Loaded.the-variants.{Refused, Ready}
 use Rattle.state.specs.Fits.{sizesTaken}
 use Rattle.state.proofs.Fitting.{sizes-taken}
-use Rattle.load.specs.Load.{constantWords, initialData, loadedMemory, startOf, loadNumber, Loading, loading, loadOf}
+use Rattle.load.specs.Load.{constantWords, initialData, loadedMemory, startOf, loadNumber, loadedNumber}
+use Rattle.load.specs.Load.{Loading, loading, loadOf}
 
 apart : (n : ℕ) (h : Header) → NotRead n ≡ Sound h → ⊥
 apart n h e = let z : _≡_ {A = ℕ} 0 1 = cc in omega arith
@@ -147,6 +149,17 @@ module _ (r ps m s : List ℕ) where
   loads : loadNumber r ps m s ≡ 0 → loading (Ready (startOf (programOf r))) (loadedMemory r ps (length m)) ≡ loadOf r ps m s
   unfolding loadOf
   loads e = rw (eq-eqb (loadNumber r ps m s) 0 e)
+
+  -- What is answered has the number of the tests.
+  pub with-number : (a : Loaded) (m' : List ℕ) → loading a m' ≡ loadOf r ps m s →
+      (loading a m' ≡ loadOf r ps m s) × (loadedNumber a ≡ loadNumber r ps m s)
+  unfolding loadOf
+  with-number a m' e = (
+    e,
+    ap (λ (l : Loading). loadedNumber (l .answer)) e
+        ∙ by-test (λ (l : Loading). loadedNumber (l .answer) ≡ loadNumber r ps m s) (eqb (loadNumber r ps m s) 0) _ _
+        (λ t. sym (eqb-true (loadNumber r ps m s) 0 t)) (λ t. refl),
+  )
 
   -- A refused load leaves memory.
   pub refused-memory : (n : ℕ) → loadOf r ps m s .answer ≡ Refused n → loadOf r ps m s .memory ≡ m

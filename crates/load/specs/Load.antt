@@ -11,6 +11,7 @@ use Rattle.header.specs.Header.{headerOf, constantsAt}
 use Rattle.entries.specs.Entries.{entryAt}
 use Rattle.record.specs.Number.{afterRecord}
 use Rattle.registers.specs.declared.Registers.{Registers}
+use Rattle.registers.specs.State.{stateWords}
 use Rattle.load.specs.declared.Loaded.{Loaded}
 use Rattle.load.specs.declared.Loaded.the-variants.{Refused, Ready}
 use Rattle.registers.specs.Program.{Program, programOf, attributesOf, globalsStart, constantsStart, framesStart}
@@ -48,6 +49,15 @@ loadTests r parameters m s = 8 when not (leb (length parameters) (attributesOf r
 
 unfoldable pub loadNumber : List ℕ → List ℕ → List ℕ → List ℕ → ℕ
 loadNumber r parameters m s = afterRecord r (loadTests r parameters m s)
+
+-- The number of what load answers, 0 where the machine is ready, and the values: the registers at the start.
+abbrev pub loadedNumber : Loaded → ℕ
+loadedNumber (Refused n) = n
+loadedNumber (Ready q) = 0
+
+abbrev pub loadedValues : Loaded → List ℕ
+loadedValues (Refused n) = []
+loadedValues (Ready q) = stateWords q
 
 -- What load answers, and the memory that it leaves. "Refused loads and runs change nothing." (Of the stack words "load writes
 -- none".)

@@ -5,7 +5,7 @@ ghost use lib.ListN.{length};
 ghost use Rattle.header.specs.Header.{headerOf};
 ghost use Rattle.registers.specs.Memory.{read};
 ghost use Rattle.registers.specs.Program.{attributesIn, attributesOf, framesStart, program};
-ghost use Rattle.load.specs.Load.{initialData, loadedMemory, startOf, loading, loadOf};
+ghost use Rattle.load.specs.Load.{initialData, loadedMemory, startOf, loadNumber, loadedNumber, loading, loadOf};
 use header::Header;
 use record::Reading;
 use registers::Attributes;
@@ -84,7 +84,9 @@ fn start_of(code: &[u8], attributes: Attributes) -> Registers
 
 // Numbers 1 to 8, or memory is filled and the registers are at the start. The stack is not written.
 pub fn load(r: &[u8], parameters: &[u32], memory: &mut [u32], stack: &[u32]) -> Loaded
-    ensures { λ a. ⌜ loading a (now (memory .exit)) ≡ loadOf (now (r .entry)) (now (parameters .entry)) (now (memory .entry)) (now (stack .entry)) ⌝ }
+    ensures { λ a. ⌜ (loading a (now (memory .exit))
+        ≡ loadOf (now (r .entry)) (now (parameters .entry)) (now (memory .entry)) (now (stack .entry)))
+        × (loadedNumber a ≡ loadNumber (now (r .entry)) (now (parameters .entry)) (now (memory .entry)) (now (stack .entry))) ⌝ }
 {
     let reading = record::read(r);
     match reading {

@@ -1,29 +1,34 @@
 -- A run unrolled step by step: what is left of the budget, from where the steps have come, decides what the whole run answers.
 use Prim.Native.Nat.{ℕ, zero, suc, _+_, _-_, _≤_, _<_}
-use mathlib.Core.Path.{_≡_, _∙_, refl, sym}
+use mathlib.Core.Path.{_≡_, _∙_, refl, sym, ap}
 use mathlib.Core.Bool.{Bool, true, false}
 use mathlib.Core.List.{List}
 use native.Mathlib.Omega.{arith}
+use lib.Dec.{eqb}
 use lib.ListN.{length}
-use borrow.Author.Tests.{ne-eqb}
+use borrow.Author.Tests.{ne-eqb, eqb-true}
 use Rattle.words.proofs.Left.{one-left}
+use Rattle.words.proofs.Tests.{by-test}
 use Rattle.header.specs.declared.Header.{Header}
 use Rattle.record.specs.declared.Reading.the-variants.{Refused as NotRead, Sound}
 use Rattle.header.specs.Header.{codeOf}
 use Rattle.record.specs.Number.{recordNumber, readingOf}
 use Rattle.record.proofs.Sound.{sound-code}
 use Rattle.registers.specs.declared.Attributes.{Attributes}
-use Rattle.registers.specs.Program.{Program, program, attributesIn, attributesOf}
+use Rattle.registers.specs.declared.Registers.{Registers}
+use Rattle.registers.specs.Program.{Program, program, programOf, attributesIn, attributesOf}
 use Rattle.registers.specs.State.{State}
 use Rattle.load.proofs.Loading.{sound-header, refused-number}
 use Rattle.state.specs.Fits.{fits}
+use Rattle.step.specs.declared.Outcome.{Outcome}
 use Rattle.step.specs.declared.Outcome.the-variants.{Went, Finished, Trapped}
 use Rattle.step.specs.Step.{After, stepOf}
 use Rattle.step.proofs.Preservation.{Holds, step-holds}
 use Rattle.fast.specs.Fast.{Steps, none, more, Ahead}
+use Rattle.machine.specs.declared.run.Answer.{Answer}
 use Rattle.machine.specs.declared.run.Answer.the-variants.{Refused}
 use Rattle.machine.specs.declared.run.End.the-variants.{Finished as finish, Spent, Trapped as stop}
-use Rattle.machine.specs.Run.{Result, ended, proceed, runFrom, runNumber, runOf}
+use Rattle.machine.specs.Run.{answerNumber, Result, ran, ended, proceed, runFrom, runNumber, runOf}
 
 -- So many steps have come from S₀, where `done` were made before, to S.
 pub record Running (P : Program) (budget done : ℕ) (S₀ S : State) (steps : ℕ) : Type 0 where
@@ -98,10 +103,33 @@ module _ (P : Program) (budget done : ℕ) (S₀ S : State) (steps : ℕ) (R : R
           stack = l ∙ R .stack;
         })
 
+-- Whatever steps do, a run that is not refused ends.
+after : (go : State → Result) → ((T : State) → answerNumber (go T .answer) ≡ 0) → (count : ℕ) (o : Outcome) (T : State) →
+    answerNumber (proceed go count o T .answer) ≡ 0
+after go later count Went T = later T
+after go later count Finished T = refl
+after go later count (Trapped n) T = refl
+
+ends : (P : Program) (left count : ℕ) (S : State) → answerNumber (runFrom P left count S .answer) ≡ 0
+ends P zero count S = refl
+ends P (suc left) count S =
+    after (runFrom P left (count + 1)) (ends P left (count + 1)) count (stepOf P S .outcome) (stepOf P S .state)
+
 -- What run answers, by what reading the record and the test of the state gave.
 module _ (r : List ℕ) (budget : ℕ) (S : State) where
   abbrev refused : ℕ → Result
   refused n = record { answer = Refused n; state = S }
+
+  -- What is answered has the number of the tests: where there is none the run ends.
+  pub with-number : (q : Registers) (a : Answer) (m s : List ℕ) → ran q a m s ≡ runOf r budget S →
+      (ran q a m s ≡ runOf r budget S) × (answerNumber a ≡ runNumber r S)
+  unfolding runOf
+  with-number q a m s e = (
+    e,
+    ap (λ (x : Result). answerNumber (x .answer)) e
+        ∙ by-test (λ (x : Result). answerNumber (x .answer) ≡ runNumber r S) (eqb (runNumber r S) 0) _ _
+        (λ t. ends (programOf r) budget 0 S ∙ sym (eqb-true (runNumber r S) 0 t)) (λ t. refl),
+  )
 
   pub run-refused : (n : ℕ) → readingOf r ≡ NotRead n → refused n ≡ runOf r budget S
   unfolding runOf runNumber

@@ -25,6 +25,19 @@ endNumber finish = 0
 endNumber Spent = 1
 endNumber (stop n) = n
 
+-- An end as three words: its number, its place, and the completed steps.
+abbrev pub outcomeWords : Ending → List ℕ
+outcomeWords e = endNumber (e .ending) ∷ e .registers .pc ∷ e .steps ∷ []
+
+-- The number of what run answers, 0 where it ended, and the values.
+abbrev pub answerNumber : Answer → ℕ
+answerNumber (Refused n) = n
+answerNumber (Ended e) = 0
+
+abbrev pub answerValues : Answer → List ℕ
+answerValues (Refused n) = []
+answerValues (Ended e) = outcomeWords e
+
 -- What a run leaves: its answer, and the state. The registers of an end are the state's; a refused run leaves them as they were.
 pub record Result : Type 0 where
   pub answer : Answer

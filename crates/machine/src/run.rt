@@ -6,7 +6,7 @@ ghost use lib.ListN.{length};
 ghost use Rattle.state.specs.Fits.{fits};
 ghost use Rattle.registers.specs.Program.{program};
 ghost use Rattle.registers.specs.State.{state};
-ghost use Rattle.machine.specs.Run.{ran, endedAt, runFrom, runOf, endNumber};
+ghost use Rattle.machine.specs.Run.{ran, endedAt, runFrom, runNumber, runOf, endNumber, answerNumber};
 use record::Reading;
 use registers::Attributes;
 use registers::Registers;
@@ -158,8 +158,9 @@ pub fn run_by(
     memory: &mut [u32],
     stack: &mut [u32],
 ) -> Answer
-    ensures { λ a. ⌜ ran q a (now (memory .exit)) (now (stack .exit))
-        ≡ runOf (now (r .entry)) budget (state q (now (memory .entry)) (now (stack .entry))) ⌝ }
+    ensures { λ a. ⌜ (ran q a (now (memory .exit)) (now (stack .exit))
+        ≡ runOf (now (r .entry)) budget (state q (now (memory .entry)) (now (stack .entry))))
+        × (answerNumber a ≡ runNumber (now (r .entry)) (state q (now (memory .entry)) (now (stack .entry)))) ⌝ }
 {
     let reading = record::read(r);
     match reading {
@@ -178,8 +179,9 @@ pub fn run_by(
 
 // Does the same with as many steps at once as can be.
 pub fn run(r: &[u8], budget: u32, q: Registers, memory: &mut [u32], stack: &mut [u32]) -> Answer
-    ensures { λ a. ⌜ ran q a (now (memory .exit)) (now (stack .exit))
-        ≡ runOf (now (r .entry)) budget (state q (now (memory .entry)) (now (stack .entry))) ⌝ }
+    ensures { λ a. ⌜ (ran q a (now (memory .exit)) (now (stack .exit))
+        ≡ runOf (now (r .entry)) budget (state q (now (memory .entry)) (now (stack .entry))))
+        × (answerNumber a ≡ runNumber (now (r .entry)) (state q (now (memory .entry)) (now (stack .entry)))) ⌝ }
 {
     run_by(0xFFFF_FFFF, r, budget, q, memory, stack)
 }

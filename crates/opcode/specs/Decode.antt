@@ -25,13 +25,12 @@ made (row operands modes make) m code at = make m (operand operands code at) (op
 unfoldable pub instructionAt : Mode → List ℕ → ℕ → Instruction
 instructionAt m code at = made (rowOf (byteAt code at)) m code at
 
--- The check's numbers for what is no instruction: 10 is "unserved instruction, or prefix before one without that mode", 11
--- "instruction runs past its region".
-abbrev pub unservedNumber : ℕ
-unservedNumber = 10
-
-abbrev pub pastNumber : ℕ
-pastNumber = 11
+-- The check's number for what is decoded: 10 is "unserved instruction, or prefix before one without that mode", 11 "instruction
+-- runs past its region", and an instruction has none.
+abbrev pub decodedNumber : Decoded → ℕ
+decodedNumber Unserved = 10
+decodedNumber Past = 11
+decodedNumber (At i next) = 0
 
 -- The code byte at `at` is below the limit: code and mode, then the other bytes.
 unfoldable pub decodeIn : Mode → List ℕ → ℕ → ℕ → Decoded

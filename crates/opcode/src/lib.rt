@@ -2,7 +2,7 @@
 ghost use mathlib.Core.Path.{_≡_};
 ghost use Prim.Native.Nat.{_<_};
 ghost use Rattle.opcode.specs.Sheet.{Sheet};
-ghost use Rattle.opcode.specs.Decode.{decodeIn, decodeAt};
+ghost use Rattle.opcode.specs.Decode.{decodedNumber, decodeIn, decodeAt};
 use crate::instruction::Instruction;
 use crate::instruction::Mode;
 
@@ -16,6 +16,17 @@ pub enum Decoded {
     Unserved,
     Past,
     At(Instruction, usize),
+}
+
+// Gives the check's number for what is decoded, 0 for an instruction.
+pub fn decoded_number(d: Decoded) -> u32
+    ensures { λ n. ⌜ n ≡ decodedNumber d ⌝ }
+{
+    match d {
+        Decoded::Unserved => 10,
+        Decoded::Past => 11,
+        Decoded::At(_, _) => 0,
+    }
 }
 
 // The instruction whose code byte stands at `at`, in a mode.

@@ -2,7 +2,7 @@
 -- numbers are. A refusal of 0 passes each of its tests.
 use mathlib.Core.Bool.{Bool, true, false, cond, _&&_, and-eq-true-iff}
 use mathlib.Core.List.{List}
-use mathlib.Core.Path.{_≡_, refl, sym}
+use mathlib.Core.Path.{_≡_, refl}
 use Prim.Native.Nat.{ℕ, _≤_}
 use native.Mathlib.Omega.{arith}
 use lib.Dec.{eqb, leb}
@@ -10,15 +10,13 @@ use lib.ListN.{length, drop, length-take}
 use borrow.Author.Tests.{leb-true, ltb-false, eqb-true, eqb-false, not-false, le-leb, le-ltb, eq-eqb, ne-eqb}
 use Rattle.words.specs.Refusal.{Test, refusal}
 use Rattle.words.proofs.Refusal.{Clear, positive, within, cleared, most, refusal-append}
-use Rattle.words.proofs.Tests.{either, by-test}
+use Rattle.words.proofs.Tests.{either}
 use Rattle.header.specs.Header.{headerOf, sizesFit, recordLength, codeAt, codeOf}
 use Rattle.header.specs.declared.Header.{Header}
 use Rattle.source.specs.Source.{sourceSound}
 use Rattle.entries.specs.Entries.{entriesSound}
 use Rattle.record.specs.Number.{sizeTests, sizeNumber, partTests, recordTests, recordNumber, afterRecord}
-use Rattle.record.specs.Number.{readingOf, readingNumber}
 use Rattle.record.specs.Sound.{SourcesSound}
-use Rattle.record.specs.declared.Reading.{Reading}
 
 -- Where 1 to 3 are given that is the number, else the other tests decide.
 sizes-first : (r : List ℕ) → recordNumber r ≡ cond (eqb (sizeNumber r) 0) (refusal (partTests r)) (sizeNumber r)
@@ -72,12 +70,6 @@ numberless r e =
 
 pub sources-sound : SourcesSound
 sources-sound r e = numberless r e .sources
-
--- A reading has the record's number.
-pub reading-number : (r : List ℕ) → readingNumber (readingOf r) ≡ recordNumber r
-unfolding readingOf
-reading-number r =
-    by-test (λ (a : Reading). readingNumber a ≡ recordNumber r) (eqb (recordNumber r) 0) _ _ (λ e. sym (eqb-true (recordNumber r) 0 e)) (λ e. refl)
 
 pub record-range : (r : List ℕ) → recordNumber r ≤ 7
 unfolding recordNumber

@@ -8,7 +8,7 @@ use Rattle.words.specs.Refusal.{Test, refusal, _when_}
 use Rattle.header.specs.Header.{headerOf, sizesFit, recordLength, codeOf}
 use Rattle.version.specs.Version.{versionSound}
 use Rattle.source.specs.Source.{sourceSound}
-use Rattle.source.specs.Span.{lookupAt}
+use Rattle.source.specs.Span.{lookupAt, lookupValues}
 use Rattle.entries.specs.Entries.{entriesSound}
 use Rattle.record.specs.declared.Reading.{Reading}
 use Rattle.record.specs.declared.Reading.the-variants.{Refused, Sound}
@@ -59,3 +59,12 @@ readingNumber (Sound h) = 0
 unfoldable pub lineSpan : List ℕ → ℕ → Line
 lineSpan r offset =
     cond (eqb (recordNumber r) 0) (At (lookupAt r (headerOf r) offset)) (NoLine (recordNumber r))
+
+-- The number of a line lookup, 0 where there is a span, and the values.
+abbrev pub lineNumber : Line → ℕ
+lineNumber (NoLine n) = n
+lineNumber (At a) = 0
+
+abbrev pub lineValues : Line → List ℕ
+lineValues (NoLine n) = []
+lineValues (At a) = lookupValues a

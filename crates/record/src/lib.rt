@@ -1,6 +1,6 @@
 // The record of 5.1: which number refuses it, and which source line an offset belongs to.
 ghost use mathlib.Core.Path.{_≡_};
-ghost use Rattle.record.specs.Number.{sizeNumber, recordNumber, readingOf, lineSpan};
+ghost use Rattle.record.specs.Number.{sizeNumber, recordNumber, readingOf, readingNumber, lineSpan, lineNumber};
 use header::Header;
 use source::Lookup;
 
@@ -61,7 +61,7 @@ pub fn record_number(r: &[u8]) -> u32
 }
 
 pub fn read(r: &[u8]) -> Reading
-    ensures { λ a. ⌜ a ≡ readingOf (now (r .entry)) ⌝ }
+    ensures { λ a. ⌜ (a ≡ readingOf (now (r .entry))) × (readingNumber a ≡ recordNumber (now (r .entry))) ⌝ }
 {
     let number = record_number(r);
     if number == 0 {
@@ -72,7 +72,7 @@ pub fn read(r: &[u8]) -> Reading
 
 // The line lookup: the span of the source line that an offset of the code belongs to.
 pub fn line_span(r: &[u8], offset: u32) -> Line
-    ensures { λ a. ⌜ a ≡ lineSpan (now (r .entry)) offset ⌝ }
+    ensures { λ a. ⌜ (a ≡ lineSpan (now (r .entry)) offset) × (lineNumber a ≡ recordNumber (now (r .entry))) ⌝ }
 {
     let number = record_number(r);
     if number == 0 {

@@ -1,3 +1,4 @@
--- Laws about links of active calls, and about protected addresses.
+-- Laws about links of active calls, about protected addresses, and about the registers as words.
 pub mod Links
 pub mod Protected
+pub mod Words

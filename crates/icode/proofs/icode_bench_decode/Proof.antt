@@ -4,13 +4,13 @@ use mathlib.Core.Path.{_∙_, sym, ap}
 use mathlib.Core.List.{[], _∷_}
 use native.Mathlib.Omega.{arith}
 use lib.ListN.{length, length-set}
+use lib.Seq.{sets-eq}
 use borrow.Author.Needs.{needs}
 use borrow.Author.Tests.{eq-eqb, ne-eqb}
 use Rattle.icode.proofs.icode_bench_decode.Statement.{statement}
 use Rattle.icode.specs.Interface.{decodeReply}
 use Rattle.report.specs.Report.{output}
 use Rattle.icode.proofs.Reach.{reach}
-use Rattle.icode.proofs.Written.{sets-all}
 use Rattle.icode.proofs.icode_bench_decode.Tie as tie
 
 -- The place after the instruction, a word's reach away.
@@ -51,23 +51,27 @@ slice-write-out-5 c = simp length-set (omega arith)
 returns-2 : tie.Need-returns-2
 unfolding decodeReply
 returns-2 c =
-    let decode = c .before .before in
+    let told = c .before in
+    let decode = told .before .before in
     let tested = decode .before .before .before in
     rw (
+      c .decoded-number .ensures,
       eq-eqb (length (tested .before .before .before .args .out .now)) 5 (tested .if1 .left),
       ← decode .decode .ensures,
-      c .enum-told .given .1,
+      told .enum-told .given .1,
     )
 
 returns-3 : tie.Need-returns-3
 unfolding decodeReply
 returns-3 c =
-    let decode = c .before .before in
+    let told = c .before in
+    let decode = told .before .before in
     let tested = decode .before .before .before in
     rw (
+      c .decoded-number2 .ensures,
       eq-eqb (length (tested .before .before .before .args .out .now)) 5 (tested .if1 .left),
       ← decode .decode .ensures,
-      c .enum-told2 .given .1,
+      told .enum-told2 .given .1,
     )
 
 returns-4 : tie.Need-returns-4
@@ -81,11 +85,12 @@ returns-4 c =
       c .before .before .decoded .given .1,
       ← c .parts-of .ensures,
     )
-    (ap (output 0) (sets-all out (_ ∷ _ ∷ _ ∷ _ ∷ _ ∷ []) (decode .before .before .before .if1 .left)))
+    (ap (output 0) (sets-eq (_ ∷ _ ∷ _ ∷ _ ∷ _ ∷ []) out 0 (omega (arith, decode .before .before .before .if1 .left))))
 
 pub icode-bench-decode-spec : {M : Type 1} → statement M
 icode-bench-decode-spec =
     tie.close
-    (tie.spec returns (λ c κs. search needs) (λ c. search needs) (λ c κs. search needs) (λ c. search needs) (λ c. search needs)
-    (λ c. search needs) (λ c κs. search needs) (λ c. search needs) slice-write-out-2 slice-write-out-3 slice-write-out-4
-    sub-out cast-out slice-write-out-5 returns-2 returns-3 (λ c. search needs) returns-4)
+    (tie.spec returns (λ c κs. search needs) (λ c. search needs) (λ c κs. search needs) (λ c. search needs)
+    (λ c κs. search needs) (λ c. search needs) (λ c κs. search needs) (λ c. search needs) (λ c κs. search needs)
+    (λ c. search needs) slice-write-out-2 slice-write-out-3 slice-write-out-4 sub-out cast-out slice-write-out-5 returns-2
+    returns-3 (λ c. search needs) returns-4)

@@ -3,7 +3,7 @@ use mathlib.Core.Path.{sym, _∙_}
 use borrow.Author.Needs.{needs}
 use borrow.Author.Tests.{not-true, not-false}
 use Rattle.load.proofs.load.Statement.{statement}
-use Rattle.load.proofs.Loading.{sound-header, load-refused, load-parameters}
+use Rattle.load.proofs.Loading.{sound-header, with-number, load-refused, load-parameters}
 use Rattle.load.proofs.Loading.{load-sizes, load-ready, load-globals, load-frames}
 use Rattle.load.proofs.load.Tie as tie
 
@@ -11,8 +11,9 @@ returns : tie.Need-returns
 returns c =
     let a = c .before .before .before .before .before .before .before .before .before .before .before .args in
     let k = c .before .before .before .before .reading2 .given in
-    let s = sym (c .before .before .before .before .before .before .read .ensures) ∙ k .1 in
-    load-parameters (a .r .now) (a .parameters .now) (a .memory .now) (a .stack .now) (k .0 .0) s (c .if1 .taken)
+    let s = sym (c .before .before .before .before .before .before .read .ensures .0) ∙ k .1 in
+    with-number (a .r .now) (a .parameters .now) (a .memory .now) (a .stack .now) _ _
+    (load-parameters (a .r .now) (a .parameters .now) (a .memory .now) (a .stack .now) (k .0 .0) s (c .if1 .taken))
 
 returns-2 : tie.Need-returns-2
 returns-2 c =
@@ -26,11 +27,12 @@ returns-2 c =
     let args = earlier .before .before .before .before .before .args in
     let a = args in
     let k = reading2 .given in
-    let s = sym (read .ensures) ∙ k .1 in
+    let s = sym (read .ensures .0) ∙ k .1 in
     let t = sizes-taken in
     let b = attributes-in in
-    load-sizes (a .r .now) (a .parameters .now) (a .memory .now) (a .stack .now) (k .0 .0) s (b .result) (t .result)
-    (b .ensures) (t .ensures) (if1 .left) (not-true (t .result) (if2 .taken))
+    with-number (a .r .now) (a .parameters .now) (a .memory .now) (a .stack .now) _ _
+    (load-sizes (a .r .now) (a .parameters .now) (a .memory .now) (a .stack .now) (k .0 .0) s (b .result) (t .result)
+    (b .ensures) (t .ensures) (if1 .left) (not-true (t .result) (if2 .taken)))
 
 fill-requires : tie.Need-fill-requires
 fill-requires c κs =
@@ -44,7 +46,7 @@ fill-requires c κs =
     let args = earlier .before .before .before .before .before .before .before .args in
     let a = args in
     let k = reading2 .given in
-    let s = sym (read .ensures) ∙ k .1 in
+    let s = sym (read .ensures .0) ∙ k .1 in
     let t = sizes-taken in
     let b = attributes-in in (
       sound-header (a .r .now) (k .0 .0) s .1,
@@ -71,7 +73,7 @@ start-of-requires c κs =
     let args = earlier .before .before .before .before .before .before .before .before .before .before .before .args in
     let a = args in
     let k = reading2 .given in
-    let s = sym (read .ensures) ∙ k .1 in
+    let s = sym (read .ensures .0) ∙ k .1 in
     let t = sizes-taken in
     let b = attributes-in in
     load-frames (a .r .now) (a .parameters .now) (a .memory .now) (a .stack .now) (k .0 .0) s (b .result) (t .result)
@@ -81,8 +83,9 @@ returns-3 : tie.Need-returns-3
 returns-3 c =
     let a = c .before .before .before .before .before .before .before .before .args in
     let k = c .before .reading .given in
-    let s = sym (c .before .before .before .read .ensures) ∙ k .1 in
-    load-refused (a .r .now) (a .parameters .now) (a .memory .now) (a .stack .now) (k .0 .0) s
+    let s = sym (c .before .before .before .read .ensures .0) ∙ k .1 in
+    with-number (a .r .now) (a .parameters .now) (a .memory .now) (a .stack .now) _ _
+    (load-refused (a .r .now) (a .parameters .now) (a .memory .now) (a .stack .now) (k .0 .0) s)
 
 returns-4 : tie.Need-returns-4
 returns-4 c =
@@ -99,12 +102,13 @@ returns-4 c =
     let args = earlier .before .before .before .before .before .before .before .before .before .before .before .args in
     let a = args in
     let k = reading2 .given in
-    let s = sym (read .ensures) ∙ k .1 in
+    let s = sym (read .ensures .0) ∙ k .1 in
     let t = sizes-taken in
     let b = attributes-in in
-    rw (start-of .ensures, code-of .ensures, b .ensures, sound-header (a .r .now) (k .0 .0) s .1, fill .ensures)
+    with-number (a .r .now) (a .parameters .now) (a .memory .now) (a .stack .now) _ _
+    (rw (start-of .ensures, code-of .ensures, b .ensures, sound-header (a .r .now) (k .0 .0) s .1, fill .ensures)
     (load-ready (a .r .now) (a .parameters .now) (a .memory .now) (a .stack .now) (k .0 .0) s (b .result) (t .result)
-    (b .ensures) (t .ensures) (if1 .left) (not-false (t .result) (if2 .left)))
+    (b .ensures) (t .ensures) (if1 .left) (not-false (t .result) (if2 .left))))
 
 pub load-spec : {M : Type 1} → statement M
 load-spec =

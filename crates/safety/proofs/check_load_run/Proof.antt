@@ -27,9 +27,9 @@ returns-2 c =
     let if1 = earlier .if1 in
     let check = earlier .before .before .before .check in
     let a = earlier .before .before .before .before .before .before .before .before .before .before .before .args in (
-      rw (← check .ensures, eq-eqb (check .result) 0 (if1 .left), ← load .ensures, loaded .given .1),
+      rw (← check .ensures, eq-eqb (check .result) 0 (if1 .left), ← load .ensures .0, loaded .given .1),
       not-loaded (a .r .now)
-          (a .parameters .now) (a .memory .now) (a .stack .now) (load .ensures) (loaded .given .1),
+          (a .parameters .now) (a .memory .now) (a .stack .now) (load .ensures .0) (loaded .given .1),
     )
 
 returns-3 : tie.Need-returns-3
@@ -45,10 +45,10 @@ returns-3 c =
     let start = first .before .before .before .before .before .before .before .before .before .before in
     let shared-slice-known = start .shared-slice-known in
     let a = start .before .args in (
-      rw (← check .ensures, eq-eqb (check .result) 0 (if1 .left), ← load .ensures, loaded2 .given .1, ← run .ensures),
+      rw (← check .ensures, eq-eqb (check .result) 0 (if1 .left), ← load .ensures .0, loaded2 .given .1, ← run .ensures .0),
       answered-well (a .r .now) (a .results .now) (a .workspace .now) (a .parameters .now) (a .budget) (a .memory .now)
           (a .stack .now) (λ k. let h = shared-slice-known .given k .fits in omega arith) (check .ensures) (if1 .left)
-          (load .ensures) (loaded2 .given .1) (run .ensures),
+          (load .ensures .0) (loaded2 .given .1) (run .ensures .0),
     )
 
 pub check-load-run-spec : {M : Type 1} → statement M

@@ -56,7 +56,7 @@ returns-4 c =
       eq-eqb (length (a .state .now)) 6 (if2 .left),
       eq-eqb (length (a .outcome .now)) 3 (if3 .left),
       ← read-state .ensures,
-      ← run-by .ensures,
+      ← run-by .ensures .0,
       answer .given .1,
     )
 
@@ -81,7 +81,7 @@ returns-5 c =
       eq-eqb (length (a .state .now)) 6 (if2 .left),
       eq-eqb (length (a .outcome .now)) 3 (if3 .left),
       ← read-state .ensures,
-      ← run-by .ensures,
+      ← run-by .ensures .0,
       answer2 .given .1,
       write-outcome .ensures,
       write-state .ensures,

@@ -37,7 +37,7 @@ returns-3 c =
       ← record-number .ensures,
       eq-eqb (record-number .result) 0 (if1 .left),
       eq-eqb (length (a .state .now)) 6 (if2 .left),
-      ← load .ensures,
+      ← load .ensures .0,
       loaded .given .1,
     )
 
@@ -56,7 +56,7 @@ returns-4 c =
       ← record-number .ensures,
       eq-eqb (record-number .result) 0 (if1 .left),
       eq-eqb (length (a .state .now)) 6 (if2 .left),
-      ← load .ensures,
+      ← load .ensures .0,
       loaded2 .given .1,
       write-state .ensures,
     )

@@ -1,7 +1,7 @@
 -- `icode::bench::read_state` meets its contract, word by word.
 use borrow.Author.Needs.{needs}
 use Rattle.icode.proofs.bench.read_state.Statement.{statement}
-use Rattle.icode.specs.Bench.{registersIn}
+use Rattle.registers.specs.State.{registersIn}
 use Rattle.icode.proofs.bench.read_state.Tie as tie
 
 returns : tie.Need-returns

@@ -1,8 +1,9 @@
--- `icode::bench::write_outcome` meets its contract: three stores leave just those three words.
+-- `icode::bench::write_outcome` meets its contract: three stores leave those three words first.
+use native.Mathlib.Omega.{arith}
+use lib.Seq.{sets-eq}
 use borrow.Author.Needs.{needs}
 use Rattle.icode.proofs.bench.write_outcome.Statement.{statement}
-use Rattle.icode.specs.Bench.{outcomeWords}
-use Rattle.icode.proofs.Written.{sets-all}
+use Rattle.machine.specs.Run.{outcomeWords}
 use Rattle.icode.proofs.bench.write_outcome.Tie as tie
 
 returns : tie.Need-returns
@@ -10,7 +11,7 @@ returns c =
     let end-number = c .end-number in
     let a = c .before .before .before .args in
     let pre = c .before .before .before .pre in
-    rw (end-number .ensures) (sets-all (a .outcome .now) (outcomeWords (a .e)) (pre))
+    rw (end-number .ensures) (sets-eq (outcomeWords (a .e)) (a .outcome .now) 0 (omega (arith, pre)))
 
 pub write-outcome-spec : {M : Type 1} → statement M
 write-outcome-spec =

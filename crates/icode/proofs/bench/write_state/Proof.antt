@@ -1,10 +1,10 @@
--- `icode::bench::write_state` meets its contract: six stores leave just those six words.
+-- `icode::bench::write_state` meets its contract: six stores leave those six words first.
 use native.Mathlib.Omega.{arith}
 use lib.ListN.{length-set}
+use lib.Seq.{sets-eq}
 use borrow.Author.Needs.{needs}
+use Rattle.registers.specs.State.{stateWords}
 use Rattle.icode.proofs.bench.write_state.Statement.{statement}
-use Rattle.icode.specs.Bench.{stateWords}
-use Rattle.icode.proofs.Written.{sets-all}
 use Rattle.icode.proofs.bench.write_state.Tie as tie
 
 slice-write-state-5 : tie.Need-slice-write-state-5
@@ -14,7 +14,7 @@ slice-write-state-6 : tie.Need-slice-write-state-6
 slice-write-state-6 c = simp length-set (omega arith)
 
 returns : tie.Need-returns
-returns c = sets-all (c .args .state .now) (stateWords (c .args .q)) (c .pre)
+returns c = sets-eq (stateWords (c .args .q)) (c .args .state .now) 0 (omega (arith, c .pre))
 
 pub write-state-spec : {M : Type 1} → statement M
 write-state-spec =

@@ -31,23 +31,27 @@ returns c =
 
 returns-2 : tie.Need-returns-2 Inv-loop μ-loop
 returns-2 c =
-    let a = c .before .before .before .before .before .before .before .before .before .before .before .args in
-    let l = c .before .before .before .before .before .loop in
-    let e = c .before .before .before .before .before .before .before .region-end in
-    region-turn (a .code .now) (a .p) (a .w .now) (l .w) (l .at) (l .counter) (l .inv)
-    (e .result) (e .ensures) (c .before .before .before .before .loop-test .taken) _
-    (c .before .before .before .if1 .left)
-    (sym (c .before .before .decode .ensures) ∙ c .enum-told .given .1)
+    let told = c .before in
+    let a = told .before .before .before .before .before .before .before .before .before .before .before .args in
+    let l = told .before .before .before .before .before .loop in
+    let e = told .before .before .before .before .before .before .before .region-end in
+    rw (c .decoded-number .ensures, told .enum-told .given .1)
+    (region-turn (a .code .now) (a .p) (a .w .now) (l .w) (l .at) (l .counter) (l .inv)
+    (e .result) (e .ensures) (told .before .before .before .before .loop-test .taken) _
+    (told .before .before .before .if1 .left)
+    (sym (told .before .before .decode .ensures) ∙ told .enum-told .given .1))
 
 returns-3 : tie.Need-returns-3 Inv-loop μ-loop
 returns-3 c =
-    let a = c .before .before .before .before .before .before .before .before .before .before .before .args in
-    let l = c .before .before .before .before .before .loop in
-    let e = c .before .before .before .before .before .before .before .region-end in
-    region-turn (a .code .now) (a .p) (a .w .now) (l .w) (l .at) (l .counter) (l .inv)
-    (e .result) (e .ensures) (c .before .before .before .before .loop-test .taken) _
-    (c .before .before .before .if1 .left)
-    (sym (c .before .before .decode .ensures) ∙ c .enum-told2 .given .1)
+    let told = c .before in
+    let a = told .before .before .before .before .before .before .before .before .before .before .before .args in
+    let l = told .before .before .before .before .before .loop in
+    let e = told .before .before .before .before .before .before .before .region-end in
+    rw (c .decoded-number2 .ensures, told .enum-told2 .given .1)
+    (region-turn (a .code .now) (a .p) (a .w .now) (l .w) (l .at) (l .counter) (l .inv)
+    (e .result) (e .ensures) (told .before .before .before .before .loop-test .taken) _
+    (told .before .before .before .if1 .left)
+    (sym (told .before .before .decode .ensures) ∙ told .enum-told2 .given .1))
 
 mul-set-half : tie.Need-mul-set-half Inv-loop μ-loop
 mul-set-half c = omega (arith, c .before .before .before .before .before .before .before .loop .inv .near)
@@ -58,7 +62,7 @@ add-set-half c = omega (arith, c .before .before .before .before .before .before
 loop-again : tie.Need-loop-again Inv-loop μ-loop
 loop-again c =
     let set-half = c .before .before .set-half in
-    let next = c .before .before .before .before .before .next in
+    let decoded = c .before .before .before .before .before .decoded in
     let decode = c .before .before .before .before .before .before .before .decode in
     let earlier = c .before .before .before .before .before .before .before .before in
     let if1 = earlier .if1 in
@@ -73,7 +77,7 @@ loop-again c =
     let e = region-end in
     let bytes = shared-slice-known2 in
     region-next (a .code .now) (a .p) (a .w .now) (l .w) (l .at) (l .counter) (l .inv) (e .result) (e .ensures)
-    (loop-test .taken) _ _ _ (if1 .left) (sym (decode .ensures) ∙ next .given .1)
+    (loop-test .taken) _ _ _ (if1 .left) (sym (decode .ensures) ∙ decoded .given .1)
     (rw (e .ensures) (region-below (a .code .now) (λ k. omega (arith, bytes .given k)) (a .p) (pre .1 .0))) (set-half .ensures)
 
 returns-4 : tie.Need-returns-4 Inv-loop μ-loop
@@ -86,6 +90,7 @@ pub cut-region-spec : {M : Type 1} → statement M
 cut-region-spec =
     tie.close
     (tie.spec Inv-loop μ-loop (λ c κs. search needs) (λ c κs. search needs) (λ c. search needs) loop-holds
-    (λ c. search needs) returns (λ c κs. search needs) (λ c. search needs) (λ c. search needs) returns-2 (λ c. search needs)
-    (λ c. search needs) returns-3 (λ c. search needs) mul-set-half add-set-half (λ c. search needs) (λ c. search needs)
-    (λ c κs. search needs) (λ c. search needs) (λ c. search needs) loop-again (λ c. search needs) returns-4)
+    (λ c. search needs) returns (λ c κs. search needs) (λ c. search needs) (λ c κs. search needs) (λ c. search needs) returns-2
+    (λ c. search needs) (λ c κs. search needs) (λ c. search needs) returns-3 (λ c. search needs) mul-set-half add-set-half
+    (λ c. search needs) (λ c. search needs) (λ c κs. search needs) (λ c. search needs) (λ c. search needs) loop-again
+    (λ c. search needs) returns-4)

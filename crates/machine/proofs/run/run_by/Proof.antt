@@ -3,7 +3,7 @@ use mathlib.Core.Path.{sym, _∙_}
 use borrow.Author.Tests.{not-true, not-false}
 use borrow.Author.Needs.{needs}
 use Rattle.registers.specs.State.{state}
-use Rattle.machine.proofs.Unrolling.{run-refused, run-unfit, run-done, run-code}
+use Rattle.machine.proofs.Unrolling.{with-number, run-refused, run-unfit, run-done, run-code}
 use Rattle.machine.proofs.run.run_by.Statement.{statement}
 use Rattle.machine.proofs.run.run_by.Tie as tie
 
@@ -17,9 +17,10 @@ returns c =
     let read = earlier .read in
     let a = earlier .before .before .before .before .args in
     let S = state (a .q) (a .memory .now) (a .stack .now) in
-    let sound = sym (read .ensures) ∙ reading2 .given .1 in
-    run-unfit (a .r .now) (a .budget) S (reading2 .given .0 .0) sound (attributes-in .result) (attributes-in .ensures)
-    (state-fits .result) (state-fits .ensures) (not-true (state-fits .result) (if1 .taken))
+    let sound = sym (read .ensures .0) ∙ reading2 .given .1 in
+    with-number (a .r .now) (a .budget) S (a .q) _ _ _
+    (run-unfit (a .r .now) (a .budget) S (reading2 .given .0 .0) sound (attributes-in .result) (attributes-in .ensures)
+    (state-fits .result) (state-fits .ensures) (not-true (state-fits .result) (if1 .taken)))
 
 run-steps-requires : tie.Need-run-steps-requires
 run-steps-requires c κs =
@@ -32,7 +33,7 @@ run-steps-requires c κs =
     let read = earlier .before .before .read in
     let a = earlier .before .before .before .before .before .before .args in
     let S = state (a .q) (a .memory .now) (a .stack .now) in
-    let sound = sym (read .ensures) ∙ reading2 .given .1 in (
+    let sound = sym (read .ensures .0) ∙ reading2 .given .1 in (
       run-code (a .r .now) (a .budget) S (reading2 .given .0 .0) sound (attributes-in .result) (attributes-in .ensures)
           (state-fits .result) (state-fits .ensures) (code-of .result .now) (code-of .ensures),
       sym (state-fits .ensures) ∙ not-false (state-fits .result) (if1 .left),
@@ -44,7 +45,8 @@ returns-2 c =
     let read = c .before .before .before .read in
     let a = c .before .before .before .before .before .before .before .args in
     let S = state (a .q) (a .memory .now) (a .stack .now) in
-    run-refused (a .r .now) (a .budget) S (reading .given .0 .0) (sym (read .ensures) ∙ reading .given .1)
+    with-number (a .r .now) (a .budget) S (a .q) _ _ _
+    (run-refused (a .r .now) (a .budget) S (reading .given .0 .0) (sym (read .ensures .0) ∙ reading .given .1))
 
 returns-3 : tie.Need-returns-3
 returns-3 c =
@@ -59,11 +61,12 @@ returns-3 c =
     let read = first .read in
     let a = first .before .before .before .before .args in
     let S = state (a .q) (a .memory .now) (a .stack .now) in
-    let sound = sym (read .ensures) ∙ reading2 .given .1 in
-    run-steps .ensures
+    let sound = sym (read .ensures .0) ∙ reading2 .given .1 in
+    with-number (a .r .now) (a .budget) S (a .q) _ _ _
+    (run-steps .ensures
     ∙ run-done (a .r .now) (a .budget) S (reading2 .given .0 .0) sound (attributes-in .result) (attributes-in .ensures)
     (state-fits .result) (state-fits .ensures) (not-false (state-fits .result) (if1 .left)) (code-of .result .now)
-    (code-of .ensures)
+    (code-of .ensures))
 
 pub run-by-spec : {M : Type 1} → statement M
 run-by-spec =
