@@ -6,10 +6,11 @@ use Rattle.guarantees.proofs.Refusals.{refused-load, refused-run, count-within-
 use Rattle.guarantees.proofs.Steps.{trapped-step, writes-below-height, stays-fit, keeps-protected}
 use Rattle.guarantees.proofs.Numbers.{reading-numbers, check-numbers, load-numbers, run-numbers, step-traps}
 use Rattle.guarantees.proofs.Runs.{runs-by-steps}
-use Rattle.demands.specs.Demands.{Demand1, Demand2, Demand3, Demands}
+use Rattle.demands.specs.Demands.{Demand1, Demand2, Demand3, Besides, Demands}
 use Rattle.demands.proofs.Sentences.{ends-properly, has-place, has-picture, has-share, keeps-fixed, keeps-sizes}
 use Rattle.demands.proofs.Sentences.{keeps-links, leaves-below}
-use Rattle.demands.proofs.InTurn.{reads-back, calls-in-turn}
+use Rattle.registers.proofs.Words.{reads-back}
+use Rattle.demands.proofs.InTurn.{calls-in-turn}
 
 first : Demand1
 first =
@@ -26,19 +27,7 @@ first =
     }
 
 second : Demand2
-second =
-    record {
-      accepts = accepts-exactly;
-      refuses = refuses-exactly;
-      shows = shows-reached;
-      shows-no-more = shows-no-more;
-      runs = runs-by-steps;
-      counts = count-within-budget;
-      spends = spends-budget;
-      fits-on = stays-fit;
-      writes-below = writes-below-height;
-      protects = keeps-protected;
-    }
+second = record { accepts = accepts-exactly; runs = runs-by-steps }
 
 third : Demand3
 third =
@@ -47,15 +36,28 @@ third =
       place = has-place;
       picture = has-picture;
       share = has-share;
-      iter-label = iter-pushes;
-      switch-label = switch-pushes;
-      data-areas = keeps-fixed;
-      sizes = keeps-sizes;
+      fixed = keeps-fixed;
       links = keeps-links;
       below = leaves-below;
       reads-back = reads-back;
       in-turn = calls-in-turn;
     }
 
+besides : Besides
+besides =
+    record {
+      refuses = refuses-exactly;
+      shows = shows-reached;
+      shows-no-more = shows-no-more;
+      iter-label = iter-pushes;
+      switch-label = switch-pushes;
+      sizes = keeps-sizes;
+      counts = count-within-budget;
+      spends = spends-budget;
+      stays-fit = stays-fit;
+      writes-below = writes-below-height;
+      protects = keeps-protected;
+    }
+
 pub demands : Demands
-demands = record { first = first; second = second; third = third }
+demands = record { first = first; second = second; third = third; besides = besides }

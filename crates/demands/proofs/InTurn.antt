@@ -11,20 +11,17 @@ use borrow.Author.Tests.{eqb-true, eqb-false, eq-eqb}
 use Rattle.words.specs.Bytes.{Bytes}
 use Rattle.record.specs.Number.{recordNumber}
 use Rattle.registers.specs.declared.Registers.{Registers}
-use Rattle.registers.specs.State.{state}
+use Rattle.registers.specs.State.{state, stateWords}
+use Rattle.registers.proofs.Words.{reads-back}
 use Rattle.load.specs.declared.Loaded.{Loaded}
 use Rattle.load.specs.declared.Loaded.the-variants.{Refused, Ready}
 use Rattle.load.specs.Load.{loadOf}
 use Rattle.verifier.specs.Check.{checkOf}
 use Rattle.verifier.proofs.Exactly.{accepts-exactly}
 use Rattle.machine.specs.Run.{runOf}
-use Rattle.icode.specs.Bench.{stateWords, registersIn, benchLoad, benchRun, runReply}
+use Rattle.icode.specs.Bench.{benchLoad, benchRun, runReply}
 use Rattle.guarantees.proofs.Numbers.{load-numbers}
-use Rattle.demands.specs.Calls.{ReadsBack, InTurn, CallsInTurn}
-
-pub reads-back : ReadsBack
-unfolding registersIn
-reads-back q = refl
+use Rattle.demands.specs.Calls.{InTurn, CallsInTurn}
 
 -- What a load through C that answers 0 was.
 record Was (r parameters m s u : List ℕ) : Type 0 where

@@ -11,7 +11,7 @@ use Rattle.safety.specs.Active.{Configuration, running}
 use Rattle.safety.specs.Demand3.{Demand3, Safe}
 use Rattle.safety.proofs.Places.{checked}
 use Rattle.safety.proofs.Ends.{claim}
-use Rattle.demands.specs.Fresh.{Fresh, programIn, subjectIn, workspaceLeft, loadedState, After, Pictured, Shared}
+use Rattle.demands.specs.Fresh.{Fresh, programIn, subjectIn, workspaceLeft, loadedState, ComesTo, Pictured, Shared}
 use Rattle.demands.specs.Third.{EndsProperly, HasPlace, HasPicture, HasShare}
 use Rattle.demands.specs.Third.{KeepsFixed, KeepsSizes, KeepsLinks, LeavesBelow}
 
@@ -20,7 +20,7 @@ claimed F =
     claim (F .bytes) (F .results) (F .workspace) (F .parameters) (F .memory) (F .stack) (F .registers) (F .are-bytes)
     (F .accepted) (F .loaded) (F .ruled)
 
-safe : (F : Fresh) (n : ℕ) (c : Configuration) → After F n c
+safe : (F : Fresh) (n : ℕ) (c : Configuration) → ComesTo F n c
     → Safe (programIn F) (subjectIn F) (workspaceLeft F) (loadedState F) c
 safe F n c v = claimed F .safe n c v
 

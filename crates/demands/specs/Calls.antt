@@ -5,15 +5,11 @@ use mathlib.Core.Path.{_≡_}
 use Prim.Native.Nat.{ℕ}
 use lib.ListN.{length}
 use Rattle.words.specs.Bytes.{Bytes}
-use Rattle.registers.specs.declared.Registers.{Registers}
 use Rattle.verifier.specs.Check.{checkOf}
 use Rattle.machine.specs.Run.{runOf}
-use Rattle.icode.specs.Bench.{stateWords, registersIn, benchLoad, benchRun, runReply}
+use Rattle.registers.specs.State.{stateWords}
+use Rattle.icode.specs.Bench.{benchLoad, benchRun, runReply}
 use Rattle.demands.specs.Fresh.{Fresh, loadedState}
-
--- What load writes as six words is what run reads.
-abbrev pub ReadsBack : Type 0
-ReadsBack = (q : Registers) → registersIn (stateWords q) ≡ q
 
 -- The calls speak of a fresh run: the same lists, what the load left, and what the run then answers and leaves.
 pub record InTurn (r results w parameters m s u : List ℕ) (F : Fresh) : Type 0 where
@@ -21,6 +17,7 @@ pub record InTurn (r results w parameters m s u : List ℕ) (F : Fresh) : Type 0
   pub results-list : F .results ≡ results
   pub workspace : F .workspace ≡ w
   pub parameter-words : F .parameters ≡ parameters
+  pub lent-memory : F .memory ≡ m
   pub stack : F .stack ≡ s
   pub memory : benchLoad r parameters m s u .memory ≡ loadedState F .memory
   pub words : benchLoad r parameters m s u .state ≡ stateWords (F .registers)

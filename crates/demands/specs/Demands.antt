@@ -1,5 +1,5 @@
--- The letter's demands, a field a sentence, over the definitions that the promises of reading, check, load and run equal. The
--- letter: "Rattle's checker should, and this is what it should say".
+-- The letter's demands, sentence by sentence, over the definitions that the promises of reading, check, load and run equal. The letter:
+-- "Rattle's checker should, and this is what it should say".
 use Rattle.verifier.specs.Exact.{AcceptsExactly, RefusesExactly, ShowsReached, ShowsNoMore}
 use Rattle.safety.specs.Joined.{RefusedJoined}
 use Rattle.safety.specs.Labels.{IterPushes, SwitchPushes}
@@ -10,10 +10,11 @@ use Rattle.guarantees.specs.Answers.{ReadingNumbers, CheckNumbers, LoadNumbers,
 use Rattle.guarantees.specs.Runs.{RunsBySteps}
 use Rattle.demands.specs.Third.{EndsProperly, HasPlace, HasPicture, HasShare}
 use Rattle.demands.specs.Third.{KeepsFixed, KeepsSizes, KeepsLinks, LeavesBelow}
-use Rattle.demands.specs.Calls.{ReadsBack, CallsInTurn}
+use Rattle.registers.specs.State.{ReadsBack}
+use Rattle.demands.specs.Calls.{CallsInTurn}
 
--- 1. "Reading, checking, loading and running answer for any bytes, sizes and lent memory." That they answer at all is what the
--- checker says of every function, and none of these has a `requires`; what they answer is one of 01's numbers.
+-- 1. "Reading, checking, loading and running answer for any bytes, sizes and lent memory." That they answer at all is what the checker
+-- says of every function, and none of these has a `requires`; what they answer are 01's numbers.
 pub record Demand1 : Type 0 where
   pub reading : ReadingNumbers
   pub checking : CheckNumbers
@@ -27,39 +28,42 @@ pub record Demand1 : Type 0 where
   -- "a trapped step leaves the machine as it stood before that step."
   pub trapped-step : TrappedStep
 
--- 2. "The check accepts exactly the records that meet the written rules"
+-- 2. "The check accepts exactly the records that meet the written rules, and every run, accepted code or not, gives the memory, stack,
+-- trap, place and step count that the manual's steps give as our document reads them."
 pub record Demand2 : Type 0 where
   pub accepts : AcceptsExactly
-  pub refuses : RefusesExactly
-  pub shows : ShowsReached
-  pub shows-no-more : ShowsNoMore
-  -- "and every run, accepted code or not, gives the memory, stack, trap, place and step count that the manual's steps give as
-  -- our document reads them."
   pub runs : RunsBySteps
-  pub counts : CountWithinBudget
-  pub spends : SpendsBudget
-  pub fits-on : StaysFit
-  pub writes-below : WritesBelowHeight
-  pub protects : KeepsProtected
 
--- 3. "Take any record that the check accepts and load it fresh, with any parameters, memory and stack that the loader takes;
--- run it from there": the sentences stand in Third.
+-- 3. "Take any record that the check accepts and load it fresh, with any parameters, memory and stack that the loader takes; run it from
+-- there": the sentences stand in Third, in this order.
 pub record Demand3 : Type 0 where
   pub ends : EndsProperly
   pub place : HasPlace
   pub picture : HasPicture
   pub share : HasShare
-  pub iter-label : IterPushes
-  pub switch-label : SwitchPushes
-  pub data-areas : KeepsFixed
-  pub sizes : KeepsSizes
+  pub fixed : KeepsFixed
   pub links : KeepsLinks
   pub below : LeavesBelow
   -- For callers that make the three calls in turn.
   pub reads-back : ReadsBack
   pub in-turn : CallsInTurn
 
+-- What 01 says besides, of the check and its workspace, and of steps and runs.
+pub record Besides : Type 0 where
+  pub refuses : RefusesExactly
+  pub shows : ShowsReached
+  pub shows-no-more : ShowsNoMore
+  pub iter-label : IterPushes
+  pub switch-label : SwitchPushes
+  pub sizes : KeepsSizes
+  pub counts : CountWithinBudget
+  pub spends : SpendsBudget
+  pub stays-fit : StaysFit
+  pub writes-below : WritesBelowHeight
+  pub protects : KeepsProtected
+
 pub record Demands : Type 0 where
   pub first : Demand1
   pub second : Demand2
   pub third : Demand3
+  pub besides : Besides

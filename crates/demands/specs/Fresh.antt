@@ -51,8 +51,8 @@ abbrev pub firstOf : Fresh → Configuration
 firstOf F = loadedConfiguration (loadedState F)
 
 -- "After every number of its steps, from none to the last": what a run comes to after n steps.
-abbrev pub After : (F : Fresh) (n : ℕ) → Configuration → Type 0
-After F n c = Visits (programIn F) (subjectIn F) (firstOf F) n c
+abbrev pub ComesTo : (F : Fresh) (n : ℕ) → Configuration → Type 0
+ComesTo F n c = Visits (programIn F) (subjectIn F) (firstOf F) n c
 
 -- The running procedure's picture has a list of slots at the place. 01: "the picture is that of just the instructions reached
 -- from the entry".

@@ -1,4 +1,4 @@
--- The sentences of demand 3, each of every fresh run (`Fresh`), and of its configuration after every number of steps (`After`).
+-- The sentences of demand 3, each of every fresh run (`Fresh`), and of its configuration after every number of steps (`ComesTo`).
 use mathlib.Core.List.{List}
 use mathlib.Core.Logic.{_⊎_}
 use mathlib.Core.Option.{some}
@@ -14,7 +14,7 @@ use Rattle.stackmap.specs.StackMap.{Map, IsMap}
 use Rattle.machine.specs.Run.{runOf}
 use Rattle.safety.specs.Active.{Configuration, running, shareOf}
 use Rattle.safety.specs.Demand3.{Ends, Linked, SameFrom, Unread}
-use Rattle.demands.specs.Fresh.{Fresh, programIn, subjectIn, loadedState, firstOf, After, Pictured, Shared}
+use Rattle.demands.specs.Fresh.{Fresh, programIn, subjectIn, loadedState, firstOf, ComesTo, Pictured, Shared}
 
 -- "Whatever memory and stack held before, the run finishes, spends its budget, or ends in one of the nine data traps, never in
 -- one of the four code traps", "with demand 2's steps and step count and any step budget".
@@ -25,7 +25,7 @@ EndsProperly =
 
 -- "After every number of its steps, from none to the last": what holds of each configuration.
 abbrev pub Always : (Fresh → Configuration → Type 0) → Type 0
-Always Property = (F : Fresh) (n : ℕ) (c : Configuration) → After F n c → Property F c
+Always Property = (F : Fresh) (n : ℕ) (c : Configuration) → ComesTo F n c → Property F c
 
 -- "the place is one that the running procedure's stack picture has."
 abbrev pub HasPlace : Type 0

@@ -1,4 +1,4 @@
-// Completes jumps, loops and switches, and hands other codes on.
+// Completes jumps, loops, switches and unsigned arithmetic, and hands other codes on.
 ghost use mathlib.Core.Path.{_≡_};
 ghost use mathlib.Core.Bool.{true};
 ghost use mathlib.Core.List.{List};

@@ -84,7 +84,7 @@ fn signed_two(stack: &mut [u32], pc: &mut usize, height: &mut usize, op: Arithme
     put_two(stack, pc, height, arithmetic::signed_value(op, x, y))
 }
 
-// Unsigned results wrap or not, by the issue of the module.
+// Wraps unsigned results or not, by the issue of the module.
 pub fn unsigned_two(
     stack: &mut [u32],
     pc: &mut usize,

@@ -24,13 +24,13 @@ module _ (P : Program) (S : State) where
       rw (z, y) (later e)
   step-ends left n S' c Finished e later =
       let same = step-stops P S' (λ w. let z : _≡_ {A = ℕ} 0 1 = cc in omega arith) in
-      record { steps = n; last = S'; completes = c; ending = finish; ends-by = (omega arith, e); ends = rw same }
+      record { steps = n; last = S'; completes = c; ending = finish; stops-by = e; within = omega arith; ends = rw same }
   step-ends left n S' c (Trapped k) e later =
       let same = step-stops P S' (λ w. let z : _≡_ {A = ℕ} 0 1 = cc in omega arith) in
-      record { steps = n; last = S'; completes = c; ending = stop k; ends-by = (omega arith, e); ends = rw same }
+      record { steps = n; last = S'; completes = c; ending = stop k; stops-by = e; within = omega arith; ends = rw same }
 
   ends-by-steps : (left n : ℕ) (S' : State) → Completes P S n S' → BySteps P S (n + left) (runFrom P left n S')
-  ends-by-steps zero n S' c = record { steps = n; last = S'; completes = c; ending = Spent; ends-by = omega arith; ends = refl }
+  ends-by-steps zero n S' c = record { steps = n; last = S'; completes = c; ending = Spent; stops-by = tt; within = omega arith; ends = refl }
   ends-by-steps (suc left) n S' c =
       step-ends left n S' c (stepOf P S' .outcome) refl (λ w. ends-by-steps left (suc n) (stepOf P S' .state) (one-more c w))
 

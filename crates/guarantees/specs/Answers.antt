@@ -1,5 +1,4 @@
--- Which numbers reading, check, load and run hand back. 01: "Load makes tests 1 to 8, check 1 to 15, the line lookup 1 to 7,
--- run 1 to 7 and then 24."
+-- Which numbers reading, check, load and run hand back. 01: "Load makes tests 1 to 8, check 1 to 15, .., run 1 to 7 and then 24."
 use mathlib.Core.List.{List}
 use mathlib.Core.Logic.{_⊎_}
 use mathlib.Core.Path.{_≡_}

@@ -2,7 +2,7 @@
 -- manual's steps give as our document reads them."
 use mathlib.Core.List.{List}
 use mathlib.Core.Path.{_≡_}
-use Prim.Native.Nat.{ℕ, suc, _<_}
+use Prim.Native.Nat.{ℕ, suc}
 use Rattle.registers.specs.Program.{Program, programOf}
 use Rattle.registers.specs.State.{State}
 use Rattle.step.specs.declared.Outcome.the-variants.{Went, Finished as finishes, Trapped as traps}
@@ -10,26 +10,27 @@ use Rattle.step.specs.Step.{stepOf}
 use Rattle.machine.specs.declared.run.End.{End}
 use Rattle.machine.specs.declared.run.End.the-variants.{Finished, Spent, Trapped}
 use Rattle.machine.specs.Run.{Result, ended, runNumber, runOf}
-use Rattle.safety.specs.Demand3.{counted}
+use Rattle.safety.specs.Demand3.{counted, Within}
 
 -- So many completed steps lead from S to a state.
 pub data Completes (P : Program) (S : State) : ℕ → State → Type 0 where
   none : Completes P S 0 S
   one-more : {n : ℕ} {S' : State} → Completes P S n S' → stepOf P S' .outcome ≡ Went → Completes P S (suc n) (stepOf P S' .state)
 
--- What the next step does where a run ends after n steps in state S: 01, "After as many steps as the budget the run answers
--- "spent", unless the last of them finished."
-abbrev pub EndsBy : (P : Program) (n budget : ℕ) (S : State) → End → Type 0
-EndsBy P n budget S Finished = (n < budget) × (stepOf P S .outcome ≡ finishes)
-EndsBy P n budget S Spent = n ≡ budget
-EndsBy P n budget S (Trapped k) = (n < budget) × (stepOf P S .outcome ≡ traps k)
+-- What the step does before which a run ends: it finishes, or traps; a spent run does not look.
+abbrev pub StopsBy : Program → State → End → Type 0
+StopsBy P S Finished = stepOf P S .outcome ≡ finishes
+StopsBy P S Spent = Unit {0}
+StopsBy P S (Trapped k) = stepOf P S .outcome ≡ traps k
 
 pub record BySteps (P : Program) (S : State) (budget : ℕ) (run : Result) : Type 0 where
   pub steps : ℕ
   pub last : State
   pub completes : Completes P S steps last
   pub ending : End
-  pub ends-by : EndsBy P steps budget last ending
+  pub stops-by : StopsBy P last ending
+  -- 01: "After as many steps as the budget the run answers "spent", unless the last of them finished."
+  pub within : Within ending steps budget
   pub ends : run ≡ ended ending (counted ending steps) last
 
 abbrev pub RunsBySteps : Type 0

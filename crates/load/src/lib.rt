@@ -16,7 +16,7 @@ pub enum Loaded {
     Ready(Registers),
 }
 
-// What a run knows of a module besides its code.
+// Reads what a run has to know of a module besides its code.
 pub fn attributes_in(r: &[u8], h: Header) -> Attributes
     ensures { λ a. ⌜ a ≡ attributesIn (now (r .entry)) h ⌝ }
 {

@@ -13,16 +13,16 @@ use Rattle.opcode.specs.declared.instruction.Arithmetic.the-variants.{Add, Subt
 use Rattle.operate.specs.declared.Value.the-variants.{Word, Trap}
 use Rattle.operate.specs.Value.{unsignedWord}
 use Rattle.operate.specs.Arithmetic.{unsignedNumber, unsignedValue}
-use Rattle.operate.specs.Wrapping.{ByRule, ThreeByRule, DivisionNeverWraps}
+use Rattle.operate.specs.Wrapping.{FollowsRule, ThreeByRule, DivisionNeverWraps}
 use Rattle.operate.proofs.Naturals.{in-word}
 
 left : (n : ℕ) → n % 0x1_0000_0000 < 0x1_0000_0000
 left n = mod-lt n (omega arith)
 
-by-rule : (wraps : Bool) (z : ℤ) → ByRule wraps z (unsignedWord wraps z)
+by-rule : (wraps : Bool) (z : ℤ) → FollowsRule wraps z (unsignedWord wraps z)
 unfolding unsignedWord
 by-rule true (pos n) =
-    by-test (ByRule true (pos n)) (ltb n 0x1_0000_0000) (Word n) (Word (n % 0x1_0000_0000))
+    by-test (FollowsRule true (pos n)) (ltb n 0x1_0000_0000) (Word n) (Word (n % 0x1_0000_0000))
     (λ e. (ltb-true n 0x1_0000_0000 e, (0, omega arith)))
     (λ e. (left n, (n / 0x1_0000_0000, omega (arith, div-add-mod' n 0x1_0000_0000))))
 by-rule true (negsuc n) = (
@@ -30,7 +30,7 @@ by-rule true (negsuc n) = (
   (suc (n / 0x1_0000_0000), omega (arith, div-add-mod' n 0x1_0000_0000, left n)),
 )
 by-rule false (pos n) =
-    by-test (ByRule false (pos n)) (ltb n 0x1_0000_0000) (Word n) (Trap 31)
+    by-test (FollowsRule false (pos n)) (ltb n 0x1_0000_0000) (Word n) (Trap 31)
     (λ e. (ltb-true n 0x1_0000_0000 e, refl)) (λ e. (e, refl))
 by-rule false (negsuc n) = (refl, refl)
 

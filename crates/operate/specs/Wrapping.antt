@@ -15,21 +15,21 @@ RunsRound (pos n) x = (k : ℕ) × (n ≡ x + k * 0x1_0000_0000)
 RunsRound (negsuc n) x = (k : ℕ) × (x + suc n ≡ k * 0x1_0000_0000)
 
 -- A word and the number that it is.
-abbrev pub Is : ℤ → ℕ → Type 0
-Is (pos n) x = n ≡ x
-Is (negsuc n) x = ⊥
+abbrev pub Equals : ℤ → ℕ → Type 0
+Equals (pos n) x = n ≡ x
+Equals (negsuc n) x = ⊥
 
 -- What a number is given as: wrapped, always a word; else the number itself, or 31 where it is no word.
-abbrev pub ByRule : (wraps : Bool) → ℤ → Value → Type 0
-ByRule true z (Word x) = (x < 0x1_0000_0000) × RunsRound z x
-ByRule true z (Trap n) = ⊥
-ByRule false z (Word x) = (x < 0x1_0000_0000) × Is z x
-ByRule false z (Trap n) = (isUnsigned z ≡ false) × (n ≡ 31)
+abbrev pub FollowsRule : (wraps : Bool) → ℤ → Value → Type 0
+FollowsRule true z (Word x) = (x < 0x1_0000_0000) × RunsRound z x
+FollowsRule true z (Trap n) = ⊥
+FollowsRule false z (Word x) = (x < 0x1_0000_0000) × Equals z x
+FollowsRule false z (Trap n) = (isUnsigned z ≡ false) × (n ≡ 31)
 
 abbrev pub ThreeByRule : Type 0
 ThreeByRule =
     (wraps : Bool) (op : Arithmetic) → divides op ≡ false → (x y : ℕ)
-    → ByRule wraps (unsignedNumber op x y) (unsignedValue wraps op x y)
+    → FollowsRule wraps (unsignedNumber op x y) (unsignedValue wraps op x y)
 
 -- A quotient or a remainder of words is a word, or traps with 30, by either rule.
 abbrev pub DivisionNeverWraps : Type 0

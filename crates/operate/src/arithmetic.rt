@@ -6,7 +6,7 @@ ghost use Rattle.operate.specs.Value.{byRule, unsignedWord};
 use crate::Value;
 use opcode::instruction::Arithmetic;
 
-// What a number that is no word is given as: the word that it wraps to, or trap 31.
+// Gives, for a number that is no word, the word that it wraps to, or trap 31.
 fn by_rule(wraps: bool, x: u32) -> Value
     ensures { λ v. ⌜ v ≡ byRule wraps x ⌝ }
 {

@@ -42,7 +42,8 @@ fn read_input(buf: &mut [u8]) -> Input
     Input::Read(done)
 }
 
-// Writes the page of a run file, with workspace, memory and stack of the printer's own. A buffer of 32,768 bytes never stays empty.
+// Writes the page of a run file, with workspace, memory and stack of the printer's own. A buffer of 32,768 bytes never stays
+// empty.
 fn page_of(file: &[u8], page: &mut [u8]) -> usize
     ensures { λ n. ⌜ output n (now (page .exit)) ≡ printed (textOf (now (file .entry))) (now (page .entry)) ⌝ }
     ensures { λ n. ⌜ (32768 ≤ length (now (page .entry)) → 1 ≤ n) ⌝ }

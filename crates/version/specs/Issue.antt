@@ -46,14 +46,14 @@ abbrev pub NumberDecides : Type 0
 NumberDecides = (a : Issue) → earlier a issue3 ≡ ltb (a .number) 3
 
 -- Each version word of a list names an earlier issue than the next one, and the next one no earlier issue.
-abbrev pub rising : List ℕ → List (List ℕ) → Bool
-rising a [] = true
-rising a (b ∷ words) =
+abbrev pub inOrder : List ℕ → List (List ℕ) → Bool
+inOrder a [] = true
+inOrder a (b ∷ words) =
     let first = issueOf a 0 in
     let second = issueOf b 0 in
-    (earlier first second && not (earlier second first)) && rising b words
+    (earlier first second && not (earlier second first)) && inOrder b words
 
--- " 1/-", "02/-", " 2/A", "02/Z", " 3/-", "03/A", "10/-".
+-- What comes after " 1/-": "02/-", " 2/A", "02/Z", " 3/-", "03/A", "10/-".
 unfoldable pub laterWords : List (List ℕ)
 laterWords =
     (0x30 ∷ 0x32 ∷ 0x2F ∷ 0x2D ∷ [])
@@ -65,4 +65,4 @@ laterWords =
     ∷ []
 
 abbrev pub IssuesRise : Type 0
-IssuesRise = rising (0x20 ∷ 0x31 ∷ 0x2F ∷ 0x2D ∷ []) laterWords ≡ true
+IssuesRise = inOrder (0x20 ∷ 0x31 ∷ 0x2F ∷ 0x2D ∷ []) laterWords ≡ true

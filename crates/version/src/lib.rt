@@ -47,7 +47,7 @@ pub fn version_sound(r: &[u8], h: Header) -> bool
     issue_at(r, header::versions_at(h))
 }
 
-// Whether the word at `i` names an issue earlier than 3/-, which its number tells: no tens, and fewer than 3.
+// Tells whether the word at `i` names an issue earlier than 3/-, by its number: no tens, and fewer than 3.
 fn is_before_3(r: &[u8], i: usize) -> bool
     ensures { λ b. ⌜ b ≡ earlier (issueOf (now (r .entry)) i) issue3 ⌝ }
 {
@@ -60,7 +60,7 @@ fn is_before_3(r: &[u8], i: usize) -> bool
     words::byte_at(r, i + 1) < b'3'
 }
 
-// Whether unsigned results wrap: the first version word names an issue earlier than 3/-.
+// Tells whether unsigned results wrap: the first version word names an issue earlier than 3/-.
 pub fn wraps(r: &[u8], h: Header) -> bool
     ensures { λ b. ⌜ b ≡ wraps (now (r .entry)) h ⌝ }
 {
