@@ -1,5 +1,6 @@
 -- `effect::data::alloc_effect` meets its contract: MP moves up within memory, or trap 35.
 use Prim.Native.Nat.{_+_}
+use native.Mathlib.Omega.{arith}
 use lib.ListN.{length}
 use borrow.Author.Tests.{lt-leb, le-leb}
 use borrow.Author.Needs.{needs}
@@ -20,7 +21,7 @@ returns-2 c =
     let sized = c .sized in
     let if1 = c .before .if1 in
     let a = c .before .before .before .before .args in
-    rw (le-leb (a .q .mp + a .size) (length (a .m .now)) (if1 .left), sized .ensures)
+    rw (le-leb (a .q .mp + a .size) (length (a .m .now)) (omega (arith, if1 .left)), sized .ensures)
 
 pub alloc-effect-spec : {M : Type 1} → statement M
 alloc-effect-spec =

@@ -1,6 +1,7 @@
 -- `effect::data::load_address_effect` meets its contract: the sum is a word, or trap 31.
 use borrow.Author.Tests.{lt-ltb, le-ltb}
-use Prim.Native.Nat.{_+_}
+use Prim.Native.Nat.{_+_, _≤_}
+use native.Mathlib.Omega.{arith}
 use borrow.Author.Needs.{needs}
 use Rattle.effect.specs.Data.{loadAddressEffect}
 use Rattle.effect.proofs.data.load_address_effect.Statement.{statement}
@@ -15,16 +16,24 @@ returns c =
     let base-of = c .before .before .before .base-of in
     let a = c .before .before .before .before .before .args in
     let at = base-of .result + a .offset in
-    rw (← base-of .ensures, lt-ltb at 0x1_0000_0000 (if1 .taken), push-effect .ensures, popped-words .ensures)
+    rw (← base-of .ensures, lt-ltb at 0x1_0000_0000 (omega (arith, if1 .taken)), push-effect .ensures, popped-words .ensures)
 
-returns-2 : tie.Need-returns-2
+abbrev Large : (c : tie.Else1) → Type 0
+Large c = 0x1_0000_0000 ≤ c .before .base-of .result + c .before .before .before .args .offset
+
+-- The sum is no word, and the trap is then 31.
+large : (c : tie.Else1) → Large c
+large c = omega (arith, c .if1 .left)
+
+large-is-31 : ((c : tie.Else1) → Large c) → tie.Need-returns-2
 unfolding loadAddressEffect
-returns-2 c =
-    let if1 = c .if1 in
+large-is-31 past c =
     let base-of = c .before .base-of in
     let a = c .before .before .before .args in
-    let at = base-of .result + a .offset in
-    rw (← base-of .ensures, le-ltb at 0x1_0000_0000 (if1 .left))
+    rw (← base-of .ensures, le-ltb (base-of .result + a .offset) 0x1_0000_0000 (past c))
+
+returns-2 : tie.Need-returns-2
+returns-2 = large-is-31 large
 
 pub load-address-effect-spec : {M : Type 1} → statement M
 load-address-effect-spec =

@@ -2,8 +2,10 @@
 use native.Mathlib.Omega.{arith}
 use borrow.Author.Tests.{not-true, not-false}
 use Prim.Native.Nat.{_+_}
+use mathlib.Core.Path.{_≡_}
 use borrow.Author.Needs.{needs}
-use Rattle.effect.specs.Data.{loadEffect}
+use Rattle.shape.specs.Counts.{popped}
+use Rattle.effect.specs.Data.{loaded, loadEffect}
 use Rattle.registers.proofs.Protected.{live-below}
 use Rattle.effect.proofs.data.load_effect.Statement.{statement}
 use Rattle.effect.proofs.data.load_effect.Tie as tie
@@ -28,12 +30,21 @@ loaded-requires c κs =
     let at = base-of .result + a .offset in
     omega (arith, live-below (a .q) at (words-in .result) (is-live .result) (is-live .ensures) live)
 
+-- The words that go, and those that are read.
+popped-told : (c : tie.After-popped-words) →
+    c .popped-words .result ≡ popped (c .before .before .before .before .before .before .args .base)
+popped-told c = c .popped-words .ensures
+
+loaded-told : (c : tie.After-loaded) →
+    let start = c .before .before .before .before .before in
+    let a = start .before .before .args in
+    c .loaded .result ≡ loaded (a .m .now) (start .base-of .result + a .offset) (a .mode)
+loaded-told c = c .loaded .ensures
+
 returns-2 : tie.Need-returns-2
 unfolding loadEffect
 returns-2 c =
     let moved = c .moved in
-    let loaded = c .before .loaded in
-    let popped-words = c .before .before .popped-words in
     let if1 = c .before .before .before .if1 in
     let is-live = c .before .before .before .before .is-live in
     let words-in = c .before .before .before .before .before .words-in in
@@ -43,8 +54,8 @@ returns-2 c =
       ← words-in .ensures,
       ← is-live .ensures,
       not-false (is-live .result) (if1 .left),
-      popped-words .ensures,
-      loaded .ensures,
+      popped-told (c .before .before),
+      loaded-told (c .before),
       moved .ensures,
     )
 

@@ -1,9 +1,10 @@
 -- `effect::data::store_effect` meets its contract: live first, then unprotected.
 use Prim.Native.Nat.{_+_, _≤_}
+use mathlib.Core.Path.{_≡_}
 use native.Mathlib.Omega.{arith}
 use borrow.Author.Tests.{not-true, not-false}
 use borrow.Author.Needs.{needs}
-use Rattle.effect.specs.Data.{storeEffect}
+use Rattle.effect.specs.Data.{storeEffect, stored}
 use Rattle.shape.proofs.Counting.{popped-small, words-small}
 use Rattle.registers.proofs.Protected.{live-below}
 use Rattle.effect.proofs.data.store_effect.Statement.{statement}
@@ -64,11 +65,17 @@ returns-2 c =
 cast-stored : tie.Need-cast-stored
 cast-stored c = record { fits = omega (arith, below (c .before .before)) }
 
+-- The words go to the address in their order.
+stored-told : (c : tie.After-stored) →
+    let start = c .before .before .before .before .before .before .before .before in
+    let a = start .before .before .args in
+    c .stored .result ≡ stored (start .base-of .result + a .offset) (a .mode) (a .x) (a .y)
+stored-told c = c .stored .ensures
+
 returns-3 : tie.Need-returns-3
 unfolding storeEffect
 returns-3 c =
     let moved = c .moved in
-    let stored = c .before .stored in
     let if2 = c .before .before .if2 in
     let is-any-protected = c .before .before .before .is-any-protected in
     let if1 = c .before .before .before .before .if1 in
@@ -80,7 +87,7 @@ returns-3 c =
     let base-of = earlier .before .base-of in
     rw (
       ← base-of .ensures,
-      stored .ensures,
+      stored-told (c .before),
       popped-words .ensures,
       words-in .ensures,
       moved .ensures,
