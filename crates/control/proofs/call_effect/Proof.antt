@@ -1,5 +1,6 @@
 -- `control::call_effect` meets its contract: callee, depth, memory, in this order.
 use Prim.Native.Nat.{_+_}
+use native.Mathlib.Omega.{arith}
 use lib.ListN.{length}
 use borrow.Author.Tests.{le-leb, lt-leb}
 use borrow.Author.Needs.{needs}
@@ -31,7 +32,7 @@ returns-3 c =
     rw (
       ← is-no-callee .ensures,
       if1 .left,
-      lt-leb 64 (a .q .calls) (if2 .left),
+      lt-leb 64 (a .q .calls) (omega (arith, if2 .left)),
       lt-leb (a .q .mp + 2) (length (a .m .now)) (if3 .taken),
     )
 
@@ -48,7 +49,7 @@ returns-4 c =
     rw (
       ← is-no-callee .ensures,
       if1 .left,
-      lt-leb 64 (a .q .calls) (if2 .left),
+      lt-leb 64 (a .q .calls) (omega (arith, if2 .left)),
       le-leb (a .q .mp + 2) (length (a .m .now)) (if3 .left),
       called .ensures,
       entry-at .ensures,

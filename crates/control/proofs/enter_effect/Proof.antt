@@ -1,5 +1,6 @@
 -- `control::enter_effect` meets its contract: parameters and locals within memory, or trap 35.
 use Prim.Native.Nat.{_+_}
+use native.Mathlib.Omega.{arith}
 use lib.ListN.{length}
 use borrow.Author.Needs.{needs}
 use borrow.Author.Tests.{le-leb, lt-leb}
@@ -20,7 +21,7 @@ returns-2 c =
     let sized = c .sized in
     let if1 = c .before .if1 in
     let a = c .before .before .before .before .args in
-    rw (le-leb (a .q .mp + a .parameters + a .locals) (length (a .m .now)) (if1 .left), sized .ensures)
+    rw (le-leb (a .q .mp + a .parameters + a .locals) (length (a .m .now)) (omega (arith, if1 .left)), sized .ensures)
 
 pub enter-effect-spec : {M : Type 1} → statement M
 enter-effect-spec =

@@ -1,7 +1,12 @@
 -- `control::jump_c_effect` meets its contract: a word above 1 is no boolean.
+use mathlib.Core.Path.{_≡_}
 use native.Mathlib.Omega.{arith}
 use borrow.Author.Needs.{needs}
 use borrow.Author.Tests.{lt-ltb, le-ltb, eq-eqb, ne-eqb}
+use Rattle.effect.specs.declared.effect.Push.the-variants.{NoPush}
+use Rattle.effect.specs.declared.effect.Write.the-variants.{NoWrite}
+use Rattle.effect.specs.declared.effect.Effect.the-variants.{Go}
+use Rattle.registers.specs.Changes.{moved}
 use Rattle.control.proofs.jump_c_effect.Statement.{statement}
 use Rattle.control.specs.Control.{jumpCEffect}
 use Rattle.control.proofs.jump_c_effect.Tie as tie
@@ -10,14 +15,18 @@ returns : tie.Need-returns
 unfolding jumpCEffect
 returns c = rw (le-ltb (c .before .args .b) 2 (omega arith))
 
+jumps : (c : tie.After-jump-to) →
+    let a = c .before .before .before .before .args in
+    c .jump-to .result ≡ Go 1 NoPush NoWrite (moved (a .q) (c .before .place-at .result))
+jumps c = c .jump-to .ensures
+
 returns-2 : tie.Need-returns-2
 unfolding jumpCEffect
 returns-2 c =
-    let jump-to = c .jump-to in
     let place-at = c .before .place-at in
     let if2 = c .before .before .if2 in
     let a = c .before .before .before .before .args in
-    rw (lt-ltb (a .b) 2 (omega arith), eq-eqb (a .b) 0 (if2 .taken), jump-to .ensures, place-at .ensures)
+    rw (lt-ltb (a .b) 2 (omega arith), eq-eqb (a .b) 0 (if2 .taken), jumps c, place-at .ensures)
 
 returns-3 : tie.Need-returns-3
 unfolding jumpCEffect

@@ -1,16 +1,22 @@
 -- `control::switch_distance` meets its contract: a branch of the table or the range found, or ELSE.
+use mathlib.Core.Path.{_≡_}
 use borrow.Author.Tests.{le-leb, lt-leb, eq-eqb, ne-eqb}
 use borrow.Author.Needs.{needs}
+use Rattle.switch_table.specs.Switch.{branchDistance}
 use Rattle.control.proofs.switch_distance.Statement.{statement}
 use Rattle.control.proofs.switch_distance.Tie as tie
 
+branches : (c : tie.After-branch-distance) →
+    let a = c .before .before .before .before .before .args in
+    c .branch-distance .result ≡ branchDistance (a .code .now) (a .at) (a .x)
+branches c = c .branch-distance .ensures
+
 returns : tie.Need-returns
 returns c =
-    let branch-distance = c .branch-distance in
     let if1 = c .before .if1 in
     let enum-told = c .before .before .enum-told in
     let a = c .before .before .before .before .before .args in
-    rw (enum-told .given .1, le-leb (a .x) (a .n) (if1 .taken), branch-distance .ensures)
+    rw (enum-told .given .1, le-leb (a .x) (a .n) (if1 .taken), branches c)
 
 returns-2 : tie.Need-returns-2
 returns-2 c =
