@@ -1,9 +1,13 @@
 -- `execute::execute_store` meets its contract: the words by their depths.
+use Prim.Native.Nat.{_-_}
+use mathlib.Core.Path.{_≡_}
 use native.Mathlib.Omega.{arith}
 use borrow.Author.Needs.{needs}
 use Rattle.shape.specs.Shape.{shapeOf}
 use Rattle.shape.proofs.Counting.{popped-small, words-small}
 use Rattle.registers.specs.Program.{program}
+use Rattle.registers.specs.Memory.{read}
+use Rattle.effect.specs.Data.{storeEffect}
 use Rattle.execute.proofs.Top.{store-found}
 use Rattle.execute.proofs.execute_store.Statement.{statement}
 use Rattle.execute.proofs.execute_store.Tie as tie
@@ -21,12 +25,24 @@ sub-peek c =
     let a = c .before .before .before .before .before .before .args in
     omega (arith, words-in .ensures, words-small (a .mode))
 
+-- The first of the words is as deep as there are words, and what is found is handed on in order.
+first-found : (c : tie.After-peek2) →
+    let words-in = c .before .before .before .words-in in
+    let a = c .before .before .before .before .before .before .args in
+    c .peek2 .result ≡ read (a .s .now) (a .q .height - words-in .result)
+first-found c = c .peek2 .ensures
+
+stores : (c : tie.After-store-effect) →
+    let second = c .before .before in
+    let a = second .before .before .before .before .before .before .args in
+    c .store-effect .result ≡ storeEffect (a .attributes) (a .q) (a .m .now) (a .next) (a .base) (a .mode) (a .offset)
+    (second .before .peek .result) (second .peek2 .result) (c .before .peek3 .result)
+stores c = c .store-effect .ensures
+
 returns : tie.Need-returns
 unfolding shapeOf
 returns c =
-    let store-effect = c .store-effect in
     let peek3 = c .before .peek3 in
-    let peek2 = c .before .before .peek2 in
     let peek = c .before .before .before .peek in
     let popped-words = c .before .before .before .before .popped-words in
     let words-in = c .before .before .before .before .before .words-in in
@@ -37,9 +53,9 @@ returns c =
     let s = a .s .now in
     λ code. rw (
       store-found (program code (a .attributes)) q m s (a .next) (a .base) (a .mode) (a .offset) (pre .1),
-      store-effect .ensures,
+      stores c,
       peek .ensures,
-      peek2 .ensures,
+      first-found (c .before .before),
       peek3 .ensures,
       popped-words .ensures,
       words-in .ensures,
