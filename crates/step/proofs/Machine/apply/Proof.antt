@@ -1,10 +1,12 @@
 -- `step::Machine::apply` meets its contract: room for the pushed words, then the place, then memory and stack.
-use Prim.Native.Nat.{_+_}
+use Prim.Native.Nat.{_+_, _<_}
+use mathlib.Core.Path.{_≡_}
 use native.Mathlib.Omega.{arith}
-use lib.ListN.{length}
+use lib.ListN.{length, take, drop}
 use borrow.Author.Tests.{lt-ltb, le-ltb}
 use borrow.Author.Needs.{needs}
-use Rattle.step.specs.Step.{apply}
+use Rattle.registers.specs.Changes.{raised}
+use Rattle.step.specs.Step.{written, apply}
 use Rattle.step.proofs.Pushing.{pushes-small}
 use Rattle.step.proofs.Machine.apply.Statement.{statement}
 use Rattle.step.proofs.Machine.apply.Tie as tie
@@ -50,7 +52,7 @@ returns-2 c =
       ← low-word .ensures .0,
       ← push-count .ensures,
       le-ltb (length (a .stack .now)) height (if1 .left),
-      le-ltb (e2 .given .0 .1 .1 .1 .0 .pc) (length (a .code .now)) (if2 .taken),
+      le-ltb (e2 .given .0 .1 .1 .1 .0 .pc) (length (a .code .now)) (omega (arith, if2 .taken)),
       trapped3 .ensures,
     )
 
@@ -67,14 +69,35 @@ returns-4 c =
     let enum-told = c .enum-told in
     rw (enum-told .given .1)
 
+-- The place is within the code; the words are written; the registers are those of the effect, at their new height.
+within : (c : tie.Else2) →
+    let e2 = c .before .before .before .before .before .before .e2 in
+    let a = c .before .before .before .before .before .before .before .before .before .before .before .args in
+    e2 .given .0 .1 .1 .1 .0 .pc < length (a .code .now)
+within c = omega (arith, c .if2 .left)
+
+writes : (c : tie.After-write-words) →
+    let low-word = c .before .before .before .before .before .before .before .low-word in
+    let e2 = c .before .before .before .before .before .before .before .before .before .e2 in
+    let a = c .before .before .before .before .before .before .before .before .before .before .before .before .before .before
+    .args in
+    c .write-words .last .0
+    ≡ written (a .memory .now) (take (e2 .given .0 .0) (drop (low-word .result) (a .stack .now))) (e2 .given .0 .1 .1 .0)
+writes c = c .write-words .ensures
+
+rises : (c : tie.After-raised) →
+    let tested = c .before .before .before .before .before .before .before .before .before .before in
+    let counted = tested .before .before .before in
+    let e2 = counted .before .before .before .e2 in
+    c .raised .result ≡ raised (e2 .given .0 .1 .1 .1 .0) (counted .before .low-word .result + counted .push-count .result)
+rises c = c .raised .ensures
+
 returns-5 : tie.Need-returns-5
 unfolding apply
 returns-5 c =
-    let raised = c .raised in
     let push-words = c .before .before .before .push-words in
-    let write-words = c .before .before .before .before .before .before .before .write-words in
+    let written = c .before .before .before .before .before .before .before in
     let earlier = c .before .before .before .before .before .before .before .before .before .before in
-    let if2 = earlier .if2 in
     let if1 = earlier .before .before .if1 in
     let push-count = earlier .before .before .before .push-count in
     let low-word = earlier .before .before .before .before .low-word in
@@ -86,10 +109,10 @@ returns-5 c =
       ← low-word .ensures .0,
       ← push-count .ensures,
       le-ltb (length (a .stack .now)) height (if1 .left),
-      lt-ltb (e2 .given .0 .1 .1 .1 .0 .pc) (length (a .code .now)) (if2 .left),
-      write-words .ensures,
+      lt-ltb (e2 .given .0 .1 .1 .1 .0 .pc) (length (a .code .now)) (within earlier),
+      writes written,
       push-words .ensures,
-      raised .ensures,
+      rises c,
     )
 
 pub apply-spec : {M : Type 1} → statement M
