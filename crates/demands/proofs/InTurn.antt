@@ -1,12 +1,12 @@
 -- The three calls in turn: where the check and the load answer 0, the load was ready, and the run reads the six words that it
 -- wrote.
 use mathlib.Core.Bool.{Bool, true, false, _&&_}
-use mathlib.Core.List.{List}
+use mathlib.Core.List.{List, []}
 use mathlib.Core.Path.{_≡_, refl}
 use Prim.Native.Nat.{ℕ}
 use native.Mathlib.Omega.{arith}
 use lib.Dec.{eqb}
-use lib.ListN.{length}
+use lib.ListN.{length, drop, drop-of-length-le}
 use borrow.Author.Tests.{eqb-true, eqb-false, eq-eqb}
 use Rattle.words.specs.Bytes.{Bytes}
 use Rattle.record.specs.Number.{recordNumber}
@@ -39,7 +39,8 @@ module _ (r parameters m s u : List ℕ) where
       let none : n ≡ 0 = rw (sound, six, e) at zero in
       absurd (omega (arith, load-numbers r parameters m s n e))
   was-loaded sound six (Ready q) e zero =
-      record { registers = q; sound = sound; ready = e; memory = rw (sound, six, e); words = rw (sound, six, e) }
+      let behind : drop 6 u ≡ [] = drop-of-length-le u {i = 6} (omega (arith, eqb-true (length u) 6 six)) in
+      record { registers = q; sound = sound; ready = e; memory = rw (sound, six); words = rw (sound, six, e, behind) }
 
   was : (sound six : Bool) → eqb (recordNumber r) 0 ≡ sound → eqb (length u) 6 ≡ six → benchLoad r parameters m s u .answer ≡ 0
       → Was r parameters m s u
@@ -79,6 +80,7 @@ calls-in-turn r results w parameters m s u b accepted zero =
         results-list = refl;
         workspace = refl;
         parameter-words = refl;
+        lent-memory = refl;
         stack = refl;
         memory = L .memory;
         words = L .words;

@@ -10,8 +10,9 @@ use lib.Dec.{eqb, leb, ltb}
 use lib.ListN.{length}
 use borrow.Author.Tests.{leb-true, eqb-false}
 use Rattle.words.proofs.Tests.{either, by-test}
-use Rattle.record.specs.Number.{recordNumber}
-use Rattle.record.proofs.Sound.{reading-number, record-range}
+use Rattle.record.specs.declared.Reading.{Reading}
+use Rattle.record.specs.Number.{recordNumber, readingNumber, readingOf}
+use Rattle.record.proofs.Sound.{record-range}
 use Rattle.opcode.specs.Decode.{decodeAt}
 use Rattle.opcode.specs.declared.Decoded.{Decoded}
 use Rattle.opcode.specs.declared.Decoded.the-variants.{Unserved, Past, At}
@@ -42,7 +43,9 @@ use Rattle.guarantees.specs.Answers.{CodeTrap, ReadingNumbers, CheckNumb
 use Rattle.guarantees.proofs.Refusals.{Counted, counted}
 
 pub reading-numbers : ReadingNumbers
-reading-numbers r = rw (reading-number r) (record-range r)
+unfolding readingOf
+reading-numbers r =
+    by-test (λ (a : Reading). readingNumber a ≤ 7) (eqb (recordNumber r) 0) _ _ (λ e. omega arith) (λ e. record-range r)
 
 pub check-numbers : CheckNumbers
 check-numbers = check-range
