@@ -17,8 +17,8 @@ use Rattle.verifier.specs.Exact.{Ruled, subject}
 use Rattle.verifier.proofs.Exactly.{shows-reached}
 use Rattle.load.specs.declared.Loaded.the-variants.{Ready}
 use Rattle.load.specs.Load.{loadOf}
-use Rattle.safety.specs.Active.{Call, running, Configuration, Visits, at-first, one-more}
-use Rattle.safety.specs.Demand3.{Linked, Safe, loadedConfiguration}
+use Rattle.safety.specs.Active.{Call, running, shareOf, Configuration, Visits, at-first, one-more}
+use Rattle.safety.specs.Demand3.{Linked, SameFrom, Unread, Safe, loadedConfiguration}
 use Rattle.safety.proofs.Invariant.{registersOf, programIn, Framed, no-frame, a-frame, Inv}
 use Rattle.safety.proofs.Sizes.{memory-kept, stack-kept}
 use Rattle.safety.proofs.ProtectedWords.{header-kept, constants-kept}
@@ -68,10 +68,11 @@ module _ (r results w parameters m s : List ℕ) (q : Registers) (b : Bytes r) (
       → Keeps U (attributesOf r) S c
   run-keeps = keeps U (checked r results w b accepted R) (attributesOf r) (loadedConfiguration S) at-load
 
-  pub run-safe : (n : ℕ) (c : Configuration) → Visits (programOf r) U (loadedConfiguration S) n c
+  -- Takes the links and what is not read from the laws about them, and so does not rest on these.
+  safe-as : (c : Configuration) → Keeps U (attributesOf r) S c → Linked (c .state .memory) (c .calls)
+      → ((s' : List ℕ) → SameFrom (shareOf (c .calls)) (c .state .stack) s' → Unread (programOf r) c s')
       → Safe (programOf r) U (checkOf r results w .workspace) S c
-  run-safe n c v =
-      let k = run-keeps v in
+  safe-as c k links below =
       let i = k .inv in
       let p = i .placed in
       record {
@@ -88,6 +89,13 @@ module _ (r results w parameters m s : List ℕ) (q : Registers) (b : Bytes r) (
         constants = k .constants;
         memory-size = k .memory-size;
         stack-size = k .stack-size;
-        links = linked (c .state .memory) (framesStart (attributesOf r)) (registersOf c .fp) (c .calls) (i .framed);
-        unread = unread U (checked r results w b accepted R) (attributesOf r) c i;
+        links = links;
+        unread = below;
       }
+
+  pub run-safe : (n : ℕ) (c : Configuration) → Visits (programOf r) U (loadedConfiguration S) n c
+      → Safe (programOf r) U (checkOf r results w .workspace) S c
+  run-safe n c v =
+      let k = run-keeps v in
+      safe-as c k (linked (c .state .memory) (framesStart (attributesOf r)) (registersOf c .fp) (c .calls) (k .inv .framed))
+      (unread U (checked r results w b accepted R) (attributesOf r) c (k .inv))
