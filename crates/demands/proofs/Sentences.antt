@@ -45,6 +45,14 @@ has-share F n c v slots p =
     let equal : S .slots ≡ slots = cc in
     subst (Shared F c) equal (record { height = S .height; labels = S .labels; shown = S .shown })
 
+-- The labels by themselves, and what the workspace shows, whatever shows the rest.
+module _ (F : Fresh) (n : ℕ) (c : Configuration) (v : After F n c) (other : Shared F c (safe F n c v .slots)) where
+  labels-stand : Shared F c (safe F n c v .slots)
+  labels-stand = record { height = other .height; labels = safe F n c v .labels; shown = other .shown }
+
+  shown-stands : Shared F c (safe F n c v .slots)
+  shown-stands = record { height = other .height; labels = other .labels; shown = safe F n c v .shown }
+
 pub keeps-fixed : KeepsFixed
 keeps-fixed F n c v a (inl l) = safe F n c v .header a l
 keeps-fixed F n c v a (inr (l, h)) = safe F n c v .constants a l h
