@@ -46,7 +46,7 @@ has-share F n c v slots p =
     subst (Shared F c) equal (record { height = S .height; labels = S .labels; shown = S .shown })
 
 -- The labels by themselves, and what the workspace shows, whatever shows the rest.
-module _ (F : Fresh) (n : ℕ) (c : Configuration) (v : After F n c) (other : Shared F c (safe F n c v .slots)) where
+module _ (F : Fresh) (n : ℕ) (c : Configuration) (v : ComesTo F n c) (other : Shared F c (safe F n c v .slots)) where
   labels-stand : Shared F c (safe F n c v .slots)
   labels-stand = record { height = other .height; labels = safe F n c v .labels; shown = other .shown }
 
