@@ -2,36 +2,34 @@
 ghost use mathlib.Core.Path.{_≡_};
 ghost use Rattle.operate.specs.Arithmetic.{signedValue, unsignedValue, negatedValue};
 ghost use lib.IntN.{pos, _-ℤ_};
-ghost use Rattle.operate.specs.Value.{byRule, unsignedWord};
+ghost use Rattle.operate.specs.Value.{unsignedWord};
 use crate::Value;
 use opcode::instruction::Arithmetic;
 
-// Gives, for a number that is no word, the word that it wraps to, or trap 31.
-fn by_rule(wraps: bool, x: u32) -> Value
-    ensures { λ v. ⌜ v ≡ byRule wraps x ⌝ }
-{
-    if wraps {
-        return Value::Word(x);
-    }
-    Value::Trap(31)
-}
-
+// Gives the word of a number, or the word that it wraps to, or trap 31. The two functions have the rule each for itself: a function
+// for both costs the fast loop registers.
 fn unsigned_word(wraps: bool, n: u64) -> Value
     ensures { λ v. ⌜ v ≡ unsignedWord wraps (pos n) ⌝ }
 {
     if n < 0x1_0000_0000 {
         return Value::Word(n as u32);
     }
-    by_rule(wraps, (n % 0x1_0000_0000) as u32)
+    if wraps {
+        return Value::Word((n % 0x1_0000_0000) as u32);
+    }
+    Value::Trap(31)
 }
 
 fn unsigned_difference(wraps: bool, x: u32, y: u32) -> Value
     ensures { λ v. ⌜ v ≡ unsignedWord wraps (pos x -ℤ pos y) ⌝ }
 {
-    if y <= x {
-        return Value::Word(x - y);
+    if x < y {
+        if wraps {
+            return Value::Word(0xFFFF_FFFF - (y - x - 1));
+        }
+        return Value::Trap(31);
     }
-    by_rule(wraps, 0xFFFF_FFFF - (y - x - 1))
+    Value::Word(x - y)
 }
 
 // Ada's mod of two signed words, y not 0.
