@@ -7,7 +7,7 @@ use Rattle.guarantees.proofs.Steps.{trapped-step, writes-below-height, stays-fi
 use Rattle.guarantees.proofs.Numbers.{reading-numbers, check-numbers, load-numbers, run-numbers, step-traps}
 use Rattle.guarantees.proofs.Runs.{runs-by-steps}
 use Rattle.demands.specs.Demands.{Demand1, Demand2, Demand3, Besides, Demands}
-use Rattle.demands.proofs.Sentences.{ends-properly, has-place, has-picture, has-share, keeps-fixed, keeps-sizes}
+use Rattle.demands.proofs.Sentences.{ends-properly, comes-on, has-place, has-picture, has-share, keeps-fixed, keeps-sizes}
 use Rattle.demands.proofs.Sentences.{keeps-links, leaves-below}
 use Rattle.registers.proofs.Words.{reads-back}
 use Rattle.demands.proofs.InTurn.{calls-in-turn}
@@ -33,6 +33,7 @@ third : Demand3
 third =
     record {
       ends = ends-properly;
+      steps = comes-on;
       place = has-place;
       picture = has-picture;
       share = has-share;

@@ -7,12 +7,12 @@ use mathlib.Core.Path.{_≡_, _∙_, sym, subst}
 use Prim.Native.Nat.{ℕ}
 use Rattle.stackmap.specs.Slots.{Slot}
 use Rattle.stackmap.proofs.Exact.{has-reached}
-use Rattle.safety.specs.Active.{Configuration, running}
+use Rattle.safety.specs.Active.{Configuration, running, at-first, one-more}
 use Rattle.safety.specs.Demand3.{Demand3, Safe}
 use Rattle.safety.proofs.Places.{checked}
 use Rattle.safety.proofs.Ends.{claim}
 use Rattle.demands.specs.Fresh.{Fresh, programIn, subjectIn, workspaceLeft, loadedState, ComesTo, Pictured, Shared}
-use Rattle.demands.specs.Third.{EndsProperly, HasPlace, HasPicture, HasShare}
+use Rattle.demands.specs.Third.{EndsProperly, ComesOn, HasPlace, HasPicture, HasShare}
 use Rattle.demands.specs.Third.{KeepsFixed, KeepsSizes, KeepsLinks, LeavesBelow}
 
 claimed : (F : Fresh) → Demand3 (F .bytes) (workspaceLeft F) (loadedState F) (subjectIn F)
@@ -26,6 +26,9 @@ safe F n c v = claimed F .safe n c v
 
 pub ends-properly : EndsProperly
 ends-properly F budget = claimed F .runs budget
+
+pub comes-on : ComesOn
+comes-on F = (at-first, λ n c v w. one-more v w)
 
 pub has-place : HasPlace
 has-place F n c v =

@@ -8,7 +8,7 @@ use Rattle.guarantees.specs.Guarantees.{CountWithinBudget, SpendsBudget, Writes
 use Rattle.guarantees.specs.Guarantees.{KeepsProtected}
 use Rattle.guarantees.specs.Answers.{ReadingNumbers, CheckNumbers, LoadNumbers, RunNumbers, StepTraps}
 use Rattle.guarantees.specs.Runs.{RunsBySteps}
-use Rattle.demands.specs.Third.{EndsProperly, HasPlace, HasPicture, HasShare}
+use Rattle.demands.specs.Third.{EndsProperly, ComesOn, HasPlace, HasPicture, HasShare}
 use Rattle.demands.specs.Third.{KeepsFixed, KeepsSizes, KeepsLinks, LeavesBelow}
 use Rattle.registers.specs.State.{ReadsBack}
 use Rattle.demands.specs.Calls.{CallsInTurn}
@@ -38,6 +38,7 @@ pub record Demand2 : Type 0 where
 -- there": the sentences stand in Third, in this order.
 pub record Demand3 : Type 0 where
   pub ends : EndsProperly
+  pub steps : ComesOn
   pub place : HasPlace
   pub picture : HasPicture
   pub share : HasShare

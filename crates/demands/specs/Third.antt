@@ -3,7 +3,7 @@ use mathlib.Core.List.{List}
 use mathlib.Core.Logic.{_⊎_}
 use mathlib.Core.Option.{some}
 use mathlib.Core.Path.{_≡_}
-use Prim.Native.Nat.{ℕ, _≤_, _<_}
+use Prim.Native.Nat.{ℕ, suc, _≤_, _<_}
 use lib.ListN.{length}
 use Rattle.entries.specs.Entries.{entryCount}
 use Rattle.registers.specs.declared.Attributes.{Attributes}
@@ -12,7 +12,8 @@ use Rattle.registers.specs.Memory.{read}
 use Rattle.stackmap.specs.Slots.{Slot}
 use Rattle.stackmap.specs.StackMap.{Map, IsMap}
 use Rattle.machine.specs.Run.{runOf}
-use Rattle.safety.specs.Active.{Configuration, running, shareOf}
+use Rattle.step.specs.declared.Outcome.the-variants.{Went}
+use Rattle.safety.specs.Active.{Configuration, running, shareOf, stepOn, advance}
 use Rattle.safety.specs.Demand3.{Ends, Linked, SameFrom, Unread}
 use Rattle.demands.specs.Fresh.{Fresh, programIn, subjectIn, loadedState, firstOf, ComesTo, Pictured, Shared}
 
@@ -23,7 +24,15 @@ EndsProperly =
     (F : Fresh) (budget : ℕ)
     → Ends (programIn F) (subjectIn F) (firstOf F) budget (runOf (F .bytes) budget (loadedState F))
 
--- "After every number of its steps, from none to the last": what holds of each configuration.
+-- "After every number of its steps, from none to the last": a run comes to what was loaded, and from there on with each completed step.
+abbrev pub ComesOn : Type 0
+ComesOn =
+    (F : Fresh)
+    → ComesTo F 0 (firstOf F)
+    × ((n : ℕ) (c : Configuration) → ComesTo F n c → stepOn (programIn F) c .outcome ≡ Went
+    → ComesTo F (suc n) (advance (programIn F) (subjectIn F) c))
+
+-- What holds of each configuration that it comes to.
 abbrev pub Always : (Fresh → Configuration → Type 0) → Type 0
 Always Property = (F : Fresh) (n : ℕ) (c : Configuration) → ComesTo F n c → Property F c
 

@@ -1,6 +1,6 @@
 -- Unsigned results by both rules: what is left of a number by 2^32 differs from it by a multiple of 2^32, and a quotient or a
 -- remainder is no larger than the dividend.
-use mathlib.Core.Bool.{Bool, true, false}
+use mathlib.Core.Bool.{Bool, true, false, not}
 use mathlib.Core.Path.{_≡_, _∙_, refl, sym}
 use Prim.Native.Nat.{ℕ, suc, _/_, _%_, _≤_, _<_}
 use native.Mathlib.Omega.{arith}
@@ -9,11 +9,15 @@ use borrow.Author.Tests.{ltb-true}
 use lib.Dec.{eqb, ltb}
 use lib.IntN.{ℤ, pos, negsuc}
 use Rattle.words.proofs.Tests.{by-test}
+use Rattle.opcode.specs.declared.instruction.Operation.the-variants.{Signed, Unsigned, Negate, Equal, NotEqual}
+use Rattle.opcode.specs.declared.instruction.Operation.the-variants.{CompareSigned, CompareUnsigned, Set, Not}
+use Rattle.opcode.specs.declared.instruction.Arithmetic.{Arithmetic}
 use Rattle.opcode.specs.declared.instruction.Arithmetic.the-variants.{Add, Subtract, Multiply, Divide, Modulus}
 use Rattle.operate.specs.declared.Value.the-variants.{Word, Trap}
 use Rattle.operate.specs.Value.{unsignedWord}
-use Rattle.operate.specs.Arithmetic.{unsignedNumber, unsignedValue}
-use Rattle.operate.specs.Wrapping.{FollowsRule, ThreeByRule, DivisionNeverWraps}
+use Rattle.operate.specs.Arithmetic.{unsignedNumber, unsignedValue, divides}
+use Rattle.operate.specs.Operation.{operationValue}
+use Rattle.operate.specs.Wrapping.{FollowsRule, ThreeByRule, OnlyThreeWrap}
 use Rattle.operate.proofs.Naturals.{in-word}
 
 left : (n : ℕ) → n % 0x1_0000_0000 < 0x1_0000_0000
@@ -42,10 +46,23 @@ three-by-rule wraps op three x y = rw three (by-rule wraps (unsignedNumber op x 
 alike : (n : ℕ) → n < 0x1_0000_0000 → unsignedWord true (pos n) ≡ unsignedWord false (pos n)
 alike n h = sym (in-word true n h) ∙ in-word false n h
 
-pub division-never-wraps : DivisionNeverWraps
+division-alike : (op : Arithmetic) → not (divides op) ≡ false → (x y : ℕ) → x < 0x1_0000_0000
+    → unsignedValue true op x y ≡ unsignedValue false op x y
 unfolding unsignedValue
-division-never-wraps Add e x y h = let z : _≡_ {A = ℕ} 0 1 = cc in absurd (omega (arith, z))
-division-never-wraps Subtract e x y h = let z : _≡_ {A = ℕ} 0 1 = cc in absurd (omega (arith, z))
-division-never-wraps Multiply e x y h = let z : _≡_ {A = ℕ} 0 1 = cc in absurd (omega (arith, z))
-division-never-wraps Divide e x y h = rw (alike (x / y) (omega (arith, div-le-self x y)))
-division-never-wraps Modulus e x y h = rw (alike (x % y) (omega (arith, mod-le x y)))
+division-alike Add e x y h = let z : _≡_ {A = ℕ} 0 1 = cc in absurd (omega (arith, z))
+division-alike Subtract e x y h = let z : _≡_ {A = ℕ} 0 1 = cc in absurd (omega (arith, z))
+division-alike Multiply e x y h = let z : _≡_ {A = ℕ} 0 1 = cc in absurd (omega (arith, z))
+division-alike Divide e x y h = rw (alike (x / y) (omega (arith, div-le-self x y)))
+division-alike Modulus e x y h = rw (alike (x % y) (omega (arith, mod-le x y)))
+
+pub only-three-wrap : OnlyThreeWrap
+unfolding operationValue
+only-three-wrap (Signed op) e x y h = refl
+only-three-wrap (Unsigned op) e x y h = division-alike op e x y h
+only-three-wrap Negate e x y h = refl
+only-three-wrap Equal e x y h = refl
+only-three-wrap NotEqual e x y h = refl
+only-three-wrap (CompareSigned order) e x y h = refl
+only-three-wrap (CompareUnsigned order) e x y h = refl
+only-three-wrap (Set op) e x y h = refl
+only-three-wrap Not e x y h = refl

@@ -53,7 +53,7 @@ inOrder a (b ∷ words) =
     let second = issueOf b 0 in
     (earlier first second && not (earlier second first)) && inOrder b words
 
--- What comes after " 1/-": "02/-", " 2/A", "02/Z", " 3/-", "03/A", "10/-".
+-- What comes after " 1/-": "02/-", " 2/A", "02/Z", " 3/-", "03/A", " 9/Z", "10/-".
 unfoldable pub laterWords : List (List ℕ)
 laterWords =
     (0x30 ∷ 0x32 ∷ 0x2F ∷ 0x2D ∷ [])
@@ -61,6 +61,7 @@ laterWords =
     ∷ (0x30 ∷ 0x32 ∷ 0x2F ∷ 0x5A ∷ [])
     ∷ (0x20 ∷ 0x33 ∷ 0x2F ∷ 0x2D ∷ [])
     ∷ (0x30 ∷ 0x33 ∷ 0x2F ∷ 0x41 ∷ [])
+    ∷ (0x20 ∷ 0x39 ∷ 0x2F ∷ 0x5A ∷ [])
     ∷ (0x31 ∷ 0x30 ∷ 0x2F ∷ 0x2D ∷ [])
     ∷ []
 
