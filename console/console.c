@@ -1,28 +1,16 @@
 /* The console: checks, loads and runs run files, and prints the report of each, the text that the page printer prints. Standard output
  * has the reports alone; what is meant for people goes to standard error. */
-#include "icode.h"
+#include "arguments.h"
 #include "messages.h"
 #include "refusal.h"
-#include "run_file.h"
 
 #include <inttypes.h>
 #include <stdio.h>
-#include <string.h>
-
-#define PROGRAM "console"
-#define PROGRAM_VERSION "1.0"
 
 /* The worst one of all files is the program's. */
 enum status { STATUS_DONE = 0, STATUS_NOT_DONE = 1, STATUS_TROUBLE = 2 };
 
-struct request {
-    bool help;
-    bool version;
-    bool check_only;
-    bool standard_input; /* among the files */
-    char **files;
-    int file_count;
-};
+enum { MODULE_TEXT_MAX = 512 }; /* bytes of how a message names a library, with its end; a longer name is cut off */
 
 /* The numbers in a report's first two lines. */
 struct outcome {
@@ -33,49 +21,30 @@ struct outcome {
     uint32_t steps;
 };
 
-static void print_usage(FILE *to)
+/* The number of a refusal, its meaning, the library that is to blame where one is, and what is behind it. */
+static void print_refusal(const char *name, uint32_t number, const char *in, const char *reason)
 {
-    fputs("usage: console [--check-only] FILE...\n"
-          "       console --help | --version\n", to);
+    fprintf(stderr, PROGRAM ": %s: refused with %" PRIu32 ": %s%s%s%s%s\n", shown_name(name), number, meaning_of(number),
+            in[0] != '\0' ? "; " : "", in, reason[0] != '\0' ? "; " : "", reason);
 }
 
-static void print_help(void)
-{
-    print_usage(stdout);
-    fputs("\n"
-          "Checks, loads and runs run files, and prints the report of each; with several files, each file's name\n"
-          "before its report. The file - is standard input, and after -- every argument is a file.\n"
-          "\n"
-          "  --check-only  check without a run, and print the line of the check alone\n"
-          "  --help        print this text\n"
-          "  --version     print the program's version\n"
-          "\n"
-          "A refusal, a trap or a spent run is explained on standard error.\n"
-          "\n"
-          "Exit status: 0 when every file ran to a finish (with --check-only: was accepted), 1 when some was\n"
-          "refused, trapped or spent, 2 for errors of usage, reading or writing.\n", stdout);
-}
-
-/* The number of a refusal, its meaning, and what is behind it. */
 static void explain_refusal(const char *name, uint32_t number, struct bytes file)
 {
     char reason[REASON_MAX];
     find_reason(number, file, reason);
-    fprintf(stderr, PROGRAM ": %s: refused with %" PRIu32 ": %s%s%s\n", shown_name(name), number, meaning_of(number),
-            reason[0] != '\0' ? "; " : "", reason);
+    print_refusal(name, number, "", reason);
 }
 
-/* For a run that did not finish: how it ended, and where. */
-static void explain_end(const char *name, const struct outcome *outcome)
+/* For a run that did not finish: how it ended, and where; in which library where it was in one. */
+static void explain_end(const char *name, const struct outcome *outcome, const char *in)
 {
-    char text[LINE_TEXT_MAX];
-    const char *line = line_text(outcome->line, text);
+    char line[LINE_TEXT_MAX];
+    fprintf(stderr, PROGRAM ": %s: ", shown_name(name));
     if (outcome->end == ICODE_SPENT)
-        fprintf(stderr, PROGRAM ": %s: spent after %" PRIu32 " steps; next is offset %" PRIu32 ", %s\n", shown_name(name),
-                outcome->steps, outcome->at, line);
+        fprintf(stderr, "spent after %" PRIu32 " steps; next is", outcome->steps);
     else
-        fprintf(stderr, PROGRAM ": %s: trap %" PRIu32 ": %s; at offset %" PRIu32 ", %s\n", shown_name(name), outcome->end,
-                meaning_of(outcome->end), outcome->at, line);
+        fprintf(stderr, "trap %" PRIu32 ": %s; at", outcome->end, meaning_of(outcome->end));
+    fprintf(stderr, " offset %" PRIu32 ", %s%s%s\n", outcome->at, line_text(outcome->line, line), in[0] != '\0' ? ", " : "", in);
 }
 
 /* Reads the numbers from a report's text: the check's alone for a refusal, else all five. */
@@ -106,7 +75,7 @@ static enum status report_file(const char *name, struct bytes file)
     if (outcome.check != 0)
         explain_refusal(name, outcome.check, file);
     else
-        explain_end(name, &outcome);
+        explain_end(name, &outcome, "");
     return STATUS_NOT_DONE;
 }
 
@@ -127,7 +96,58 @@ static enum status check_file(const char *name, struct bytes file)
     return STATUS_NOT_DONE;
 }
 
-static enum status do_file(const char *name, const struct request *request)
+/* How messages go on where a library is to blame: with its file and SID. */
+static const char *of_library(const struct set *set, size_t module, char text[MODULE_TEXT_MAX])
+{
+    const struct module *library = &set->modules[module < set->count ? module : 0];
+    text[0] = '\0';
+    if (library != set->modules)
+        (void)snprintf(text, MODULE_TEXT_MAX, "in library %" PRIu32 ", %s", library->sid, shown_name(library->name));
+    return text;
+}
+
+static void explain_set_refusal(const struct set *set, const struct set_run *run)
+{
+    char reason[REASON_MAX], text[MODULE_TEXT_MAX];
+    size_t module = find_set_reason(run->number, (struct modules){set->modules, set->count}, run->refused, reason);
+    print_refusal(set->modules[0].name, run->number, of_library(set, module, text), reason);
+}
+
+static void explain_set_end(const struct set *set, const struct set_run *run)
+{
+    char text[MODULE_TEXT_MAX];
+    const uint32_t *outcome = run->outcome;
+    struct outcome end = {.end = outcome[ICODE_END], .at = outcome[ICODE_PLACE], .line = run->line, .steps = outcome[ICODE_STEPS]};
+    explain_end(set->modules[0].name, &end, of_library(set, outcome[ICODE_PLACE_MODULE], text));
+}
+
+/* Checks, loads and runs with libraries; or checks alone. */
+static enum status do_set(const char *name, struct bytes file, struct set *set, bool check_only)
+{
+    static struct set_run run;
+    struct run_file parts;
+    if (split_run_file(file, &parts) != NULL)
+        return check_only ? check_file(name, file) : report_file(name, file);
+    lend(name, &parts, set);
+    if (check_only) {
+        check_set(set, &run);
+        printf("check %" PRIu32 "\n", run.number);
+    } else {
+        run_set(set, &run);
+        print_set_page(set, &run);
+    }
+    if (!flush_output(PROGRAM))
+        return STATUS_TROUBLE;
+    if (run.number == 0 && (check_only || run.outcome[ICODE_END] == ICODE_FINISHED))
+        return STATUS_DONE;
+    if (run.number != 0)
+        explain_set_refusal(set, &run);
+    else
+        explain_set_end(set, &run);
+    return STATUS_NOT_DONE;
+}
+
+static enum status do_file(const char *name, struct request *request)
 {
     uint8_t buffer[ICODE_RUN_FILE_MAX + 1]; /* one byte more shows that a file is too long */
     struct bytes file = {buffer, 0};
@@ -137,12 +157,16 @@ static enum status do_file(const char *name, const struct request *request)
     }
     if (request->file_count > 1)
         printf("%s\n", name);
+    if (request->set.count > 1)
+        return do_set(name, file, &request->set, request->check_only);
     return request->check_only ? check_file(name, file) : report_file(name, file);
 }
 
-static enum status do_files(const struct request *request)
+static enum status do_files(struct request *request)
 {
     enum status worst = STATUS_DONE;
+    if (!read_libraries(PROGRAM, &request->set))
+        return STATUS_TROUBLE;
     for (int i = 0; i < request->file_count && !ferror(stdout); i++) {
         enum status status = do_file(request->files[i], request);
         if (status > worst)
@@ -151,62 +175,36 @@ static enum status do_files(const struct request *request)
     return worst;
 }
 
-static bool parse_option(const char *option, struct request *request)
+/* Does what the arguments ask for. */
+static enum status follow(struct request *request)
 {
-    if (strcmp(option, "--check-only") == 0)
-        request->check_only = true;
-    else if (strcmp(option, "--help") == 0)
-        request->help = true;
-    else if (strcmp(option, "--version") == 0)
-        request->version = true;
-    else
-        return false;
-    return true;
-}
-
-/* Notes the options and moves the files' names to the front; answers false, with a message, for arguments that cannot be followed. */
-static bool parse_arguments(int argc, char **argv, struct request *request)
-{
-    bool options_ended = false;
-    *request = (struct request){.files = argv};
-    for (int i = 1; i < argc; i++) {
-        bool standard_input = strcmp(argv[i], "-") == 0;
-        if (standard_input && request->standard_input) {
-            fputs(PROGRAM ": standard input can be read only once\n", stderr);
-            return false;
-        }
-        request->standard_input |= standard_input;
-        if (options_ended || standard_input || argv[i][0] != '-') {
-            request->files[request->file_count++] = argv[i];
-        } else if (strcmp(argv[i], "--") == 0) {
-            options_ended = true;
-        } else if (!parse_option(argv[i], request)) {
-            fprintf(stderr, PROGRAM ": unknown option '%s'\n", argv[i]);
-            return false;
-        }
-    }
-    return true;
-}
-
-int main(int argc, char **argv)
-{
-    struct request request;
-    if (!parse_arguments(argc, argv, &request)) {
-        print_usage(stderr);
-        return STATUS_TROUBLE;
-    }
-    ignore_broken_pipes();
-    if (request.help || request.version) {
-        if (request.help)
+    if (request->help || request->version) {
+        if (request->help)
             print_help();
         else
             puts(PROGRAM " " PROGRAM_VERSION);
         return flush_output(PROGRAM) ? STATUS_DONE : STATUS_TROUBLE;
     }
-    if (request.file_count == 0) {
+    if (request->file_count == 0) {
         fputs(PROGRAM ": no file is given\n", stderr);
         print_usage(stderr);
         return STATUS_TROUBLE;
     }
-    return do_files(&request);
+    return do_files(request);
+}
+
+int main(int argc, char **argv)
+{
+    struct request request = {.files = argv};
+    enum status status = STATUS_TROUBLE;
+    ignore_broken_pipes();
+    if (!make_set((size_t)argc, &request.set)) {
+        fputs(PROGRAM ": no memory\n", stderr);
+    } else if (parse_arguments(argc, argv, &request)) {
+        status = follow(&request);
+    } else {
+        print_usage(stderr);
+    }
+    drop_set(&request.set);
+    return status;
 }

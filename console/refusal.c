@@ -1,63 +1,23 @@
 #include "refusal.h"
 
-#include "icode.h"
-#include "messages.h"
-
 #include <inttypes.h>
 #include <stdio.h>
-
-/* Mnemonics as the library numbers them (crates/mnemonic/specs/Mnemonic.antt). */
-enum { JUMP = 13, JUMP_F = 16, CALL = 17, ITER = 51, SWITCH = 53, SWITCH_X = 54, LEAVE = 55, ENTER = 56, RTN = 57 };
 
 /* The table of a switch: the distances of exit and ELSE, then its rows. */
 enum { SWITCH_EXIT = 3, SWITCH_ROWS = 7, SWITCH_ROW_BYTES = 2, RANGE_BYTES = 8 };
 
-struct instruction {
-    uint32_t at;
-    uint32_t len; /* 0 where there is none */
-    uint32_t mnemonic;
-    uint32_t operand;
-    uint32_t procedure;
-};
-
-/* The code of a sound record, cut into instructions. */
-struct code {
-    const uint8_t *at;
-    uint32_t len;
-    uint32_t procedures;
-    uint16_t owner[ICODE_CODE_MAX]; /* by offset: 1 more than the procedure of the instruction that begins there, 0 where none does */
-};
-
-static uint32_t entry(const struct code *code, uint32_t procedure)
-{
-    return halfword_at(code->at + 2 * procedure);
-}
-
-/* Code stands in the order of the procedures 1, 2, .. and then 0. */
-static uint32_t region_end(const struct code *code, uint32_t procedure)
-{
-    return procedure == 0 ? code->len : entry(code, (procedure + 1) % code->procedures);
-}
-
-static struct instruction decode(const struct code *code, uint32_t procedure, uint32_t at)
-{
-    uint32_t out[ICODE_DECODED_WORDS] = {0};
-    (void)icode_bench_decode(code->at, code->len, region_end(code, procedure), at, out, ICODE_DECODED_WORDS);
-    return (struct instruction){.at = at, .len = out[ICODE_BYTES], .mnemonic = out[ICODE_MNEMONIC], .operand = out[ICODE_OPERAND],
-                                .procedure = procedure};
-}
-
 static struct instruction first_instruction(const struct code *code)
 {
-    uint32_t procedure = 1 % code->procedures;
-    return decode(code, procedure, entry(code, procedure));
+    return first_of(code, 1 % code->procedures);
 }
 
 /* The next one in the order of the code, which may be the first of the next procedure. */
 static struct instruction next_instruction(const struct code *code, const struct instruction *instruction)
 {
-    uint32_t next = instruction->at + instruction->len, procedure = instruction->procedure;
-    return decode(code, next == region_end(code, procedure) ? (procedure + 1) % code->procedures : procedure, next);
+    bool last = ends_region(code, instruction);
+    if (last && instruction->procedure == 0)
+        return (struct instruction){0};
+    return last ? first_of(code, (instruction->procedure + 1) % code->procedures) : next_of(code, instruction);
 }
 
 /* Whether a place is no start in the instruction's region; notes where it leads then. */
@@ -132,12 +92,11 @@ static bool breaks(uint32_t number, const struct code *code, const struct instru
     }
 }
 
-/* The first instruction behind 12, 13 or 14, with its place before what it breaks. */
-static void find_in_code(uint32_t number, struct bytes record, char reason[REASON_MAX])
+/* The first instruction behind 12, 13 or 14, with its place before what it breaks; false where the record has none. */
+static bool find_in_code(uint32_t number, struct bytes record, char reason[REASON_MAX])
 {
-    struct code code = {.at = record.at + ICODE_HEADER_BYTES, .len = word_at(record.at + 4)};
-    char fault[REASON_MAX], line[LINE_TEXT_MAX];
-    code.procedures = entry(&code, 0) == 2 ? 1 : entry(&code, 1) / 2;
+    struct code code = code_of(record);
+    char fault[REASON_MAX];
     struct instruction found = first_instruction(&code);
     for (; found.len != 0; found = next_instruction(&code, &found))
         code.owner[found.at] = (uint16_t)(found.procedure + 1);
@@ -145,35 +104,120 @@ static void find_in_code(uint32_t number, struct bytes record, char reason[REASO
     while (found.len != 0 && !breaks(number, &code, &found, fault))
         found = next_instruction(&code, &found);
     if (found.len == 0)
-        return;
-    (void)line_text((uint32_t)icode_line(record.at, record.len, found.at), line);
-    (void)snprintf(reason, REASON_MAX, "at offset %" PRIu32 ", %s: %.99s", found.at, line, fault);
+        return false;
+    write_at(record, &found, fault, reason);
+    return true;
+}
+
+/* The first module with an instruction behind 12, 13 or 14; a 14 may also be that of a call into a library. */
+static size_t find_in_modules(uint32_t number, struct modules set, char reason[REASON_MAX])
+{
+    size_t i = 0;
+    while (i < set.count && !find_in_code(number, set.at[i].parts.record, reason))
+        i++;
+    return i == set.count && number == ICODE_CALLEE_WRONG ? find_external_callee_fault(set, reason) : i;
+}
+
+/* The words that the modules take in memory before anything is called: 3+g+c of each. */
+static uint32_t least_memory(struct modules set)
+{
+    uint32_t least = 0;
+    for (size_t i = 0; i < set.count; i++) {
+        const uint8_t *header = set.at[i].parts.record.at;
+        least += 3 + word_at(header + 8) + word_at(header + 12);
+    }
+    return least;
 }
 
 /* Every cause of the load's 8 that holds. */
-static void find_load_causes(const struct run_file *parts, char reason[REASON_MAX])
+static void find_load_causes(struct modules set, char reason[REASON_MAX])
 {
-    uint32_t globals = word_at(parts->record.at + 8), constants = word_at(parts->record.at + 12);
-    uint32_t parameters = (uint32_t)(parts->parameters.len / 4), least = 3 + globals + constants;
+    const struct run_file *parts = &set.at[0].parts;
+    uint32_t globals = word_at(parts->record.at + 8), least = least_memory(set);
+    uint32_t parameters = (uint32_t)(parts->parameters.len / 4);
+    const char *of_all = set.count > 1 ? " of all modules" : "";
     size_t len = 0;
     if (parameters > globals)
         len += (size_t)snprintf(reason, REASON_MAX, "parameters %" PRIu32 ", globals %" PRIu32, parameters, globals);
     if (parts->memory_words < least)
-        len += (size_t)snprintf(reason + len, REASON_MAX - len, "%smemory %" PRIu32 ", 3+g+c is %" PRIu32, len > 0 ? ", " : "",
-                                parts->memory_words, least);
+        len += (size_t)snprintf(reason + len, REASON_MAX - len, "%smemory %" PRIu32 ", 3+g+c%s is %" PRIu32, len > 0 ? ", " : "",
+                                parts->memory_words, of_all, least);
     if (parts->stack_words > ICODE_STACK_MAX)
         (void)snprintf(reason + len, REASON_MAX - len, "%sstack %" PRIu32, len > 0 ? ", " : "", parts->stack_words);
 }
 
+/* The first module whose record has a number. */
+static size_t with_record_number(uint32_t number, struct modules set)
+{
+    size_t i = 0;
+    while (i < set.count && icode_record_number(set.at[i].parts.record.at, set.at[i].parts.record.len) != number)
+        i++;
+    return i;
+}
+
+/* Whether a results list has a wrong length or content. */
+static bool results_are_wrong(const struct run_file *parts)
+{
+    struct code code = code_of(parts->record);
+    if (parts->results.len != code.procedures || parts->results.at[0] != 0)
+        return true;
+    for (size_t i = 0; i < parts->results.len; i++)
+        if (parts->results.at[i] > 2)
+            return true;
+    return false;
+}
+
+/* Whether some instruction cannot be decoded: it is the last that is found. */
+static bool is_cut_short(const struct run_file *parts)
+{
+    struct code code = code_of(parts->record);
+    struct instruction found = first_instruction(&code), last = found;
+    for (; found.len != 0; found = next_instruction(&code, &found))
+        last = found;
+    return last.procedure != 0 || !ends_region(&code, &last);
+}
+
+static size_t first_module(struct modules set, bool (*is_behind)(const struct run_file *))
+{
+    size_t i = 0;
+    while (i < set.count && !is_behind(&set.at[i].parts))
+        i++;
+    return i;
+}
+
+size_t find_set_reason(uint32_t number, struct modules set, size_t refused, char reason[REASON_MAX])
+{
+    reason[0] = '\0';
+    switch (number) {
+    case ICODE_ROOM_WRONG:
+        find_load_causes(set, reason);
+        return set.count;
+    case ICODE_NO_START:
+    case ICODE_ENTER_WRONG:
+    case ICODE_CALLEE_WRONG:
+        return find_in_modules(number, set, reason);
+    case ICODE_NO_PICTURE:
+        return refused;
+    case ICODE_IMPORTS_WRONG:
+        return find_import_fault(set, reason);
+    case ICODE_RELOCATION_WRONG:
+        return find_relocation_fault(set, reason);
+    case ICODE_RESULTS_WRONG:
+        return first_module(set, results_are_wrong);
+    case ICODE_CODE_UNSERVED:
+    case ICODE_CODE_PAST:
+        return first_module(set, is_cut_short);
+    default:
+        return with_record_number(number, set);
+    }
+}
+
 void find_reason(uint32_t number, struct bytes file, char reason[REASON_MAX])
 {
-    struct run_file parts;
-    const char *broken = split_run_file(file, &parts);
-    reason[0] = '\0';
+    struct module alone = {0};
+    const char *broken = split_run_file(file, &alone.parts);
     if (broken != NULL)
         (void)snprintf(reason, REASON_MAX, "%s", broken);
-    else if (number == ICODE_ROOM_WRONG)
-        find_load_causes(&parts, reason);
-    else if (number >= ICODE_NO_START && number <= ICODE_CALLEE_WRONG)
-        find_in_code(number, parts.record, reason);
+    else
+        (void)find_set_reason(number, (struct modules){&alone, 1}, 0, reason);
 }

@@ -3,8 +3,8 @@
 
     console/test.py CONSOLE FOLDER...
 
-Each FOLDER has run files NAME.run with the reports NAME.out that are expected of them, byte for byte. Prints what fails, and exits
-with 1 then.
+Each FOLDER has run files NAME.run with the reports NAME.out that are expected of them, byte for byte. Where there is NAME.libraries too,
+the report is that with these libraries: SID=FILE, one in a line, each FILE beside it. Prints what fails, and exits with 1 then.
 """
 
 import os
@@ -15,9 +15,11 @@ import tempfile
 from pathlib import Path
 
 FINISHED = re.compile(rb"check 0\nend 0 ")
-ENDED = re.compile(rb"check 0\nend (\d+) at (\d+) line (\d+) steps (\d+)\n")
+ENDED = re.compile(rb"check 0\nend (\d+) at (\d+) line (\d+) steps (\d+)(?: module \d+)?\n")
 MEANINGS = {1: "record under 28 bytes", 8: "load: more parameters than globals", 15: "some region has no picture",
-            16: "run file malformed or too long"}
+            16: "run file malformed or too long",
+            17: "an import not among the lent libraries, two libraries under one SID, or over 16 modules",
+            18: "relocation entries not just the library bytes of the cut external instructions, or such a byte 0 or past the imports"}
 TRAPS = {30: "zero divisor", 31: "number does not fit", 32: "not live", 33: "protected", 34: "not a boolean", 35: "memory full",
          36: "stack full", 37: "64 calls", 38: "FREE below FP"}
 
@@ -72,16 +74,24 @@ def check_line(report):
     return 0 if number == 8 else number
 
 
+def libraries_of(page):
+    """The options that lend a page its libraries; none for most."""
+    listed = page.with_suffix(".libraries")
+    rows = [line.split("=", 1) for line in listed.read_text().splitlines()] if listed.exists() else []
+    return [word for sid, name in rows for word in ("--library", f"{sid}={page.parent / name}")]
+
+
 def test_page(tests, page):
     report = page.with_suffix(".out").read_bytes()
     expected = 0 if FINISHED.match(report) else 1
-    status, out, err = tests.run(page)
+    libraries = libraries_of(page)
+    status, out, err = tests.run(*libraries, page)
     tests.expect(page, (status, out) == (expected, report) and explained(report, err), (status, out, err))
-    status, out, err = tests.run("-", input=page.read_bytes())
+    status, out, err = tests.run(*libraries, "-", input=page.read_bytes())
     named = err == "" or err.startswith("console: standard input: ")
     tests.expect(f"{page} from standard input", (status, out) == (expected, report) and named, (status, out, err))
     number = check_line(report)
-    status, out, err = tests.run("--check-only", page)
+    status, out, err = tests.run("--check-only", page, *libraries)
     good = (status, out) == (min(number, 1), b"check %d\n" % number) and err.count("\n") == min(number, 1)
     tests.expect(f"--check-only {page}", good, (status, out, err))
 
@@ -180,13 +190,14 @@ def test_largest(tests):
     tests.expect("largest report", (status, out) == (1, report) and "trap 36: stack full" in err, (status, out[:80], err))
 
 
-def small_file(code, results=b"\0", parameters=0, memory=64, stack=16, pairs=()):
+def small_file(code, results=b"\0", parameters=0, memory=64, stack=16, pairs=(), imports=(), relocation=()):
     """A run file with two globals and a constant, and any code."""
-    source = b"".join(number.to_bytes(4, "big") for pair in pairs for number in pair)
-    header = b"".join(size.to_bytes(4, "big") for size in (0, len(code), 2, 1, 0, 0, len(source) // 4))
+    words = lambda numbers: b"".join(number.to_bytes(4, "big") for number in numbers)
+    source, imports, relocation = words(number for pair in pairs for number in pair), words(imports), words(relocation)
+    header = words((len(imports) // 4, len(code), 2, 1, len(relocation) // 4, 0, len(source) // 4))
     lists = bytes([len(results)]) + results + bytes([parameters]) + bytes(4 * parameters)
     sizes = (100).to_bytes(4, "big") + memory.to_bytes(2, "big") + stack.to_bytes(2, "big")
-    return b"TRK\0\1" + lists + sizes + header + code + bytes(4) + source
+    return b"TRK\0\1" + lists + sizes + header + imports + code + bytes(4) + relocation + source
 
 
 def test_reasons(tests):
@@ -226,10 +237,124 @@ def test_reasons(tests):
         tests.expect(f"accepted: {code.hex()}", (status, err) == (0, ""), (status, out, err))
 
 
+# Procedure 1 divides its parameter by global 0, then procedure 0 returns; and main modules that use it.
+DIVIDES = bytes([0, 11, 0, 4, 0xE8, 1, 0, 0x10, 0x20, 0xA3, 0xE9, 0xE9])
+LIBRARY = small_file(DIVIDES, b"\0\1", pairs=[(4, 7), (9, 8)])
+CALLS = bytes([0, 2, 0x06, 0xE6, 1, 1, 0x50, 0xE9])                     # LOAD_C.6, CALL_E 1, 1, STOR_G.0, RTN
+STORES = bytes([0, 2, 0x03, 0x98, 1, 0]) + CALLS[2:7] + bytes([0x89, 1, 0, 0x51, 0xE9])  # and STOR_E, LOAD_E of its global 0
+TRAPPED = b"check 0\nend 30 at 9 line 8 steps 5 module 1\ns 6 0\ng 0 0\n"
+FILLED = b"check 0\nend 0 at 15 line 0 steps 13 module 0\ns\ng 2 3\n"
+
+
+class Modules:
+    """Files of a main module and of libraries, in a folder."""
+
+    def __init__(self, tests, folder):
+        self.tests, self.folder = tests, folder
+
+    def run(self, main, libraries, *options):
+        """Runs a main module with libraries, each a SID and bytes; its file is named like the SID."""
+        (self.folder / "main").write_bytes(main)
+        for at, (sid, content) in enumerate(libraries):
+            (self.folder / f"{at}-{sid}").write_bytes(content)
+        lent = [word for at, (sid, _) in enumerate(libraries) for word in ("--library", f"{sid}={at}-{sid}")]
+        return self.tests.run(*lent, "main", *options, cwd=self.folder)
+
+    def expect(self, name, main, libraries, status, page, words):
+        found = self.run(main, libraries)
+        good = found[:2] == (status, page) and found[2].count("\n") == (words != "") and words in found[2]
+        self.tests.expect(name, good, found)
+
+
+def test_libraries(tests, folder):
+    """Pages with libraries: values through CALL_E, STOR_E and LOAD_E, the module and the line of the end."""
+    modules = Modules(tests, folder)
+    main = small_file(CALLS, imports=[7], relocation=[4])
+    place = "console: main: trap 30: zero divisor; at offset 9, source line 8, in library"
+    modules.expect("trap in a library", main, [(7, LIBRARY)], 1, TRAPPED, f"{place} 7, 0-7\n")
+    modules.expect("SID in hex", main, [("0x7", LIBRARY)], 1, TRAPPED, f"{place} 7, 0-0x7\n")
+    second = TRAPPED.replace(b"module 1", b"module 2")
+    modules.expect("second library", main, [(9, LIBRARY), (7, LIBRARY)], 1, second, f"{place} 7, 1-7\n")
+    stores = small_file(STORES, imports=[7], relocation=[4, 8, 12])
+    modules.expect("globals of a library", stores, [(7, LIBRARY)], 0, FILLED, "")
+    modules.expect("SID 4294967295", small_file(CALLS, imports=[2**32 - 1], relocation=[4]), [("0xFFFFffff", LIBRARY)], 1, TRAPPED,
+                   f"{place} 4294967295, 0-0xFFFFffff\n")
+    spent = small_file(CALLS, imports=[7], relocation=[4]).replace((100).to_bytes(4, "big"), (4).to_bytes(4, "big"))
+    modules.expect("spent in a library", spent, [(7, LIBRARY)], 1, b"check 0\nend 1 at 8 line 7 steps 4 module 1\ns 6\ng 0 0\n",
+                   "spent after 4 steps; next is offset 8, source line 7, in library 7, 0-7\n")
+    unused = small_file(bytes([0, 2, 0xE9]), memory=96)
+    finished = b"check 0\nend 0 at 2 line 0 steps 1 module 0\ns\ng 0 0\n"
+    modules.expect("15 libraries that nobody imports", unused, [(sid, unused) for sid in range(15)], 0, finished, "")
+    status, out, err = modules.run(main, [(7, LIBRARY)], "--check-only")
+    tests.expect("--check-only with a library", (status, out, err) == (0, b"check 0\n", ""), (status, out, err))
+    status, out, err = modules.run(main, [(7, LIBRARY)], "main")
+    tests.expect("two files with a library", (status, out) == (1, (b"main\n" + TRAPPED) * 2), (status, out, err))
+    status, out, err = tests.run("main", "--library", "7=-", cwd=folder, input=LIBRARY)
+    tests.expect("library from standard input", out == TRAPPED and "in library 7, standard input\n" in err, (status, out, err))
+    status, out, err = tests.run("--library", "7=0-7", folder / "none", "main", cwd=folder)
+    tests.expect("a page beside a missing one", status == 2 and out == b"main\n" + TRAPPED and "No such file" in err, (status, out, err))
+    modules.expect("main module that is no run file", b"TRK", [(7, LIBRARY)], 1, b"check 16\n", "does not begin with TRK and version 1\n")
+
+
+def test_library_refusals(tests, folder):
+    """The number, and the module that is to blame."""
+    modules = Modules(tests, folder)
+    main = small_file(CALLS, imports=[7], relocation=[4])
+    body = bytes([0, 2, 0xE9])
+    plain = small_file(body, memory=96)
+    cases = [
+        (17, main, [], "import 1 is SID 7, which no --library lends"), (17, main, [(8, LIBRARY)], "import 1 is SID 7, which no"),
+        (17, main, [(7, small_file(body, imports=[7, 5]))], "in library 7, 0-7; import 2 is SID 5, which no"),
+        (17, main, [(7, LIBRARY), (7, plain)], "SID 7 is lent twice"),
+        (17, main, [(sid, LIBRARY) for sid in range(16)], "there are 17 modules, the main one with them"),
+        (18, small_file(CALLS, imports=[7]), [(7, LIBRARY)], "at offset 3, no source line: its library byte has no"),
+        (18, small_file(CALLS, imports=[7], relocation=[4, 5]), [(7, LIBRARY)], "relocation entry 2 is 5, where no external instruction"),
+        (18, small_file(CALLS, relocation=[4]), [(7, LIBRARY)], "at offset 3, no source line: it names library 1 of 0 imports"),
+        (18, main, [(7, small_file(body, relocation=[2**32 - 1]))], "in library 7, 0-7; relocation entry 1 is 4294967295, where no"),
+        (18, small_file(CALLS), [], "it names library 1 of 0 imports"),
+        (1, main, [(7, LIBRARY), (8, plain[:40])], "in library 8, 1-8\n"), (3, main, [(7, plain[:-1])], "in library 7, 0-7\n"),
+        (9, main, [(7, small_file(DIVIDES, b"\0"))], "in library 7, 0-7\n"),
+        (10, main, [(7, small_file(bytes([0, 2, 0xFE])))], "in library 7, 0-7\n"),
+        (11, main, [(7, small_file(bytes([0, 2, 0x83])))], "in library 7, 0-7\n"),
+        (12, main, [(7, small_file(bytes([0, 2, 0xFF])))], "in library 7, 0-7; at offset 2, no source line: it leads to 3"),
+        (14, main, [(7, plain)], "at offset 3, no source line: it calls procedure 1 of 1 in library 1, SID 7\n"),
+        (15, plain, [(7, LIBRARY), (8, small_file(DIVIDES, b"\0\2"))], "in library 8, 1-8\n"),
+        (15, main, [(7, small_file(DIVIDES, b"\0\2"))], "main: refused with 15: some region has no picture\n"),
+        (8, small_file(CALLS, imports=[7], relocation=[4], memory=11), [(7, LIBRARY)], "memory 11, 3+g+c of all modules is 12\n"),
+        (8, small_file(CALLS, imports=[7], relocation=[4], stack=65535), [(7, LIBRARY)], "stack 65535\n"),
+    ]
+    for number, content, libraries, words in cases:
+        modules.expect(f"{number} with libraries: {words}", content, libraries, 1, b"check %d\n" % number, words)
+        found = modules.run(content, libraries)[2]
+        tests.expect(f"{number}: {found}", f"main: refused with {number}: {MEANINGS.get(number, '')}" in found, found)
+
+
+def test_library_usage(tests, page, folder):
+    (folder / "library").write_bytes(LIBRARY)
+    (folder / "long").write_bytes(LIBRARY.ljust(8193, b"\0"))
+    (folder / "record").write_bytes(LIBRARY[16:])
+    for text, words in (("7", "is not SID=FILE"), ("", "is not SID=FILE"), ("7=", "has no FILE behind the ="), ("=library", "has no SID"),
+                        ("x=library", "has no SID"), ("-1=library", "has no SID"), ("4294967296=library", "from 0 to 4294967295"),
+                        ("0x=library", "has no SID"), ("0x1g=library", "has no SID"), ("7 =library", "has no SID"),
+                        ("1a=library", "has no SID"), ("18446744073709551617=library", "has no SID")):
+        tests.expect_usage_error(f"--library '{text}'", "--library", text, page, words=words)
+    tests.expect_usage_error("--library at the end", page, "--library", words="--library needs SID=FILE behind it")
+    tests.expect_usage_error("--library with =", "--library=7=library", page, words="unknown option '--library=7=library'")
+    tests.expect_usage_error("no file beside a library", "--library", f"7={folder / 'library'}", words="no file is given")
+    tests.expect_usage_error("standard input twice, in a library", "--library", "7=-", "-", words="only once")
+    for name, words in (("missing", "cannot read 'missing': No such file or directory"), (".", "cannot read '.': Is a directory"),
+                        ("long", "library long is no run file: it is longer than 8,192 bytes"),
+                        ("record", "library record is no run file: it does not begin with TRK and version 1")):
+        status, out, err = tests.run("--library", f"7={name}", page, cwd=folder)
+        tests.expect(f"library {name}", (status, out, err) == (2, b"", f"console: {words}\n"), (status, out, err))
+
+
 def test_outputs(tests, page):
     read, write = os.pipe()
     os.close(read)
-    for arguments in ((page,), (page, page), ("--check-only", page), ("--help",), ("--version",)):
+    lent = ("--library", f"7={page}")
+    for arguments in ((page,), (page, page), ("--check-only", page), ("--help",), ("--version",), (*lent, page), (*lent, page, page),
+                      ("--check-only", page, *lent)):
         with open("/dev/full", "wb") as full:
             outputs = [("full", "No space left on device", {"stdout": full}), ("closed pipe", "Broken pipe", {"stdout": write}),
                        ("closed", "Bad file descriptor", {"stdout": None, "preexec_fn": lambda: os.close(1)})]
@@ -252,11 +377,14 @@ def main():
         return 2
     for page in pages:
         test_page(tests, page)
-    test_all_pages(tests, pages)
+    test_all_pages(tests, [page for page in pages if not libraries_of(page)])
     page, report = finished[0], finished[0].with_suffix(".out").read_bytes()
     test_usage(tests, page, report)
     with tempfile.TemporaryDirectory() as folder:
         test_inputs(tests, page, report, Path(folder))
+        test_libraries(tests, Path(folder))
+        test_library_refusals(tests, Path(folder))
+        test_library_usage(tests, page, Path(folder))
     test_slow_pipe(tests, page, report)
     test_largest(tests)
     test_reasons(tests)

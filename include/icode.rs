@@ -82,6 +82,68 @@ extern "C" {
         outcome: *mut u32,
         outcome_len: usize,
     ) -> u32;
+    fn icode_set_check(
+        records: *const u8,
+        records_len: usize,
+        results: *const u8,
+        results_len: usize,
+        directory: *const u32,
+        directory_len: usize,
+        own: u32,
+        workspace: *mut u16,
+        workspace_len: usize,
+    ) -> u32;
+    fn icode_bench_set_load(
+        records: *const u8,
+        records_len: usize,
+        directory: *const u32,
+        directory_len: usize,
+        parameters: *const u32,
+        parameters_len: usize,
+        copy: *mut u8,
+        copy_len: usize,
+        memory: *mut u32,
+        memory_len: usize,
+        stack: *const u32,
+        stack_len: usize,
+        state: *mut u32,
+        state_len: usize,
+    ) -> u32;
+    fn icode_bench_set_run(
+        records: *const u8,
+        records_len: usize,
+        directory: *const u32,
+        directory_len: usize,
+        budget: u32,
+        copy: *const u8,
+        copy_len: usize,
+        memory: *mut u32,
+        memory_len: usize,
+        stack: *mut u32,
+        stack_len: usize,
+        state: *mut u32,
+        state_len: usize,
+        outcome: *mut u32,
+        outcome_len: usize,
+    ) -> u32;
+    fn icode_bench_set_run_by(
+        at_once: u32,
+        records: *const u8,
+        records_len: usize,
+        directory: *const u32,
+        directory_len: usize,
+        budget: u32,
+        copy: *const u8,
+        copy_len: usize,
+        memory: *mut u32,
+        memory_len: usize,
+        stack: *mut u32,
+        stack_len: usize,
+        state: *mut u32,
+        state_len: usize,
+        outcome: *mut u32,
+        outcome_len: usize,
+    ) -> u32;
 }
 
 // SAFETY, for every call below: each pointer and length are those of one Rust slice, mutable
@@ -199,6 +261,126 @@ pub fn run_by(
             record.as_ptr(),
             record.len(),
             budget,
+            memory.as_mut_ptr(),
+            memory.len(),
+            stack.as_mut_ptr(),
+            stack.len(),
+            state.as_mut_ptr(),
+            state.len(),
+            outcome.as_mut_ptr(),
+            outcome.len(),
+        )
+    }
+}
+
+pub fn set_check(
+    records: &[u8],
+    results: &[u8],
+    directory: &[u32],
+    own: u32,
+    workspace: &mut [u16],
+) -> u32 {
+    unsafe {
+        icode_set_check(
+            records.as_ptr(),
+            records.len(),
+            results.as_ptr(),
+            results.len(),
+            directory.as_ptr(),
+            directory.len(),
+            own,
+            workspace.as_mut_ptr(),
+            workspace.len(),
+        )
+    }
+}
+
+/// The stack is lent as in `load`.
+pub fn set_load(
+    records: &[u8],
+    directory: &[u32],
+    parameters: &[u32],
+    copy: &mut [u8],
+    memory: &mut [u32],
+    stack: &mut [u32],
+    state: &mut [u32],
+) -> u32 {
+    unsafe {
+        icode_bench_set_load(
+            records.as_ptr(),
+            records.len(),
+            directory.as_ptr(),
+            directory.len(),
+            parameters.as_ptr(),
+            parameters.len(),
+            copy.as_mut_ptr(),
+            copy.len(),
+            memory.as_mut_ptr(),
+            memory.len(),
+            stack.as_mut_ptr(),
+            stack.len(),
+            state.as_mut_ptr(),
+            state.len(),
+        )
+    }
+}
+
+/// The copy is lent as mutable too, though it is not written.
+#[allow(clippy::too_many_arguments)]
+pub fn set_run(
+    records: &[u8],
+    directory: &[u32],
+    budget: u32,
+    copy: &mut [u8],
+    memory: &mut [u32],
+    stack: &mut [u32],
+    state: &mut [u32],
+    outcome: &mut [u32],
+) -> u32 {
+    unsafe {
+        icode_bench_set_run(
+            records.as_ptr(),
+            records.len(),
+            directory.as_ptr(),
+            directory.len(),
+            budget,
+            copy.as_mut_ptr(),
+            copy.len(),
+            memory.as_mut_ptr(),
+            memory.len(),
+            stack.as_mut_ptr(),
+            stack.len(),
+            state.as_mut_ptr(),
+            state.len(),
+            outcome.as_mut_ptr(),
+            outcome.len(),
+        )
+    }
+}
+
+/// The same for this copy.
+#[allow(clippy::too_many_arguments)]
+pub fn set_run_by(
+    at_once: u32,
+    records: &[u8],
+    directory: &[u32],
+    budget: u32,
+    copy: &mut [u8],
+    memory: &mut [u32],
+    stack: &mut [u32],
+    state: &mut [u32],
+    outcome: &mut [u32],
+) -> u32 {
+    unsafe {
+        icode_bench_set_run_by(
+            at_once,
+            records.as_ptr(),
+            records.len(),
+            directory.as_ptr(),
+            directory.len(),
+            budget,
+            copy.as_mut_ptr(),
+            copy.len(),
             memory.as_mut_ptr(),
             memory.len(),
             stack.as_mut_ptr(),

@@ -71,7 +71,7 @@ def header_numbers():
 
 def console_messages():
     names = header_numbers()[1]
-    return {names.get(name, name): words for name, words in re.findall(r'\[(\w+)\] = "(.*)",', text("console/messages.c"))}
+    return {names.get(name, name): words for name, words in re.findall(r'\[(\w+)\] =\s+"(.*)",', text("console/messages.c"))}
 
 
 def listing_messages():
@@ -195,6 +195,24 @@ def names_in_documents():
                 yield f"{document}: nothing is named {quoted}"
 
 
+def defined(path):
+    """The names that a file of definitions declares, its fields and constructors too."""
+    heads = re.findall(r"^\s*(?:abbrev |unfoldable )?(?:pub )?(?:record |data )?([\w' ]+?)(?: [({].*)? :", path.read_text(), re.M)
+    return {name for head in heads for name in head.split()}
+
+
+def definitions():
+    """What docs/RULES.md names behind `File:` is declared in a file of that name under specs/."""
+    files = {}
+    for path in ROOT.glob("crates/*/specs/*.antt"):
+        files.setdefault(path.stem, set()).update(defined(path))
+    for _, cell, *_ in rows("docs/RULES.md"):
+        for file, names in re.findall(r"\b([A-Z]\w+)[:,] ((?:`[\w'-]+`(?: \([^)]*\))?(?:, )?)+)", cell):
+            for name in re.findall(r"`([\w'-]+)`", re.sub(r"\([^)]*\)", "", names)):
+                if name not in files.get(file, ()):
+                    yield f"docs/RULES.md: {file} has no {name}"
+
+
 def exports():
     """The functions that C calls, as the crate exports and both declarations name them."""
     exported = {name.split("::")[-1] for crate, name, *_ in edits.functions() if name.split("::")[-1].startswith("icode_")}
@@ -204,7 +222,7 @@ def exports():
             yield f"{file}: {name} is {'not declared' if name in exported else 'not exported'}"
 
 
-CHECKS = (opcodes, sheet, numbers, architecture, dependencies, promises, internal, names_in_documents, exports)
+CHECKS = (opcodes, sheet, numbers, architecture, dependencies, promises, internal, names_in_documents, definitions, exports)
 
 
 def main():

@@ -3,8 +3,8 @@
 
     tests/printer.py PRINTER FOLDER...
 
-Each FOLDER has run files NAME.run with the pages NAME.out that are expected of them, byte for byte. Prints what fails, and exits with 1
-then.
+Each FOLDER has run files NAME.run with the pages NAME.out that are expected of them, byte for byte. The printer lends no libraries: where
+there is NAME.libraries too, the page is that of an import which is not lent. Prints what fails, and exits with 1 then.
 """
 
 import os
@@ -13,11 +13,16 @@ import sys
 from pathlib import Path
 
 MALFORMED = b"check 16\n"
+NOT_LENT = b"check 17\n"
 
 
 def printed(printer, file, **more):
     done = subprocess.run([printer], input=file, stdout=subprocess.PIPE, stderr=subprocess.PIPE, timeout=60, check=False, **more)
     return done.returncode, done.stdout, done.stderr
+
+
+def page_of(page):
+    return NOT_LENT if page.with_suffix(".libraries").exists() else page.with_suffix(".out").read_bytes()
 
 
 def in_pieces(printer, file, size):
@@ -64,7 +69,7 @@ def main():
     if not pages:
         print("no pages", file=sys.stderr)
         return 2
-    cases = [(page, printed(printer, page.read_bytes()), (0, page.with_suffix(".out").read_bytes(), b"")) for page in pages]
+    cases = [(page, printed(printer, page.read_bytes()), (0, page_of(page), b"")) for page in pages]
     cases += outside(printer, pages[0], pages[0].with_suffix(".out").read_bytes())
     failed = 0
     for name, found, expected in cases:

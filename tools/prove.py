@@ -3,6 +3,7 @@
 
   prove.py places CRATE FN       the places of a function's proof, with what each binds, and the place of each need
   prove.py write CRATE FN FILE   crates/CRATE/proofs/FN/Proof.antt from the answers in FILE; a need without an answer is searched
+  prove.py write-all FILE        the same of several functions: FILE has a line '### CRATE FN' before the answers of each
 
 FN is a path below proofs/, as Machine/step. FILE has heading lines ('-- ..'), 'use' lines, and a block for each need that takes thought:
 
@@ -46,7 +47,7 @@ class Function:
         found = re.finditer(r"pub record (\S+) : Type 0 where\n((?:\s+pub \S+ :.*\n?)+)", text)
         self.places = {m.group(1): dict(re.findall(r"pub (\S+) : (.*)", m.group(2))) for m in found}
         self.needs = {m.group(1): m.group(2).rstrip(")") for m in re.finditer(r"Need-(\S+)[^\n=]*=\s*\n?\s*\(c : (\S+)", text)}
-        spec = re.search(r"pub spec :\n(.*?)\n\s+Lts\.Closed", (folder / "Tie.antt").read_text(), re.S).group(1)
+        spec = re.search(r"pub spec :\s(.*?)\sLts\.Closed", (folder / "Tie.antt").read_text(), re.S).group(1)
         self.order = [(name, " ".join(kind.split())) for name, kind in re.findall(r"\((\S+) : (.*?)\) →", spec, re.S)]
 
     def before(self, place):
@@ -161,12 +162,21 @@ def write(crate, fn, function, text):
     subprocess.run(["rattle", "fmt", "--write", path], check=False)
 
 
+def write_all(text):
+    for part in re.split(r"^### ", text, flags=re.MULTILINE)[1:]:
+        names, answers = part.split("\n", 1)
+        crate, fn = names.split()
+        write(crate, fn, Function(goals(crate, fn)), answers)
+
+
 def main():
     words = sys.argv[1:]
     if len(words) == 3 and words[0] == "places":
         show(Function(goals(*words[1:])))
     elif len(words) == 4 and words[0] == "write":
         write(*words[1:3], Function(goals(*words[1:3])), Path(words[3]).read_text())
+    elif len(words) == 2 and words[0] == "write-all":
+        write_all(Path(words[1]).read_text())
     else:
         sys.exit(__doc__)
 

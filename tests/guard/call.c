@@ -11,7 +11,7 @@ enum { PAINT = 0x5a };
 
 static const struct {
     const char *name;
-    enum role roles[6];
+    enum role roles[8];
 } functions[FUNCTIONS] = {
     [RECORD_NUMBER] = {"icode_record_number", {RECORD, ROLES}},
     [LINE] = {"icode_line", {RECORD, ROLES}},
@@ -23,6 +23,10 @@ static const struct {
     [BENCH_LOAD] = {"icode_bench_load", {RECORD, PARAMETERS, STILL_STACK, MEMORY, STATE, ROLES}},
     [BENCH_RUN] = {"icode_bench_run", {RECORD, MEMORY, STACK, STATE, OUTCOME, ROLES}},
     [BENCH_RUN_BY] = {"icode_bench_run_by", {RECORD, MEMORY, STACK, STATE, OUTCOME, ROLES}},
+    [SET_CHECK] = {"icode_set_check", {RECORDS, ALL_RESULTS, DIRECTORY, WORKSPACE, ROLES}},
+    [BENCH_SET_LOAD] = {"icode_bench_set_load", {RECORDS, DIRECTORY, PARAMETERS, STILL_STACK, COPY, MEMORY, STATE, ROLES}},
+    [BENCH_SET_RUN] = {"icode_bench_set_run", {RECORDS, DIRECTORY, STILL_COPY, MEMORY, STACK, STATE, OUTCOME, ROLES}},
+    [BENCH_SET_RUN_BY] = {"icode_bench_set_run_by", {RECORDS, DIRECTORY, STILL_COPY, MEMORY, STACK, STATE, OUTCOME, ROLES}},
 };
 
 static struct {
@@ -47,7 +51,11 @@ const enum role *function_roles(enum function function)
 
 size_t stack_bytes(enum function function)
 {
-    return function == REPORT ? ICODE_THREAD_STACK_REPORT : ICODE_THREAD_STACK;
+    switch (function) {
+    case REPORT: return ICODE_THREAD_STACK_REPORT;
+    case SET_CHECK: return ICODE_THREAD_STACK_SET_CHECK;
+    default: return ICODE_THREAD_STACK;
+    }
 }
 
 void make_stacks(enum wrong how)
@@ -88,6 +96,24 @@ static void *lent(enum role role)
 /* Spares the calls below from saying each role twice. */
 #define SLICE(role) lent(role), told(role)
 
+/* Spares them from saying again what a run over a set is lent behind its budget. */
+#define RUN_SLICES SLICE(STILL_COPY), SLICE(MEMORY), SLICE(STACK), SLICE(STATE), SLICE(OUTCOME)
+
+static uint64_t dispatch_set(const struct call *call)
+{
+    switch (call->function) {
+    case SET_CHECK:
+        return icode_set_check(SLICE(RECORDS), SLICE(ALL_RESULTS), SLICE(DIRECTORY), call->own, SLICE(WORKSPACE));
+    case BENCH_SET_LOAD:
+        return icode_bench_set_load(SLICE(RECORDS), SLICE(DIRECTORY), SLICE(PARAMETERS), SLICE(COPY), SLICE(MEMORY), SLICE(STILL_STACK),
+                                    SLICE(STATE));
+    case BENCH_SET_RUN:
+        return icode_bench_set_run(SLICE(RECORDS), SLICE(DIRECTORY), call->budget, RUN_SLICES);
+    default:
+        return icode_bench_set_run_by(call->at_once, SLICE(RECORDS), SLICE(DIRECTORY), call->budget, RUN_SLICES);
+    }
+}
+
 static uint64_t dispatch(const struct call *call)
 {
     switch (call->function) {
@@ -109,8 +135,10 @@ static uint64_t dispatch(const struct call *call)
         return icode_bench_load(SLICE(RECORD), SLICE(PARAMETERS), SLICE(MEMORY), SLICE(STILL_STACK), SLICE(STATE));
     case BENCH_RUN:
         return icode_bench_run(SLICE(RECORD), call->budget, SLICE(MEMORY), SLICE(STACK), SLICE(STATE), SLICE(OUTCOME));
-    default:
+    case BENCH_RUN_BY:
         return icode_bench_run_by(call->at_once, SLICE(RECORD), call->budget, SLICE(MEMORY), SLICE(STACK), SLICE(STATE), SLICE(OUTCOME));
+    default:
+        return dispatch_set(call);
     }
 }
 

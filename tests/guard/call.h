@@ -5,7 +5,7 @@
 #include "lend.h"
 
 enum function { RECORD_NUMBER, LINE, LINE_SPAN, MEND, CHECK, REPORT, BENCH_DECODE, BENCH_LOAD, BENCH_RUN,
-                BENCH_RUN_BY, FUNCTIONS };
+                BENCH_RUN_BY, SET_CHECK, BENCH_SET_LOAD, BENCH_SET_RUN, BENCH_SET_RUN_BY, FUNCTIONS };
 
 /* Name ways to call wrongly, to see that the test fails then. */
 enum wrong { RIGHT, WRONG_SHORT_READ, WRONG_SHORT_WRITE, WRONG_CONST, WRONG_CONST_STACK, WRONG_AROUND, WRONG_PAST, WRONG_REFUSAL,
@@ -19,6 +19,7 @@ struct call {
     uint32_t budget;             /* of run and run_by */
     uint32_t at_once;            /* of run_by */
     size_t limit, at;            /* of decode */
+    uint32_t own;                /* of set_check */
 };
 
 const char *function_name(enum function function);

@@ -22,4 +22,19 @@ size_t read_folder(const char *folder);
 
 const struct stored *stored_input(size_t index);
 
+/* Has a module of a stored set. */
+struct stored_module {
+    uint32_t sid;
+    struct stored parts;
+};
+
+/* Has the modules of a case line over a set, the main one first. */
+struct stored_set {
+    size_t count;
+    struct stored_module *modules;
+};
+
+size_t stored_set_count(void);
+const struct stored_set *stored_set(size_t index);
+
 #endif

@@ -54,7 +54,7 @@ static size_t damage(uint8_t *bytes, size_t len, size_t max)
     }
 }
 
-static size_t damage_often(uint8_t *bytes, size_t len, size_t max)
+size_t damage_often(uint8_t *bytes, size_t len, size_t max)
 {
     for (uint32_t times = 1 + random_below(3); times > 0; times--)
         len = damage(bytes, len, max);
@@ -99,7 +99,7 @@ static size_t build_run_file(const struct input *input)
     return head + rest;
 }
 
-static void lend_both(enum role role, const void *contents, size_t len)
+void lend_both(enum role role, const void *contents, size_t len)
 {
     fill(role, FRONT, contents, len);
     fill(role, BACK, contents, len);
@@ -172,6 +172,8 @@ void make_input(size_t stored_count, struct input *input)
     else if (once_in(30))
         input->record_len = make_noise(record, sizeof record);
     bool sized = input->record_len >= ICODE_HEADER_BYTES;
+    input->imports = sized ? word_at(record) : 0;
+    input->relocation = sized ? word_at(record + 16) : 0;
     input->code_size = sized ? word_at(record + 4) : 0;
     input->globals = sized ? word_at(record + 8) : 0;
     input->constants = sized ? word_at(record + 12) : 0;

@@ -2,8 +2,7 @@
 #ifndef INPUT_H
 #define INPUT_H
 
-#include <stddef.h>
-#include <stdint.h>
+#include "lend.h"
 
 struct input {
     size_t record_len;
@@ -12,6 +11,8 @@ struct input {
     size_t code_len; /* of what is decoded: the record's code, or noise */
     size_t file_len;
     /* As the record's header has them; 0 where it has none. */
+    uint32_t imports;
+    uint32_t relocation;
     uint32_t code_size;
     uint32_t globals;
     uint32_t constants;
@@ -19,5 +20,11 @@ struct input {
 
 /* Fills the const rooms with one of so many stored inputs. */
 void make_input(size_t stored_count, struct input *input);
+
+/* Damages bytes at random, a few times. Answers the new length. */
+size_t damage_often(uint8_t *bytes, size_t len, size_t max);
+
+/* Fills a const room in both layouts. */
+void lend_both(enum role role, const void *contents, size_t len);
 
 #endif

@@ -21,6 +21,10 @@ static const struct {
     [STILL_STACK] = {"stack (const)", 4, ICODE_STACK_MAX + 8, true},
     [CODE] = {"code", 1, ICODE_CODE_MAX + 8, true},
     [RUN_FILE] = {"run file", 1, RUN_FILE_MAX, true},
+    [RECORDS] = {"records", 1, RECORDS_MAX, true},
+    [ALL_RESULTS] = {"results of all", 1, ALL_RESULTS_MAX, true},
+    [DIRECTORY] = {"directory", 4, DIRECTORY_MAX, true},
+    [STILL_COPY] = {"copy (const)", 1, COPY_MAX, true},
     [SPAN] = {"span", 4, ICODE_SPAN_WORDS + 8, false},
     [OUT] = {"out", 1, ICODE_MEND_MAX + 100, false},
     [PLACES] = {"places", 4, ICODE_PLACES_MAX + 8, false},
@@ -29,8 +33,9 @@ static const struct {
     [MEMORY] = {"memory", 4, ICODE_MEMORY_MAX + 8, false},
     [STACK] = {"stack", 4, ICODE_STACK_MAX + 8, false},
     [STATE] = {"state", 4, STATE_MAX, false},
-    [OUTCOME] = {"outcome", 4, ICODE_OUTCOME_WORDS + 8, false},
+    [OUTCOME] = {"outcome", 4, ICODE_SET_OUTCOME_WORDS + 8, false},
     [DECODED] = {"out", 4, ICODE_DECODED_WORDS + 8, false},
+    [COPY] = {"copy", 1, COPY_MAX, false},
 };
 
 static uint8_t *rooms[ROLES][LAYOUTS]; /* each of room_bytes, between two guard pages */

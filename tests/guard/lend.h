@@ -10,8 +10,8 @@
 #include <stdint.h>
 
 enum role {
-    RECORD, RESULTS, PARAMETERS, STILL_STACK, CODE, RUN_FILE, /* const */
-    SPAN, OUT, PLACES, COUNTS, WORKSPACE, MEMORY, STACK, STATE, OUTCOME, DECODED,
+    RECORD, RESULTS, PARAMETERS, STILL_STACK, CODE, RUN_FILE, RECORDS, ALL_RESULTS, DIRECTORY, STILL_COPY, /* const */
+    SPAN, OUT, PLACES, COUNTS, WORKSPACE, MEMORY, STACK, STATE, OUTCOME, DECODED, COPY,
     ROLES
 };
 
@@ -20,8 +20,12 @@ enum layout { FRONT, BACK, LAYOUTS };
 /* Limit the const inputs to some more elements than the library takes. */
 enum { RECORD_MAX = ICODE_MEND_MAX + 100, RESULTS_MAX = 300, PARAMETERS_MAX = 300, RUN_FILE_MAX = ICODE_RUN_FILE_MAX + 8 };
 
+/* And sets, to some modules more than are taken. */
+enum { MODULES_MAX = ICODE_MODULES_MAX + 4, RECORDS_MAX = 4 * RECORD_MAX, ALL_RESULTS_MAX = MODULES_MAX * RESULTS_MAX,
+       DIRECTORY_MAX = MODULES_MAX * ICODE_ROW_WORDS + 3, COPY_MAX = ICODE_COPY_MAX + 100 };
+
 /* And a state, which goes from call to call. */
-enum { STATE_MAX = ICODE_STATE_WORDS + 8 };
+enum { STATE_MAX = ICODE_SET_STATE_WORDS + 8 };
 
 enum { PAGE = 4096 };
 

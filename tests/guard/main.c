@@ -6,6 +6,8 @@
 #include "promise.h"
 #include "random.h"
 #include "round.h"
+#include "set_input.h"
+#include "set_round.h"
 #include "sizes.h"
 
 #include <inttypes.h>
@@ -70,14 +72,16 @@ static void catch_faults(void)
 static unsigned print_counts(void)
 {
     unsigned kept = 0;
-    printf("%-20s %9s %7s %12s %10s\n", "function", "calls", "broken", "stack taken", "of bytes");
+    printf("%-22s %9s %7s %12s %10s\n", "function", "calls", "broken", "stack taken", "of bytes");
     for (int function = 0; function < FUNCTIONS; function++) {
-        printf("%-20s %9" PRIu64 " %7" PRIu64 " %12zu %10zu\n", function_name(function), calls_made(function), promises_broken(function),
+        printf("%-22s %9" PRIu64 " %7" PRIu64 " %12zu %10zu\n", function_name(function), calls_made(function), promises_broken(function),
                stack_taken(function), stack_bytes(function));
         kept += promises_broken(function) == 0 && calls_made(function) > 0;
     }
     printf("%" PRIu64 " calls in %" PRIu64 " rounds, seed %" PRIu64 "; %lu accepted records, %lu runs of them to an end\n", all_calls(),
            rounds_begun(), seed, accepted_records(), accepted_runs());
+    printf("%zu stored sets of modules; %lu accepted, %lu runs of them to an end, %lu of these in a library\n", stored_set_count(),
+           accepted_sets(), accepted_set_runs(), ends_in_libraries());
     return kept;
 }
 
@@ -117,7 +121,7 @@ static size_t read_arguments(int argc, char **argv)
         else
             stored = read_folder(argv[i]);
     }
-    if (stored == 0) {
+    if (stored == 0 || stored_set_count() == 0) {
         fprintf(stderr, "usage: guard [--seed N] [--count N] [--wrong NAME] FOLDER..\n");
         exit(2);
     }
@@ -127,6 +131,7 @@ static size_t read_arguments(int argc, char **argv)
 int main(int argc, char **argv)
 {
     struct input input;
+    static struct set_input set;
     unsigned kept, arisen, empty, sizes, failing;
     size_t stored = read_arguments(argc, argv);
     seed_random(seed);
@@ -139,6 +144,8 @@ int main(int argc, char **argv)
         begin_round();
         make_input(stored, &input);
         try_input(&input);
+        make_set_input(&set);
+        try_set_input(&input, &set);
     }
     kept = print_counts();
     arisen = print_numbers(wanted < USUAL_COUNT);

@@ -3,7 +3,7 @@
 #include <inttypes.h>
 #include <stdio.h>
 
-enum { NUMBER_MAX = ICODE_TRAP_FREE };
+enum { NUMBER_MAX = ICODE_TRAP_FREE, WITHDRAWN = 4 };
 
 static uint64_t counts[NUMBERED][NUMBER_MAX + 1];
 
@@ -15,17 +15,24 @@ void note_number(unsigned of, uint32_t number)
 /* Says whether a number is one that is handed back there. */
 static bool belongs(unsigned of, uint32_t number)
 {
+    bool linkage = number == ICODE_IMPORTS_WRONG || number == ICODE_RELOCATION_WRONG;
+    if (number == WITHDRAWN)
+        return false;
     switch (of) {
     case RECORD_NUMBER:
     case LINE: return number <= ICODE_ENTRIES_MALFORMED;
-    case LINE_SPAN:
-    case BENCH_LOAD: return number <= ICODE_ROOM_WRONG;
+    case LINE_SPAN: return number <= ICODE_ROOM_WRONG;
+    case BENCH_LOAD:
+    case BENCH_SET_LOAD: return number <= ICODE_ROOM_WRONG || linkage;
     case MEND: return number <= ICODE_LENGTH_WRONG || number == ICODE_ROOM_WRONG;
-    case CHECK: return number <= ICODE_NO_PICTURE;
-    case REPORT: return number <= ICODE_RUN_FILE_WRONG;
+    case CHECK:
+    case SET_CHECK: return number <= ICODE_NO_PICTURE || linkage;
+    case REPORT: return number <= ICODE_RUN_FILE_WRONG || linkage;
     case BENCH_DECODE: return number == 0 || number == ICODE_ROOM_WRONG || number == ICODE_CODE_UNSERVED || number == ICODE_CODE_PAST;
     case BENCH_RUN:
-    case BENCH_RUN_BY: return number <= ICODE_ENTRIES_MALFORMED || number == ICODE_STATE_WRONG;
+    case BENCH_RUN_BY:
+    case BENCH_SET_RUN:
+    case BENCH_SET_RUN_BY: return number <= ICODE_ENTRIES_MALFORMED || number == ICODE_STATE_WRONG || linkage;
     default:
         return number <= ICODE_SPENT || (number >= ICODE_TRAP_UNSERVED && number <= ICODE_TRAP_CALLEE) || number >= ICODE_TRAP_ZERO_DIVISOR;
     }

@@ -43,7 +43,7 @@ void make_noise_pool(void)
 }
 
 /* Says what a role has elements for, where the function takes just so many. */
-static size_t usual_len(enum role role, const struct input *input)
+static size_t usual_len(enum role role, const struct input *input, bool set)
 {
     switch (role) {
     case RECORD: return input->record_len;
@@ -53,8 +53,8 @@ static size_t usual_len(enum role role, const struct input *input)
     case RUN_FILE: return input->file_len;
     case SPAN: return ICODE_SPAN_WORDS;
     case COUNTS: return ICODE_COUNT_WORDS;
-    case STATE: return ICODE_STATE_WORDS;
-    case OUTCOME: return ICODE_OUTCOME_WORDS;
+    case STATE: return set ? ICODE_SET_STATE_WORDS : ICODE_STATE_WORDS;
+    case OUTCOME: return set ? ICODE_SET_OUTCOME_WORDS : ICODE_OUTCOME_WORDS;
     case DECODED: return ICODE_DECODED_WORDS;
     default: return 0;
     }
@@ -64,7 +64,7 @@ struct call new_call(enum function function, const struct input *input)
 {
     struct call call = {.function = function};
     for (const enum role *role = function_roles(function); *role != ROLES; role++) {
-        call.len[*role] = usual_len(*role, input);
+        call.len[*role] = usual_len(*role, input, function >= SET_CHECK);
         call.contents[*role] = pool + random_below(POOL / 8); /* the other half is enough for any buffer */
     }
     return call;

@@ -16,13 +16,17 @@ unsigned long accepted_records(void)
     return accepted;
 }
 
+bool is_linkage(uint32_t number)
+{
+    return number == ICODE_IMPORTS_WRONG || number == ICODE_RELOCATION_WRONG;
+}
+
 unsigned long accepted_runs(void)
 {
     return followed;
 }
 
-/* Gives a length that is right, or near it, or any. */
-static size_t some_len(enum role role, size_t right)
+size_t some_len(enum role role, size_t right)
 {
     size_t max = role_max(role), len = right;
     switch (random_below(6)) {
@@ -35,12 +39,12 @@ static size_t some_len(enum role role, size_t right)
     return len < max ? len : max;
 }
 
-static bool is_code_trap(uint32_t end)
+bool is_code_trap(uint32_t end)
 {
     return end >= ICODE_TRAP_UNSERVED && end <= ICODE_TRAP_CALLEE;
 }
 
-static bool is_end(uint32_t end)
+bool is_end(uint32_t end)
 {
     return end <= ICODE_SPENT || is_code_trap(end) || (end >= ICODE_TRAP_ZERO_DIVISOR && end <= ICODE_TRAP_FREE);
 }
@@ -49,7 +53,7 @@ static uint32_t try_number(const struct input *input)
 {
     struct call call = new_call(RECORD_NUMBER, input);
     uint32_t number = (uint32_t)call_both(&call);
-    promise(&call, number <= ICODE_ENTRIES_MALFORMED, "a number above 7");
+    promise(&call, number <= ICODE_ENTRIES_MALFORMED && number != 4, "a number above 7, or 4");
     note_number(RECORD_NUMBER, number);
     return number;
 }
@@ -127,8 +131,7 @@ static void try_mend(const struct input *input, uint32_t number)
     }
 }
 
-/* Holds the workspace to what the header says after an answer of 0 or of 10 and more. */
-static void hold_workspace(const struct call *call, uint32_t answer, size_t used)
+void hold_workspace(const struct call *call, uint32_t answer, size_t used)
 {
     const uint16_t *workspace = after(call, WORKSPACE);
     bool in_form = true;
@@ -148,11 +151,14 @@ static uint32_t try_check(const struct input *input, uint32_t number, bool enoug
     note_number(CHECK, answer);
     if (number != 0)
         promise(&call, answer == number, "another number than the record's");
-    else if (call.len[WORKSPACE] < used)
+    else if (input->imports > 0 || input->relocation > 0)
+        promise(&call, answer == (input->imports > 0 ? ICODE_IMPORTS_WRONG : ICODE_RELOCATION_WRONG), "imports or relocation are taken");
+    else if (answer != ICODE_RELOCATION_WRONG && call.len[WORKSPACE] < used)
         promise(&call, answer == ICODE_ROOM_WRONG, "a short workspace is taken");
     else
-        promise(&call, answer == 0 || (answer >= ICODE_RESULTS_WRONG && answer <= ICODE_NO_PICTURE), "a number out of place");
-    if (answer != 0 && answer <= ICODE_RESULTS_WRONG)
+        promise(&call, answer == 0 || (answer >= ICODE_RESULTS_WRONG && answer <= ICODE_NO_PICTURE) || answer == ICODE_RELOCATION_WRONG,
+                "a number out of place");
+    if (answer != 0 && (answer <= ICODE_RESULTS_WRONG || is_linkage(answer)))
         promise(&call, all_kept(&call), "a refusal wrote");
     else
         hold_workspace(&call, answer, used);
@@ -177,7 +183,7 @@ static void try_decode(const struct input *input)
         return;
     }
     const uint32_t *decoded = after(&call, DECODED);
-    promise(&call, decoded[ICODE_MNEMONIC] <= 57 && decoded[ICODE_DOUBLE] <= 1, "no such mnemonic or mode");
+    promise(&call, decoded[ICODE_MNEMONIC] <= 61 && decoded[ICODE_DOUBLE] <= 1, "no such mnemonic or mode");
     promise(&call, call.at < call.limit && decoded[ICODE_BYTES] >= 1 && decoded[ICODE_BYTES] <= call.limit - call.at, "past the limit");
 }
 
@@ -301,7 +307,7 @@ static void try_report(const struct input *input)
     promise(&call, kept_from(&call, OUT, len), "bytes past the report were written");
     memcpy(text, after(&call, OUT), len < sizeof text - 1 ? len : sizeof text - 1);
     int numbers = sscanf(text, "check %u end %u", &number, &end);
-    promise(&call, number == 0 ? numbers == 2 && is_end(end) && !is_code_trap(end) : numbers == 1 && number <= ICODE_RUN_FILE_WRONG,
+    promise(&call, number == 0 ? numbers == 2 && is_end(end) && !is_code_trap(end) : numbers == 1 && number <= ICODE_RELOCATION_WRONG,
             "a report of another form, or a code trap in it");
     note_number(REPORT, number);
     call.len[OUT] = some_len(OUT, len);
@@ -331,11 +337,11 @@ void try_input(const struct input *input)
     for (int i = 0; i < LINES; i++)
         try_line(input, number);
     try_mend(input, number);
-    bool sound = try_check(input, number, true) == 0;
-    accepted += sound;
+    uint32_t checked = try_check(input, number, true);
+    accepted += checked == 0;
     (void)try_check(input, number, false);
     for (int i = 0; i < DECODINGS; i++)
         try_decode(input);
-    try_machine(input, number, sound);
+    try_machine(input, is_linkage(checked) ? checked : number, checked == 0);
     try_report(input);
 }

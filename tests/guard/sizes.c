@@ -53,12 +53,9 @@ static size_t make_record(const uint32_t sizes[PARTS], uint32_t procedures)
 
 static void try_record_sizes(void)
 {
-    const uint32_t sound[PARTS] = {0, ICODE_CODE_MAX, ICODE_GLOBALS_MAX, 1024, 0, 16, 2048};
     const uint32_t all[PARTS] = {16, ICODE_CODE_MAX, ICODE_GLOBALS_MAX, 1024, 4096, 16, 2048};
     static uint8_t out[ICODE_MEND_MAX];
     static uint32_t places[ICODE_PLACES_MAX], counts[ICODE_COUNT_WORDS];
-    size_t len = make_record(sound, 1);
-    expect(len == ICODE_RECORD_MAX && icode_record_number(record, len) == 0, "ICODE_RECORD_MAX");
     for (int part = 0; part < PARTS; part++) {
         uint32_t more[PARTS];
         memcpy(more, all, sizeof more);
@@ -67,8 +64,9 @@ static void try_record_sizes(void)
             put_word(record + 4 * i, more[i]);
         expect(icode_record_number(record, ICODE_MEND_MAX) == ICODE_SIZE_ABOVE, "a size above its maximum");
     }
-    len = make_record(all, 1);
-    expect(len == ICODE_MEND_MAX && icode_record_number(record, len) == ICODE_PARTS_UNSERVED, "ICODE_MEND_MAX");
+    size_t len = make_record(all, 1);
+    expect(len == ICODE_RECORD_MAX && icode_record_number(record, len) == 0, "ICODE_RECORD_MAX");
+    expect(len == ICODE_MEND_MAX, "ICODE_MEND_MAX");
     memset(record + len - 4 * ICODE_PLACES_MAX, 0xff, 4 * ICODE_PLACES_MAX); /* both tables */
     expect(icode_mend(record, len, out, ICODE_MEND_MAX, places, ICODE_PLACES_MAX, counts, ICODE_COUNT_WORDS) == 0 &&
                counts[ICODE_DROPPED_WORDS] == ICODE_PLACES_MAX, "ICODE_PLACES_MAX");
@@ -99,6 +97,29 @@ static void try_check_sizes(void)
     expect(icode_check(record, len, results, 1, workspace, ICODE_WORKSPACE_MAX) == 0 &&
                icode_check(record, len, results, 1, workspace, ICODE_WORKSPACE_MAX - 1) == ICODE_ROOM_WRONG, "ICODE_WORKSPACE_MAX");
     expect(icode_check(record, len, record, 1, workspace, ICODE_WORKSPACE_MAX) == 0, "a results list inside the record");
+}
+
+/* Loads so many modules of the largest code into a copy of so many bytes. */
+static uint32_t load_set(size_t count, size_t copy_len)
+{
+    const uint32_t sizes[PARTS] = {0, ICODE_CODE_MAX, 0, 0, 0, 0, 0};
+    static uint8_t records[(ICODE_MODULES_MAX + 1) * (ICODE_HEADER_BYTES + ICODE_CODE_MAX)], copy[ICODE_COPY_MAX + 1];
+    uint32_t directory[(ICODE_MODULES_MAX + 1) * ICODE_ROW_WORDS], set_state[ICODE_SET_STATE_WORDS];
+    size_t len = make_record(sizes, 1);
+    for (size_t i = 0; i < count; i++) {
+        const uint32_t row[ICODE_ROW_WORDS] = {(uint32_t)i, (uint32_t)len, 0, 0};
+        memcpy(records + i * len, record, len);
+        memcpy(directory + i * ICODE_ROW_WORDS, row, sizeof row);
+    }
+    return icode_bench_set_load(records, count * len, directory, count * ICODE_ROW_WORDS, memory, 0, copy, copy_len, memory,
+                                ICODE_MEMORY_MAX, stack, ICODE_STACK_MAX, set_state, ICODE_SET_STATE_WORDS);
+}
+
+static void try_set_sizes(void)
+{
+    expect(load_set(ICODE_MODULES_MAX, ICODE_COPY_MAX) == 0 && load_set(ICODE_MODULES_MAX, ICODE_COPY_MAX + 1) == 0 &&
+               load_set(ICODE_MODULES_MAX, ICODE_COPY_MAX - 1) == ICODE_ROOM_WRONG, "ICODE_COPY_MAX");
+    expect(load_set(ICODE_MODULES_MAX + 1, ICODE_COPY_MAX) == ICODE_IMPORTS_WRONG, "ICODE_MODULES_MAX");
 }
 
 /* Reports a run file of so many bytes that asks for so much memory. Answers the number of its check. */
@@ -134,6 +155,7 @@ unsigned try_sizes(unsigned *others)
     try_record_sizes();
     try_load_sizes();
     try_check_sizes();
+    try_set_sizes();
     try_run_file_sizes();
     *others = failing;
     return holding;

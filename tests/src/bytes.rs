@@ -9,6 +9,6 @@ pub fn word(bytes: &[u8], at: usize) -> u32 {
 }
 
 /// The whole words of a byte string.
-pub fn words(bytes: &[u8]) -> impl Iterator<Item = u32> + '_ {
+pub fn words(bytes: &[u8]) -> impl DoubleEndedIterator<Item = u32> + '_ {
     bytes.chunks_exact(4).map(|four| word(four, 0))
 }

@@ -1,5 +1,7 @@
 //! The text of cases and answers (vectors/FORMAT.md).
 
+mod set;
+
 use crate::cases::{Answer, Case, State, Words};
 use crate::record::Span;
 use std::fmt::{self, Display, Formatter};
@@ -11,21 +13,9 @@ impl FromStr for Case {
     fn from_str(line: &str) -> Result<Case, String> {
         let mut tokens = Tokens(line.split(' '));
         let verb = tokens.next()?;
-        let record = tokens.bytes()?;
         let case = match verb {
-            "check" => Case::Check { record, results: tokens.bytes()?, workspace: tokens.words()? },
-            "load" => Case::Load {
-                record,
-                parameters: tokens.words()?,
-                memory: tokens.words()?,
-                stack: tokens.words()?,
-            },
-            "run" => Case::Run { record, budget: tokens.number()?, machine: tokens.machine()? },
-            "line" => Case::Line { record, offset: tokens.number()? },
-            "span" => Case::Span { record, offset: tokens.number()? },
-            "mend" => Case::Mend { record, out: tokens.bytes()?, places: tokens.words()? },
-            "report" => Case::Report { file: record },
-            _ => return Err(format!("unknown verb {verb}")),
+            "mcheck" | "mload" | "mrun" => Case::Set(tokens.set_case(verb)?),
+            _ => tokens.case(verb)?,
         };
         match tokens.0.next() {
             None => Ok(case),
@@ -34,10 +24,38 @@ impl FromStr for Case {
     }
 }
 
+impl Tokens<'_> {
+    /// Reads the rest of a call that takes one record, or a run file.
+    fn case(&mut self, verb: &str) -> Result<Case, String> {
+        let record = self.bytes()?;
+        Ok(match verb {
+            "check" => Case::Check { record, results: self.bytes()?, workspace: self.words()? },
+            "load" => Case::Load {
+                record,
+                parameters: self.words()?,
+                memory: self.words()?,
+                stack: self.words()?,
+            },
+            "run" => Case::Run { record, budget: self.number()?, machine: self.machine()? },
+            "line" => Case::Line { record, offset: self.number()? },
+            "span" => Case::Span { record, offset: self.number()? },
+            "mend" => Case::Mend { record, out: self.bytes()?, places: self.words()? },
+            "report" => Case::Report { file: record },
+            _ => return Err(format!("unknown verb {verb}")),
+        })
+    }
+}
+
 impl Display for Case {
     fn fmt(&self, f: &mut Formatter) -> fmt::Result {
-        let bytes = if let Case::Report { file } = self { file } else { self.record() };
-        write!(f, "{} {}", self.verb(), Hex(bytes))?;
+        write!(f, "{}", self.verb())?;
+        let bytes = match self {
+            Case::Report { file } => Some(&file[..]),
+            _ => self.record(),
+        };
+        if let Some(bytes) = bytes {
+            write!(f, " {}", Hex(bytes))?;
+        }
         match self {
             Case::Check { results, workspace, .. } => {
                 write!(f, " {} {}", Hex(results), List(workspace))
@@ -49,6 +67,7 @@ impl Display for Case {
             Case::Line { offset, .. } | Case::Span { offset, .. } => write!(f, " {offset}"),
             Case::Mend { out, places, .. } => write!(f, " {} {}", Hex(out), List(places)),
             Case::Report { .. } => Ok(()),
+            Case::Set(case) => write!(f, " {case}"),
         }
     }
 }
@@ -75,13 +94,17 @@ impl Display for Answer {
                 write!(f, "mend {number} {} {} {}", Numbers(counts), Hex(out), List(places))
             }
             Answer::Report(page) => write!(f, "report {}", Hex(page)),
+            Answer::SetCheck { number, workspace } => {
+                write!(f, "mcheck {number} {}", List(workspace))
+            }
+            Answer::SetLoad { number, machine } => write!(f, "mload {number} {machine}"),
+            Answer::SetRun { ended: Ok([end, at, steps, module]), machine } => {
+                write!(f, "mrun {end} {module} {at} {steps} {machine}")
+            }
+            Answer::SetRun { ended: Err(number), machine } => {
+                write!(f, "mrun refused {number} {machine}")
+            }
         }
-    }
-}
-
-impl Display for Words {
-    fn fmt(&self, f: &mut Formatter) -> fmt::Result {
-        write!(f, "{} {} {}", Numbers(&self.state), List(&self.memory), List(&self.stack))
     }
 }
 
@@ -155,12 +178,16 @@ impl<'a> Tokens<'a> {
         Ok(words)
     }
 
-    fn machine(&mut self) -> Result<Words, String> {
+    fn state(&mut self) -> Result<State, String> {
         let mut state = State::default();
         for word in &mut state {
             *word = self.number()?;
         }
-        Ok(Words { state, memory: self.words()?, stack: self.words()? })
+        Ok(state)
+    }
+
+    fn machine(&mut self) -> Result<Words, String> {
+        Ok(Words { state: self.state()?, memory: self.words()?, stack: self.words()? })
     }
 }
 
@@ -183,12 +210,16 @@ mod tests {
             "mend 0b eeee 3 2*777 0",
             "mend - - 0",
             "report 54524b",
+            "mcheck 1 2 7 00 4294967295 - - 0001 3 2*5 65535",
+            "mload 1 0 - 2 2*9 0002e9 3 3*7 0",
+            "mrun 2 0 ff 9 - 12 1 2 3 4 5 6 7 - 1 8 2 2*0",
         ];
         for line in lines {
             assert_eq!(line.parse::<Case>().map(|case| case.to_string()).as_deref(), Ok(line));
         }
         let malformed = ["", "check", "load - 0 3 4*7 0", "line ff 12 13", "line f 1", "run"];
         let malformed = malformed.into_iter().chain(["span 00", "mend - -", "mend - - 1"]);
+        let malformed = malformed.chain(["mcheck 0 1 0 -", "mload 2 0 - 0 - 0 0", "mrun 0 1"]);
         for line in malformed {
             assert!(line.parse::<Case>().is_err(), "{line}");
         }

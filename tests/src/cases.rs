@@ -1,22 +1,53 @@
 //! One call of the interface as data: the case, and the answer with all words as they are
 //! afterwards. `case_text` gives both their text form.
 
+mod set;
+
 use crate::interface::{Interface, MEND_COUNTS, OUTCOME_WORDS, SPAN_WORDS, STATE_WORDS};
 use crate::record::Span;
 use crate::report::{RunFile, LARGEST_RUN_FILE};
+
+pub use set::{Directed, Module, SetCall, SetCase, SetOutcome, SetWords};
 
 pub type State = [u32; STATE_WORDS];
 pub type Outcome = [u32; OUTCOME_WORDS];
 
 #[derive(Clone, Debug, PartialEq, Eq)]
 pub enum Case {
-    Check { record: Vec<u8>, results: Vec<u8>, workspace: Vec<u16> },
-    Load { record: Vec<u8>, parameters: Vec<u32>, memory: Vec<u32>, stack: Vec<u32> },
-    Run { record: Vec<u8>, budget: u32, machine: Words },
-    Line { record: Vec<u8>, offset: u32 },
-    Span { record: Vec<u8>, offset: u32 },
-    Mend { record: Vec<u8>, out: Vec<u8>, places: Vec<u32> },
-    Report { file: Vec<u8> },
+    Check {
+        record: Vec<u8>,
+        results: Vec<u8>,
+        workspace: Vec<u16>,
+    },
+    Load {
+        record: Vec<u8>,
+        parameters: Vec<u32>,
+        memory: Vec<u32>,
+        stack: Vec<u32>,
+    },
+    Run {
+        record: Vec<u8>,
+        budget: u32,
+        machine: Words,
+    },
+    Line {
+        record: Vec<u8>,
+        offset: u32,
+    },
+    Span {
+        record: Vec<u8>,
+        offset: u32,
+    },
+    Mend {
+        record: Vec<u8>,
+        out: Vec<u8>,
+        places: Vec<u32>,
+    },
+    Report {
+        file: Vec<u8>,
+    },
+    /// A call over a set of modules (02, K1).
+    Set(SetCase),
 }
 
 /// What a machine keeps between runs.
@@ -56,6 +87,19 @@ pub enum Answer {
     },
     /// The page.
     Report(Vec<u8>),
+    SetCheck {
+        number: u32,
+        workspace: Vec<u16>,
+    },
+    SetLoad {
+        number: u32,
+        machine: SetWords,
+    },
+    /// The outcome (end, at, steps, module), or the refusal.
+    SetRun {
+        ended: Result<SetOutcome, u32>,
+        machine: SetWords,
+    },
 }
 
 impl Case {
@@ -68,19 +112,30 @@ impl Case {
             Case::Span { .. } => "span",
             Case::Mend { .. } => "mend",
             Case::Report { .. } => "report",
+            Case::Set(case) => case.call.verb(),
         }
     }
 
-    pub fn record(&self) -> &[u8] {
+    /// Gives the record of a call that takes one.
+    pub fn record(&self) -> Option<&[u8]> {
         match self {
             Case::Check { record, .. }
             | Case::Load { record, .. }
             | Case::Run { record, .. }
             | Case::Line { record, .. }
             | Case::Span { record, .. }
-            | Case::Mend { record, .. } => record,
+            | Case::Mend { record, .. } => Some(record),
             // A malformed run file has no record.
-            Case::Report { file } => RunFile::read(file).map_or(&[], |file| file.record),
+            Case::Report { file } => RunFile::read(file).map(|file| file.record),
+            Case::Set(_) => None,
+        }
+    }
+
+    /// Gives the records of all modules.
+    pub fn records(&self) -> Vec<&[u8]> {
+        match self {
+            Case::Set(case) => case.modules.iter().map(|module| &module.record[..]).collect(),
+            _ => self.record().into_iter().collect(),
         }
     }
 
@@ -143,6 +198,7 @@ impl Case {
                 Answer::Mend { number, counts, out, places }
             }
             Case::Report { file } => Answer::Report(page(file, library)),
+            Case::Set(case) => case.answer(library),
         }
     }
 }
@@ -161,11 +217,15 @@ impl Answer {
         match *self {
             Answer::Check { number, .. }
             | Answer::Load { number, .. }
-            | Answer::Mend { number, .. } => number,
+            | Answer::Mend { number, .. }
+            | Answer::SetCheck { number, .. }
+            | Answer::SetLoad { number, .. } => number,
             Answer::Run { ended: Err(number), .. }
+            | Answer::SetRun { ended: Err(number), .. }
             | Answer::Line(Err(number))
             | Answer::Span(Err(number)) => number,
             Answer::Run { ended: Ok(_), .. }
+            | Answer::SetRun { ended: Ok(_), .. }
             | Answer::Line(Ok(_))
             | Answer::Span(Ok(_))
             | Answer::Report(_) => 0,

@@ -15,12 +15,18 @@ pub const PROVED: Interface = Interface {
     decode: archive::decode,
     load: archive::load,
     run: archive::run,
+    set_check: archive::set_check,
+    set_load: archive::set_load,
+    set_run: archive::set_run,
 };
 
 /// The same with every step by the general step.
 pub const GENERAL: Interface = Interface {
     run: |record, budget, memory, stack, state, outcome| {
         archive::run_by(0, record, budget, memory, stack, state, outcome)
+    },
+    set_run: |records, directory, budget, copy, memory, stack, state, outcome| {
+        archive::set_run_by(0, records, directory, budget, copy, memory, stack, state, outcome)
     },
     ..PROVED
 };
@@ -29,6 +35,9 @@ pub const GENERAL: Interface = Interface {
 pub const MIXED: Interface = Interface {
     run: |record, budget, memory, stack, state, outcome| {
         archive::run_by(3, record, budget, memory, stack, state, outcome)
+    },
+    set_run: |records, directory, budget, copy, memory, stack, state, outcome| {
+        archive::set_run_by(3, records, directory, budget, copy, memory, stack, state, outcome)
     },
     ..PROVED
 };

@@ -175,6 +175,6 @@ pub fn agree(case: &Case, library: &Interface) -> Result<Answer, String> {
     if found == expected {
         return Ok(found);
     }
-    let code = listing(case.record());
+    let code: String = case.records().into_iter().map(listing).collect();
     Err(format!("case      {case}\nproved    {found}\nreference {expected}\n{code}"))
 }

@@ -53,13 +53,18 @@ pub enum Operator {
     Test,
 }
 
-/// A decoded instruction. Jump targets are code offsets and may lie outside the code.
+/// A decoded instruction. Jump targets are code offsets and may lie outside the code. A library is
+/// the number that stands in the code: of the import list in a record, of the module in the copy.
 #[derive(Clone, Copy, Debug, PartialEq, Eq)]
 pub enum Instruction {
     LoadConstant(u32),
     Load(Base, u32, Width),
     LoadAddress(Base, u32),
     Store(Base, u32, Width),
+    /// LOAD_E, LOAD_A_E and STOR_E: library and offset from its globals.
+    LoadExternal(u32, u32),
+    LoadAddressExternal(u32, u32),
+    StoreExternal(u32, u32),
     Pop(u32),
     Swap,
     Nop,
@@ -80,11 +85,24 @@ pub enum Instruction {
     Switch(SwitchTable),
     Leave,
     Call(u32),
+    /// CALL_E: library and procedure.
+    CallExternal(u32, u32),
     Enter {
         parameters: u32,
         locals: u32,
     },
     Rtn,
+}
+
+impl Instruction {
+    /// LOAD_E, LOAD_A_E, STOR_E or CALL_E: its library byte is the one after the opcode.
+    pub fn is_external(self) -> bool {
+        use Instruction::*;
+        matches!(
+            self,
+            LoadExternal(..) | LoadAddressExternal(..) | StoreExternal(..) | CallExternal(..)
+        )
+    }
 }
 
 /// Why there is no instruction at a place.
@@ -148,6 +166,10 @@ pub fn visit<V: Visitor>(
         0x84 => {
             let value = (half(code, after)? << 16) | half(code, after + 2)?;
             visitor.visit(LoadConstant(value), after + 4)
+        }
+        0x89 | 0x91 | 0x98 | 0xe6 => {
+            let (library, operand) = (byte(code, after)?, byte(code, after + 1)?);
+            external(opcode, library, operand, after + 2, visitor)
         }
         0x8d => visitor.visit(LoadAddress(Base::Local, byte(code, after)?), after + 1),
         0x8e => visitor.visit(LoadAddress(Base::Global, byte(code, after)?), after + 1),
@@ -213,6 +235,24 @@ pub fn visit<V: Visitor>(
         0xf5 => access(code, byte(code, after)?, after + 1, Width::Two, visitor),
         0xff => visitor.visit(Nop, after),
         _ => Err(Fault::Unserved.into()),
+    }
+}
+
+/// Instructions that name a library: three bytes, which DOUBLE does not stand before.
+#[inline(always)]
+fn external<V: Visitor>(
+    opcode: u32,
+    library: u32,
+    operand: u32,
+    next: usize,
+    visitor: V,
+) -> Result<V::Output, V::Error> {
+    use Instruction::*;
+    match opcode {
+        0x89 => visitor.visit(LoadExternal(library, operand), next),
+        0x91 => visitor.visit(LoadAddressExternal(library, operand), next),
+        0x98 => visitor.visit(StoreExternal(library, operand), next),
+        _ => visitor.visit(CallExternal(library, operand), next),
     }
 }
 

@@ -1,12 +1,17 @@
 //! The C interface as safe Rust functions, so that the reference and the proved library can be
 //! called alike.
 
+mod set;
+
 use crate::instruction::{self, Fault};
 use crate::machine::{self, Registers};
 use crate::mend::{mended, Mended};
 use crate::parts::{parts, PARTS};
 use crate::record::{Record, Span};
+use crate::set::{Lent, Set};
 use crate::{check, record, report};
+
+pub use set::{lent, SetCheck, SetLoad, SetRun, ROW, SET_OUTCOME_WORDS, SET_STATE_WORDS};
 
 /// Words of a state (pc, fp, mp, gp, height, calls), of an outcome (end, at, steps), of a span
 /// (1 outside the code or 0, first, last, line), and of the counts of mending (bytes of the new
@@ -29,6 +34,9 @@ pub struct Interface {
     pub decode: fn(code: &[u8], limit: usize, at: usize, out: &mut [u32]) -> u32,
     pub load: Load,
     pub run: Run,
+    pub set_check: SetCheck,
+    pub set_load: SetLoad,
+    pub set_run: SetRun,
 }
 
 type Mend = fn(record: &[u8], out: &mut [u8], places: &mut [u32], counts: &mut [u32]) -> u32;
@@ -59,6 +67,9 @@ pub const REFERENCE: Interface = Interface {
     decode,
     load,
     run,
+    set_check: set::check,
+    set_load: set::load,
+    set_run: set::run,
 };
 
 fn line(record: &[u8], offset: u32) -> u64 {
@@ -127,16 +138,12 @@ fn load(
     stack: &mut [u32],
     state: &mut [u32],
 ) -> u32 {
-    if state.len() != STATE_WORDS {
-        // 8, unless a lower number applies.
-        return match record::number(record) {
-            0 => 8,
-            number => number,
-        };
-    }
+    let Ok(state) = <&mut [u32; STATE_WORDS]>::try_from(state) else {
+        return first_number(&[Lent::main(record, &[])], 8);
+    };
     match machine::load(record, parameters, memory, stack) {
         Ok(registers) => {
-            state.copy_from_slice(&words_of(registers));
+            (*state, _) = words_of(registers);
             0
         }
         Err(number) => number,
@@ -151,17 +158,14 @@ fn run(
     state: &mut [u32],
     outcome: &mut [u32],
 ) -> u32 {
-    let (&mut [pc, fp, mp, gp, height, calls], [end, at, steps]) = (&mut *state, outcome) else {
-        // 24, unless a lower number applies.
-        return match record::number(record) {
-            0 => 24,
-            number => number,
-        };
+    let lengths = (<&mut [u32; STATE_WORDS]>::try_from(state), outcome);
+    let (Ok(state), [end, at, steps]) = lengths else {
+        return first_number(&[Lent::main(record, &[])], 24);
     };
-    let mut registers = Registers { pc, fp, mp, gp, height, calls };
+    let mut registers = registers_of(*state, 0);
     match machine::run(record, budget, memory, stack, &mut registers) {
         Ok(ended) => {
-            state.copy_from_slice(&words_of(registers));
+            (*state, _) = words_of(registers);
             (*end, *at, *steps) = (ended.end, ended.at, ended.steps);
             0
         }
@@ -169,7 +173,18 @@ fn run(
     }
 }
 
-fn words_of(registers: Registers) -> [u32; STATE_WORDS] {
-    let Registers { pc, fp, mp, gp, height, calls } = registers;
-    [pc, fp, mp, gp, height, calls]
+/// Gives the number of the modules' own tests, or `number` where there is none.
+fn first_number(lent: &[Lent], number: u32) -> u32 {
+    Set::read(lent).err().unwrap_or(number)
+}
+
+/// Gives a state's words, and its module.
+fn words_of(registers: Registers) -> ([u32; STATE_WORDS], u32) {
+    let Registers { pc, fp, mp, gp, height, calls, module } = registers;
+    ([pc, fp, mp, gp, height, calls], module)
+}
+
+fn registers_of(state: [u32; STATE_WORDS], module: u32) -> Registers {
+    let [pc, fp, mp, gp, height, calls] = state;
+    Registers { pc, fp, mp, gp, height, calls, module }
 }

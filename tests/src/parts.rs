@@ -33,6 +33,10 @@ pub fn parts(instruction: Instruction, place: usize, next: usize) -> [u32; PARTS
         Leave => (55, 0, 0, 0),
         Enter { parameters, locals } => (56, 0, parameters, locals),
         Rtn => (57, 0, 0, 0),
+        LoadExternal(library, offset) => (58, 0, library, offset),
+        LoadAddressExternal(library, offset) => (59, 0, library, offset),
+        StoreExternal(library, offset) => (60, 0, library, offset),
+        CallExternal(library, procedure) => (61, 0, library, procedure),
     };
     [number, mode, operand, second, (next - place) as u32]
 }

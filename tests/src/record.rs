@@ -1,6 +1,6 @@
 //! The I-Code record (manual 5.1; 01, "The record"): parts, entries, regions, source lines.
 
-use crate::bytes::{halfword, word};
+use crate::bytes::{halfword, word, words};
 use crate::issue::{wraps, Issue};
 
 pub const HEADER_BYTES: usize = 28;
@@ -9,17 +9,21 @@ pub const HEADER_BYTES: usize = 28;
 /// version table, source table.
 pub const LARGEST: [u32; 7] = [16, 4096, 1024, 1024, 4096, 16, 2048];
 
-/// First word of the globals (GP).
-pub const GLOBALS_AT: u32 = 3;
+/// Words of a data frame before its globals.
+pub const HEADER_WORDS: u32 = 3;
 
 /// A sound record, taken apart.
 #[derive(Clone, Copy)]
 pub struct Record<'a> {
+    /// The imported libraries' SIDs as bytes, library 1 first.
+    imports: &'a [u8],
     pub code: &'a [u8],
     /// Number of global words (g).
     pub globals: u32,
     /// The constant words as bytes.
     pub constants: &'a [u8],
+    /// The relocation entries as bytes.
+    relocation: &'a [u8],
     /// The source table's pairs as bytes.
     source: &'a [u8],
     pub procedures: u32,
@@ -92,13 +96,10 @@ impl<'a> Split<'a> {
 }
 
 impl<'a> Record<'a> {
-    /// The record's parts, or the lowest number of 1 to 7 that applies.
+    /// The record's parts, or the lowest number of 1 to 3 and 5 to 7 that applies.
     pub fn read(bytes: &'a [u8]) -> Result<Record<'a>, u32> {
         let Split { imports, code, globals, constants, relocation, version, source } =
             Split::read(bytes)?;
-        if !imports.is_empty() || !relocation.is_empty() {
-            return Err(4);
-        }
         if !version_sound(version) {
             return Err(5);
         }
@@ -106,7 +107,8 @@ impl<'a> Record<'a> {
             return Err(6);
         }
         let procedures = count_procedures(code).ok_or(7u32)?;
-        Ok(Record { code, globals, constants, source, procedures, wraps: wraps(version) })
+        let wraps = wraps(version);
+        Ok(Record { imports, code, globals, constants, relocation, source, procedures, wraps })
     }
 
     /// Entry offset of a procedure (PROC of 5.2.2).
@@ -129,14 +131,19 @@ impl<'a> Record<'a> {
         regions
     }
 
-    /// First word of the constants; header word 2 holds it.
-    pub fn constants_at(&self) -> u32 {
-        GLOBALS_AT + self.globals
+    /// Words of the data frame: 3+g+c.
+    pub fn frame_words(&self) -> u32 {
+        HEADER_WORDS + self.globals + self.constants.len() as u32 / 4
     }
 
-    /// Where FP and MP start: 3+g+c.
-    pub fn frames_at(&self) -> u32 {
-        self.constants_at() + self.constants.len() as u32 / 4
+    /// SIDs of the imported libraries, library 1 first.
+    pub fn imports(&self) -> impl Iterator<Item = u32> + 'a {
+        words(self.imports)
+    }
+
+    /// Code offsets of the library bytes to be rewritten.
+    pub fn relocation(&self) -> impl Iterator<Item = u32> + 'a {
+        words(self.relocation)
     }
 
     /// Offsets of the source pairs.
@@ -158,7 +165,7 @@ impl<'a> Record<'a> {
     }
 }
 
-/// 0 for a sound record, or its refusal.
+/// 0 for a sound record, or its refusal: "the record's own test", of 1 to 3 and 5 to 7.
 pub fn number(bytes: &[u8]) -> u32 {
     Record::read(bytes).err().unwrap_or(0)
 }

@@ -3,7 +3,7 @@
 use crate::bytes::{halfword, word, words};
 use crate::check::{check, STRIDE};
 use crate::machine::{load, run};
-use crate::record::{Record, GLOBALS_AT, LARGEST};
+use crate::record::{Record, HEADER_WORDS, LARGEST};
 
 pub const LARGEST_RUN_FILE: usize = 8_192;
 /// Largest memory that a run file may ask for, in words.
@@ -75,7 +75,7 @@ fn run_file(file: &RunFile) -> Result<String, u32> {
         record.span(outcome.at).line(),
         outcome.steps,
         list("s", &stack[..registers.height as usize]),
-        list("g", &memory[GLOBALS_AT as usize..record.constants_at() as usize]),
+        list("g", &memory[HEADER_WORDS as usize..][..record.globals as usize]),
     ))
 }
 

@@ -104,7 +104,9 @@ fn run_calls(path: &Path, library: &Interface, findings: &mut Findings) -> Resul
         let name = format!("{} line {}", path.display(), index + 1);
         let case: Case = case.parse().map_err(|error| format!("{name}: {error}"))?;
         findings.note(case.verb(), &name, expected, &case.answer(library).to_string());
-        note_record(case.record(), expected, &name, library, findings);
+        if let Some(record) = case.record() {
+            note_record(record, expected, &name, library, findings);
+        }
     }
     Ok(())
 }
@@ -136,8 +138,8 @@ fn note_record(
     }
 }
 
-/// The record's number where it is 1 to 7, else 0: a sound record. Mending looks at 1 to 3 alone, so
-/// that another answer leaves it open.
+/// Tells the record's own number where it is 1 to 3 or 5 to 7, else 0: a sound record. Mending looks
+/// at 1 to 3 alone, so that another answer leaves it open.
 fn record_number(answer: &str) -> Option<&str> {
     let words: Vec<&str> = answer.split_whitespace().collect();
     let number = match words[..] {
@@ -146,7 +148,7 @@ fn record_number(answer: &str) -> Option<&str> {
         ["run" | "line" | "span", "refused", number, ..] | ["check" | "load", number, ..] => number,
         _ => "0",
     };
-    Some(if ["1", "2", "3", "4", "5", "6", "7"].contains(&number) { number } else { "0" })
+    Some(if ["1", "2", "3", "5", "6", "7"].contains(&number) { number } else { "0" })
 }
 
 fn read_text(path: &Path) -> Result<String, String> {

@@ -1,13 +1,15 @@
 //! Programs for timing: endless loops for the machine, full-size code for the check.
 
-use crate::cases::{Answer, Case, Words};
+use crate::cases::{Answer, Case, Module, Words};
 use crate::check::examine;
+use crate::cut::library_bytes;
 use crate::generate::assembler::{Assembler, Branch, Range};
 use crate::generate::program;
 use crate::generate::record::{set_entry, Parts};
 use crate::interface::REFERENCE;
 use crate::random::Random;
-use crate::record::Record;
+use crate::record::{Record, LARGEST};
+use crate::set::{Lent, Set, MOST_MODULES};
 
 pub struct Workload {
     pub name: &'static str,
@@ -15,8 +17,19 @@ pub struct Workload {
     pub results: Vec<u8>,
 }
 
+/// A set of modules (02, K1).
+pub struct SetWorkload {
+    pub name: &'static str,
+    pub modules: Vec<Module>,
+}
+
 /// A record of procedures 1, 2, .. and then 0, given as code and number of results.
 fn workload(name: &'static str, procedures: Vec<(Vec<u8>, u8)>) -> Workload {
+    let (parts, results) = parts(procedures);
+    Workload { name, record: parts.assemble(), results }
+}
+
+fn parts(procedures: Vec<(Vec<u8>, u8)>) -> (Parts, Vec<u8>) {
     let count = procedures.len();
     let mut code = vec![0; 2 * count];
     let mut results = vec![0; count];
@@ -28,8 +41,7 @@ fn workload(name: &'static str, procedures: Vec<(Vec<u8>, u8)>) -> Workload {
         code.extend(body);
     }
     let constants = vec![7, 11, 13, 17];
-    let parts = Parts { code, globals: 16, constants, ..Parts::default() };
-    Workload { name, record: parts.assemble(), results }
+    (Parts { code, globals: 16, constants, ..Parts::default() }, results)
 }
 
 /// The instructions, over and over.
@@ -180,6 +192,68 @@ fn sets() -> Workload {
     workload("sets", vec![(body, 0)])
 }
 
+/// Makes endless loops over sets of modules.
+pub fn for_set_run() -> Vec<SetWorkload> {
+    vec![library()]
+}
+
+/// g0 := library.f(5), where f is as in `calls`; library.g1 := library.g0
+fn library() -> SetWorkload {
+    const SID: u32 = 7;
+    let function = vec![0xe8, 1, 1, 0x10, 0x01, 0xa0, 0x41, 0x11, 0xe9];
+    let body = repeated(|code| {
+        code.bytes(&[0x05, 0xe6, 1, 1, 0x50, 0x89, 1, 0, 0x98, 1, 1]);
+    });
+    let (mut main, main_results) = parts(vec![(body, 0)]);
+    main.imports = vec![SID];
+    // The library bytes, behind an entry table of two bytes.
+    main.relocation = vec![4, 8, 11];
+    let (library, results) = parts(vec![(function, 1), (vec![0xe9], 0)]);
+    let main = Module { sid: 0, record: main.assemble(), results: main_results };
+    let library = Module { sid: SID, record: library.assemble(), results };
+    SetWorkload { name: "library", modules: vec![main, library] }
+}
+
+/// Makes sets of modules whose checks take long.
+pub fn for_set_check() -> Vec<SetWorkload> {
+    vec![largest_set()]
+}
+
+/// Sixteen modules with code and tables of full size, each with external instructions throughout.
+fn largest_set() -> SetWorkload {
+    let sids = || 1..MOST_MODULES as u32;
+    let module = |sid: u32| {
+        let (mut parts, results) = parts(vec![(vec![0xe8, 0, 0, 0xe9], 0), (externals(), 0)]);
+        parts.globals = 16;
+        parts.constants = vec![7; LARGEST[3] as usize];
+        parts.imports = sids().cycle().take(LARGEST[0] as usize).collect();
+        parts.version = vec![*b" 3/-"; LARGEST[5] as usize];
+        parts.source = (0..LARGEST[6] / 2).flat_map(|pair| [4 * pair, pair]).collect();
+        let linked = parts.assemble();
+        let places = Record::read(&linked).map(|record| library_bytes(&record));
+        let places = places.unwrap_or_default().into_iter().map(|place| place as u32);
+        parts.relocation =
+            places.collect::<Vec<_>>().into_iter().cycle().take(LARGEST[4] as usize).collect();
+        Module { sid, record: parts.assemble(), results }
+    };
+    SetWorkload {
+        name: "largest set",
+        modules: [0].into_iter().chain(sids()).map(module).collect(),
+    }
+}
+
+/// LOAD_E, STOR_E and CALL_E of each library in turn, up to the largest code behind two entries and
+/// a procedure of four bytes.
+fn externals() -> Vec<u8> {
+    let room = LARGEST[1] as usize - 8;
+    let uses = (1..MOST_MODULES as u8).cycle();
+    let uses = uses.map(|library| [0x89, library, 0, 0x98, library, 1, 0xe6, library, 1]);
+    let mut body: Vec<u8> = uses.take((room - 1) / 9).flatten().collect();
+    body.resize(room - 1, 0xff);
+    body.push(0xe9);
+    body
+}
+
 /// A program of the mix as it was loaded, and the steps that it then takes.
 pub struct Mixed {
     pub record: Vec<u8>,
@@ -196,10 +270,10 @@ pub fn mix() -> Vec<Mixed> {
 fn mixed(random: &mut Random) -> Option<Mixed> {
     let program = program::usual(random);
     let record = program.parts.assemble();
-    let read = Record::read(&record).ok()?;
-    examine(&read, &program.results).ok()?;
-    let memory = vec![0; read.frames_at() as usize + 300];
-    let parameters = random.words(read.globals as usize);
+    let set = Set::read(&[Lent::main(&record, &program.results)]).ok()?;
+    examine(&set, 0).ok()?;
+    let memory = vec![0; set.frames_at() as usize + 300];
+    let parameters = random.words(program.parts.globals as usize);
     let stack = vec![0; 200];
     let case = Case::Load { record: record.clone(), parameters, memory, stack };
     let Answer::Load { number: 0, machine: loaded } = case.answer(&REFERENCE) else { return None };
@@ -288,4 +362,22 @@ fn long_switch() -> Workload {
     code.mark(exit);
     code.bytes(&[0xe9]);
     workload("long switch", vec![(assembled(code), 0)])
+}
+
+#[cfg(test)]
+mod tests {
+    use super::{for_set_check, for_set_run, Module};
+    use crate::check::examine;
+    use crate::set::Set;
+
+    #[test]
+    fn workloads_over_sets_are_accepted() {
+        for workload in for_set_run().into_iter().chain(for_set_check()) {
+            let lent: Vec<_> = workload.modules.iter().map(Module::lend).collect();
+            let set = Set::read(&lent).unwrap_or_else(|number| panic!("{number}"));
+            for own in 0..lent.len() {
+                assert!(examine(&set, own).is_ok(), "{} {own}", workload.name);
+            }
+        }
+    }
 }

@@ -14,6 +14,9 @@ pub struct Flag {
 /// How many result words each procedure leaves, which a record does not hold itself.
 pub const RESULTS: Flag = Flag { name: "--results", value: Some("DIGITS") };
 
+/// A library that is lent beside the file (02, K1); it may be given more than once.
+pub const LIBRARY: Flag = Flag { name: "--library", value: Some("SID=FILE") };
+
 const MAX_PROCEDURES: usize = 256;
 
 pub struct Arguments {
@@ -57,6 +60,12 @@ impl Arguments {
     pub fn value(&self, name: &str) -> Option<&OsStr> {
         let found = self.options.iter().rev().find(|(option, _)| *option == name);
         found.map(|(_, value)| value.as_os_str())
+    }
+
+    /// Lists the values of an option that may be given more than once, in the order given.
+    pub fn values<'a>(&'a self, name: &'a str) -> impl Iterator<Item = &'a OsStr> {
+        let of_name = self.options.iter().filter(move |(option, _)| *option == name);
+        of_name.map(|(_, value)| value.as_os_str())
     }
 
     /// Reads the value of an option as a number of steps.

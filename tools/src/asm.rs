@@ -9,11 +9,12 @@ mod program;
 mod switch;
 mod tokens;
 
-use crate::arguments::{Arguments, Flag};
+use crate::arguments::{Arguments, Flag, LIBRARY};
 use crate::command::Command;
 use crate::destination::Destination;
 use crate::failure::{shown, Failure, Status};
 use crate::input;
+use crate::libraries::Libraries;
 use crate::output::Output;
 use crate::pictures::NO_PICTURE;
 use crate::verdict::{split_run_file, Verdict};
@@ -31,11 +32,15 @@ pub const COMMAND: Command = Command {
     summary: "makes a record or a run file from text",
     usage: USAGE,
     help: HELP,
-    flags: &[Flag { name: "-o", value: Some("OUT") }, Flag { name: "--no-check", value: None }],
+    flags: &[
+        Flag { name: "-o", value: Some("OUT") },
+        Flag { name: "--no-check", value: None },
+        LIBRARY,
+    ],
     run,
 };
 
-const USAGE: &str = "icode asm [--no-check] [-o OUT] FILE";
+const USAGE: &str = "icode asm [--no-check | --library SID=FILE ..] [-o OUT] FILE";
 
 const HELP: &str = "\
 Makes a record or a run file from text (- is standard input), and writes it to OUT or to standard
@@ -45,6 +50,9 @@ output. Each line has one of these; ; begins a comment:
   .constants WORD ..    words of the constants
   .version \"12/B\" ..    words of the version table, as four characters or numbers; where the first
                         names an issue before 3/-, unsigned add, subtract and multiply wrap
+  .import SID ..        libraries, by their SIDs: library 1, 2, .. of the external instructions
+  .relocation N ..      the relocation table as it is; without it, it has the library byte of every
+                        external instruction
   .results N ..         result words of each procedure from 0 on, else 0 for each; a record is
                         checked with them, but does not hold them
   .parameters WORD ..   the run file's parameters
@@ -59,6 +67,7 @@ output. Each line has one of these; ; begins a comment:
   LOAD_C.h 1000         an instruction, with its operands as icode list shows them
   JUMP.b NAME           to a label, or a distance such as +2 or -8; ITER likewise
   CALL.b NAME           of a procedure by its name or number
+  CALL_E 1, 2           of procedure 2 of library 1; LOAD_E, LOAD_A_E and STOR_E likewise, of a global
   SWITCH                then its rows, one in a line:
     exit -> NAME          where LEAVE goes
     else -> NAME          for every other value
@@ -69,8 +78,9 @@ A text with .budget, .memory and .stack is that of a run file. Numbers are decim
 What is made is checked, and loaded too if it is a run file. Where it is refused, nothing is
 written.
 
-  -o OUT      write to a file
-  --no-check  write it unchecked, to look at a refusal
+  -o OUT              write to a file
+  --no-check          write it unchecked, to look at a refusal, or without its libraries
+  --library SID=FILE  check it with a run file as the library SID; may be given up to 15 times
 ";
 
 fn run(arguments: &Arguments, out: &mut Output) -> Result<Status, Failure> {
@@ -80,12 +90,13 @@ fn run(arguments: &Arguments, out: &mut Output) -> Result<Status, Failure> {
     if to.is(name) {
         return Err(usage("OUT is the text itself".to_string()));
     }
-    let built = assemble(name, arguments.has("--no-check"))?;
+    let libraries = Libraries::read(arguments, USAGE)?;
+    let built = assemble(name, arguments.has("--no-check"), &libraries)?;
     to.write(out, &built.bytes)?;
     Ok(Status::Done)
 }
 
-fn assemble(name: &OsStr, unchecked: bool) -> Result<Built, Failure> {
+fn assemble(name: &OsStr, unchecked: bool, libraries: &Libraries) -> Result<Built, Failure> {
     let bytes = input::read(name, MAX_TEXT_BYTES)?;
     if bytes.len() > MAX_TEXT_BYTES {
         let why = "longer than 4,194,304 bytes, more than any text needs";
@@ -98,7 +109,7 @@ fn assemble(name: &OsStr, unchecked: bool) -> Result<Built, Failure> {
     let program = parse::parse(text).map_err(faulty)?;
     let built = build::build(&program).map_err(faulty)?;
     if !unchecked {
-        check(name, &built)?;
+        check(name, &built, libraries)?;
     }
     Ok(built)
 }
@@ -117,13 +128,13 @@ fn describe(name: &OsStr, mut faults: Vec<TextFault>) -> Vec<String> {
 }
 
 /// Refuses what check and load refuse, at the line of the text that is behind it.
-fn check(name: &OsStr, built: &Built) -> Result<(), Failure> {
+fn check(name: &OsStr, built: &Built, libraries: &Libraries) -> Result<(), Failure> {
     let file = match built.is_run_file {
         true => Some(split_run_file(name, &built.bytes)?),
         false => None,
     };
     let record = file.as_ref().map_or(&built.bytes[..], |file| file.record);
-    let verdict = Verdict::of(record, Some(&built.results), file.as_ref());
+    let verdict = Verdict::of(record, Some(&built.results), file.as_ref(), libraries);
     if verdict.is_accepted() {
         return Ok(());
     }

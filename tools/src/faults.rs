@@ -1,4 +1,4 @@
-//! The instructions behind the numbers 10 to 14. Which number it is the library says; the rules
+//! The instructions behind the numbers 10 to 14 and 18. Which number it is the library says; the rules
 //! here are 01's, and find the places that break them.
 
 use crate::bytes::counted;
@@ -16,7 +16,7 @@ pub struct Fault {
 }
 
 impl Fault {
-    fn at(offset: usize, text: String) -> Fault {
+    pub fn at(offset: usize, text: String) -> Fault {
         Fault { place: offset..offset + 1, row: None, text }
     }
 
@@ -121,7 +121,7 @@ pub fn callees(procedures: &[Procedure]) -> Vec<Fault> {
 }
 
 /// Applies a rule to the instructions, in the order of the code.
-fn each(
+pub fn each(
     procedures: &[Procedure],
     rule: impl Fn(&Procedure, &Instruction) -> Vec<Fault>,
 ) -> Vec<Fault> {

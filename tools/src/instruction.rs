@@ -1,6 +1,7 @@
 //! An instruction of the code, as the library decodes it, in the manual's words.
 
 use crate::library;
+use crate::record::Record;
 use crate::sheet::{Form, Operands, Sheet};
 use crate::switch_table::{self, Row};
 
@@ -10,8 +11,9 @@ pub struct Instruction {
     pub form: &'static Form,
     /// Whether DOUBLE stands before it.
     pub double: bool,
+    /// The library number of an external one.
     pub operand: u32,
-    /// The second operand, of ENTER.
+    /// The second operand, of ENTER and of an external one.
     pub second: u32,
     /// In bytes, with the prefix.
     pub len: usize,
@@ -36,9 +38,23 @@ impl Instruction {
         self.at + self.len
     }
 
-    /// Answers the procedure that it calls.
+    /// Answers the procedure of the same module that it calls.
     pub fn callee(&self) -> Option<u32> {
-        self.form.name.starts_with("CALL").then_some(self.operand)
+        (self.form.name.starts_with("CALL") && !self.is_external()).then_some(self.operand)
+    }
+
+    /// Answers the library number and the procedure there that it calls.
+    pub fn external_callee(&self) -> Option<(u32, u32)> {
+        (self.form.name == "CALL_E").then_some((self.operand, self.second))
+    }
+
+    pub fn is_external(&self) -> bool {
+        self.form.operands() == Operands::External
+    }
+
+    /// Answers the offset of an external one's library byte.
+    pub fn library_byte(&self) -> Option<usize> {
+        self.is_external().then_some(self.at + 1)
     }
 
     /// Writes the name as the manual does, with the prefix before it.
@@ -56,6 +72,18 @@ impl Instruction {
         }
     }
 
+    /// Writes the same; of an external one also the SID of its library, and what it is there.
+    pub fn text_in(&self, record: &Record) -> String {
+        let text = self.text();
+        match record.import(self.operand).filter(|_| self.is_external()) {
+            Some(sid) => {
+                let what = if self.external_callee().is_some() { "procedure" } else { "global" };
+                format!("{text} -> SID {sid}, {what} {}", self.second)
+            }
+            None => text,
+        }
+    }
+
     /// Writes the name with its operands, as numbers alone. Only LOAD_C.w has a word, a signed one.
     pub fn text_without_target(&self) -> String {
         let (name, operand) = (self.name(), self.operand as i32);
@@ -63,7 +91,7 @@ impl Instruction {
             Operands::Absent => name,
             Operands::Distance => format!("{name} {operand:+}"),
             Operands::Number | Operands::Procedure | Operands::Table => format!("{name} {operand}"),
-            Operands::Two => format!("{name} {operand}, {}", self.second),
+            Operands::Two | Operands::External => format!("{name} {operand}, {}", self.second),
         }
     }
 

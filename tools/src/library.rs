@@ -8,11 +8,15 @@ mod archive;
 /// The number of an instruction that is not served.
 pub const UNSERVED: u32 = 10;
 /// Words of a machine's state, and the places of some of them.
-pub const STATE_WORDS: usize = 6;
+pub const STATE_WORDS: usize = 7;
 pub const PC: usize = 0;
 pub const FP: usize = 1;
+pub const GP: usize = 3;
 pub const HEIGHT: usize = 4;
 pub const CALLS: usize = 5;
+pub const MODULE: usize = 6;
+/// Words of an outcome: end, place, steps and the module of the place.
+pub const OUTCOME_WORDS: usize = 4;
 
 /// Longer than the report of any run file.
 const REPORT_BYTES: usize = 32_768;
@@ -42,15 +46,15 @@ pub struct Decoded {
 /// 0 for a sound record, else the number that refuses it, 1 to 7.
 pub use archive::record_number;
 
-/// 0 where the record is accepted, else the number that refuses it. A workspace of zeros stays so
-/// where it is refused.
-pub use archive::check;
+/// 0 where a module of a set is accepted, else the number that refuses it. A workspace of zeros
+/// stays so where it is refused.
+pub use archive::set_check;
 
-/// Writes memory and state, and answers 0; else 1 to 8.
-pub use archive::load;
+/// Writes copy, memory and state, and answers 0; else the number that refuses the set.
+pub use archive::set_load;
 
-/// Runs from a state for at most a budget, and answers 0; the outcome is end, place and steps.
-pub use archive::run;
+/// Runs from a state for at most a budget, and answers 0.
+pub use archive::set_run;
 
 /// Looks up the whole source line of a code offset; none outside the code, or where the record is
 /// refused.

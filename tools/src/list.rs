@@ -8,15 +8,17 @@ mod parts;
 mod rows;
 mod text;
 
-use crate::arguments::{Arguments, Flag, RESULTS};
+use crate::arguments::{Arguments, Flag, LIBRARY, RESULTS};
 use crate::command::Command;
 use crate::failure::{Failure, Status};
+use crate::input;
 use crate::judged::Judged;
+use crate::libraries::Libraries;
 use crate::meaning::meaning;
-use crate::outcome::{Ended, Page};
+use crate::outcome::{self, Ended, Page};
 use crate::output::Output;
 use crate::record::Record;
-use crate::{input, library};
+use crate::set::Set;
 use marks::Marks;
 use rows::Listing;
 use std::io::{self, Write};
@@ -26,15 +28,16 @@ pub const COMMAND: Command = Command {
     summary: "shows a record or a run file, with the place behind a refusal or a trap",
     usage: USAGE,
     help: HELP,
-    flags: &[Flag { name: "--asm", value: None }, RESULTS],
+    flags: &[Flag { name: "--asm", value: None }, RESULTS, LIBRARY],
     run,
 };
 
-const USAGE: &str = "icode list [--asm] [--results DIGITS] FILE";
+const USAGE: &str = "icode list [--asm] [--results DIGITS] [--library SID=FILE].. FILE";
 
 const HELP: &str = "\
-Shows a record or a run file (- is standard input): its parts, whether unsigned results wrap by its
-issue, what check and load say of it, then its code. For each instruction:
+Shows a record or a run file (- is standard input): its parts, the libraries that it imports, whether
+unsigned results wrap by its issue, what check and load say of it, then its code. For each
+instruction:
 
   offset  of its first byte in the code
   line    in the source, 0 where the source table has none
@@ -45,42 +48,46 @@ A run file is run as it stands. Before the offset there may be a mark:
 
   *  the run trapped here
   >  belongs to the source line of the trap
-  !  is behind the refusal: each instruction that breaks the rule of 10 to 14; for 15 every one of a
-     procedure that has no stack picture
+  !  is behind the refusal: each instruction that breaks the rule of 10 to 14 or 18; for 15 every
+     one of a procedure that has no stack picture
 
-  --asm             print the text that makes this file, for icode asm; nothing is run. The columns
-                    above are not in it, and jumps lead to labels
-  --results DIGITS  how many result words each procedure leaves, from procedure 0 on, such as 001;
-                    else the run file's list, or 0 for each
+  --asm               print the text that makes this file, for icode asm; nothing is run. The columns
+                      above are not in it, and jumps lead to labels
+  --results DIGITS    how many result words each procedure leaves, from procedure 0 on, such as 001;
+                      else the run file's list, or 0 for each
+  --library SID=FILE  check and run it with a run file as the library SID, as icode page does
 ";
 
 fn run(arguments: &Arguments, out: &mut Output) -> Result<Status, Failure> {
     let usage = |fault| Failure::Usage(fault, USAGE);
     let name = arguments.one_file().map_err(usage)?;
     let results = arguments.results().map_err(usage)?;
+    let libraries = Libraries::read(arguments, USAGE)?;
     let bytes = input::read_any(name)?;
-    let listed = Judged::of(name, &bytes, results.as_deref())?;
+    let listed = Judged::of(name, &bytes, results.as_deref(), &libraries)?;
     if arguments.has("--asm") {
         let record = Record::split(listed.record).ok().filter(|record| record.number == 0);
         text::print(out, &listed, &record.ok_or_else(|| listed.refused(name))?)?;
         return Ok(listed.verdict.status());
     }
-    Ok(listed.print(out)?)
+    Ok(listed.print(out, &libraries)?)
 }
 
 impl Judged<'_> {
-    fn print(&self, out: &mut Output) -> io::Result<Status> {
+    fn print(&self, out: &mut Output, libraries: &Libraries) -> io::Result<Status> {
         if let Some(file) = &self.file {
             parts::print_head(out, file, self.bytes.len())?;
         }
         let split = Record::split(self.record);
         parts::print_sizes(out, self.record)?;
         if let Ok(record) = &split {
+            parts::print_imports(out, record, libraries)?;
             parts::print_tables(out, record, self.results.is_none())?;
         }
         self.print_verdict(out)?;
-        let ended = self.file.as_ref().and_then(|_| run_end(self.bytes));
-        let marks = Marks::new(&self.verdict, self.record, ended.as_ref());
+        let ended = self.file.as_ref().and_then(|_| run_end(self.bytes, libraries));
+        let set = Set::new(self.record, &[], libraries);
+        let marks = Marks::new(&self.verdict, &set, ended.as_ref());
         marks.print_end(out)?;
         match &split {
             Ok(record) if record.number == 0 => {
@@ -109,8 +116,8 @@ impl Judged<'_> {
 }
 
 /// Runs a run file; none where it is refused.
-fn run_end(run_file: &[u8]) -> Option<Ended> {
-    match Page::read(&library::report(run_file))? {
+fn run_end(run_file: &[u8], libraries: &Libraries) -> Option<Ended> {
+    match Page::read(&outcome::page(run_file, libraries))? {
         Page::Ended(ended) => Some(ended),
         Page::Refused(_) => None,
     }

@@ -1,9 +1,10 @@
 //! The proved machine, loaded and run through the library.
 
 use crate::failure::Failure;
-use crate::library::{self, CALLS, FP, HEIGHT, PC, STATE_WORDS};
-use crate::record::{self, Record};
+use crate::library::{CALLS, FP, GP, HEIGHT, MODULE, OUTCOME_WORDS, PC, STATE_WORDS};
+use crate::record;
 use crate::run_file::RunFile;
+use crate::set::{Module, Set, FRAME_HEAD_WORDS};
 use crate::sheet::Sheet;
 
 /// Ends of a run that are no traps.
@@ -14,7 +15,8 @@ const TOO_FEW_WORDS: u32 = 22;
 const MAX_STACK_WORDS: usize = 1_024;
 
 pub struct Machine<'a> {
-    record: &'a [u8],
+    set: &'a Set<'a>,
+    copy: Vec<u8>,
     pub memory: Vec<u32>,
     stack: Vec<u32>,
     state: [u32; STATE_WORDS],
@@ -25,25 +27,29 @@ pub struct Outcome {
     pub end: u32,
     pub at: usize,
     pub steps: u32,
+    /// The module that the place is in.
+    pub module: usize,
 }
 
 impl<'a> Machine<'a> {
-    /// Loads a run file's record, or answers the number that refuses it. Nothing is checked.
-    pub fn load(file: &RunFile<'a>) -> Result<Machine<'a>, u32> {
+    /// Loads a set with the parameters and sizes of a run file, or answers the number that refuses
+    /// it. Nothing is checked.
+    pub fn load(set: &'a Set<'a>, file: &RunFile) -> Result<Machine<'a>, u32> {
         let (memory, stack) = (file.memory_words.into(), file.stack_words.into());
-        Machine::with_sizes(file.record, &file.parameters, memory, stack)
+        Machine::with_sizes(set, &file.parameters, memory, stack)
     }
 
     fn with_sizes(
-        record: &'a [u8],
+        set: &'a Set<'a>,
         parameters: &[u32],
         memory_words: usize,
         stack_words: usize,
     ) -> Result<Machine<'a>, u32> {
         let (memory, stack) = (vec![0; memory_words], vec![0; stack_words]);
-        let mut machine = Machine { record, memory, stack, state: [0; STATE_WORDS] };
-        let Machine { memory, stack, state, .. } = &mut machine;
-        match library::load(record, parameters, memory, stack, state) {
+        let copy = vec![0; set.code_bytes()];
+        let mut machine = Machine { set, copy, memory, stack, state: [0; STATE_WORDS] };
+        let Machine { copy, memory, stack, state, .. } = &mut machine;
+        match set.load(parameters, copy, memory, stack, state) {
             0 => Ok(machine),
             number => Err(number),
         }
@@ -51,10 +57,13 @@ impl<'a> Machine<'a> {
 
     /// Runs for at most a budget. A state that was loaded and run always fits.
     pub fn run(&mut self, budget: u32) -> Result<Outcome, Failure> {
-        let Machine { record, memory, stack, state } = self;
-        let mut outcome = [0; 3];
-        match library::run(record, budget, memory, stack, state, &mut outcome) {
-            0 => Ok(Outcome { end: outcome[0], at: outcome[1] as usize, steps: outcome[2] }),
+        let Machine { set, copy, memory, stack, state } = self;
+        let mut outcome = [0; OUTCOME_WORDS];
+        match set.run(budget, copy, memory, stack, state, &mut outcome) {
+            0 => {
+                let [end, at, steps, module] = outcome;
+                Ok(Outcome { end, at: at as usize, steps, module: module as usize })
+            }
             number => Err(Failure::Library(number)),
         }
     }
@@ -62,6 +71,11 @@ impl<'a> Machine<'a> {
     /// Answers the offset of the next instruction.
     pub fn place(&self) -> usize {
         self.state[PC] as usize
+    }
+
+    /// Answers the module that it is in.
+    pub fn module(&self) -> usize {
+        self.state[MODULE] as usize
     }
 
     /// Answers where the running procedure's words begin in memory.
@@ -80,13 +94,17 @@ impl<'a> Machine<'a> {
     }
 }
 
-/// Counts the stack words that the instruction at an offset has to find, by asking the machine:
-/// with fewer it traps 22, before it looks at anything else.
-pub fn words_found(record: &Record, at: usize) -> usize {
-    let fresh = || Machine::with_sizes(record.bytes, &[], record.loaded_words(), MAX_STACK_WORDS);
+/// Counts the stack words that the instruction at an offset of a module has to find, by asking the
+/// machine: with fewer it traps 22, before it looks at anything else.
+pub fn words_found(set: &Set, module: usize, at: usize) -> usize {
+    let frames = set.frames();
+    let memory = frames.last().copied().unwrap_or(0);
     let enough = |height: &usize| {
-        let Ok(mut machine) = fresh() else { return true };
+        let fresh = Machine::with_sizes(set, &[], memory, MAX_STACK_WORDS);
+        let Ok(mut machine) = fresh else { return true };
         machine.state[PC] = at as u32;
+        machine.state[GP] = (frames[module] + FRAME_HEAD_WORDS) as u32;
+        machine.state[MODULE] = module as u32;
         machine.state[HEIGHT] = *height as u32;
         !matches!(machine.run(1), Ok(Outcome { end: TOO_FEW_WORDS, .. }))
     };
@@ -99,7 +117,8 @@ pub fn wraps(version: &[u8]) -> Option<bool> {
     let [zero, one, subtract, end] =
         ["LOAD_C.0", "LOAD_C.1", "SUB_U", "RTN"].map(|name| Sheet::get().code_of(name));
     let record = record::from_code(&[0, 2, zero, one, subtract, end], version);
-    let mut machine = Machine::with_sizes(&record, &[], 3, 2).ok()?;
+    let set = Set::of(vec![Module { record: &record, results: &[0], library: None }]);
+    let mut machine = Machine::with_sizes(&set, &[], 3, 2).ok()?;
     let outcome = machine.run(4).ok()?;
     Some(outcome.end == FINISHED)
 }

@@ -18,6 +18,7 @@ mod output;
 mod standard;
 
 mod bytes;
+mod libraries;
 mod library;
 mod meaning;
 
@@ -25,11 +26,14 @@ mod code;
 mod instruction;
 mod record;
 mod run_file;
+mod set;
 mod sheet;
 mod switch_table;
 
+mod blame;
 mod faults;
 mod judged;
+mod linkage;
 mod machine;
 mod outcome;
 mod pictures;

@@ -8,7 +8,6 @@ pub fn meaning(number: u32) -> &'static str {
         1 => "record under 28 bytes",
         2 => "a size above its maximum",
         3 => "length not that of the parts",
-        4 => "imports or relocation present",
         5 => "version word malformed",
         6 => "source table odd, or its offsets not strictly rising and below the code size",
         7 => {
@@ -30,6 +29,14 @@ pub fn meaning(number: u32) -> &'static str {
         14 => "callee 0 or not in the entries",
         15 => "some region has no picture",
         16 => "run file malformed or too long",
+        17 => {
+            "an import not among the lent libraries, two libraries under one SID, \
+             or over 16 modules"
+        }
+        18 => {
+            "relocation entries not just the library bytes of the cut external instructions, \
+             or such a byte 0 or past the imports"
+        }
         30 => "zero divisor",
         31 => "number does not fit",
         32 => "not live",

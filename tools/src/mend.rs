@@ -3,7 +3,7 @@
 
 mod dropped;
 
-use crate::arguments::{Arguments, Flag, RESULTS};
+use crate::arguments::{Arguments, Flag, LIBRARY, RESULTS};
 use crate::bytes::counted;
 use crate::command::Command;
 use crate::destination::Destination;
@@ -12,6 +12,7 @@ use crate::files;
 use crate::identity;
 use crate::input;
 use crate::judged::Judged;
+use crate::libraries::Libraries;
 use crate::library::{self, Mended};
 use crate::output::{self, Output};
 use crate::record::Record;
@@ -30,6 +31,7 @@ pub const COMMAND: Command = Command {
         Flag { name: IN_PLACE, value: None },
         Flag { name: DRY_RUN, value: None },
         RESULTS,
+        LIBRARY,
     ],
     run,
 };
@@ -41,7 +43,8 @@ const DRY_RUN: &str = "--dry-run";
 /// Stands behind the name of the mended file where no other is asked for.
 const ENDING: &str = ".mended";
 
-const USAGE: &str = "icode mend [-o OUT | --in-place | --dry-run] [--results DIGITS] FILE";
+const USAGE: &str = "icode mend [-o OUT | --in-place | --dry-run] [--results DIGITS] \
+                     [--library SID=FILE].. FILE";
 
 const HELP: &str = "\
 Mends what refuses a record, or the record in a run file, with 5 or 6 (- is standard input):
@@ -52,9 +55,9 @@ Mends what refuses a record, or the record in a run file, with 5 or 6 (- is stan
 
 Their sizes in the header follow. All else stays byte for byte, and so does the head of a run file.
 Prints each dropped word, with its byte in the old record and the number that refuses it, and what
-check and load say before and after; then writes the mended file. It may still be refused, by 4, 7
-or a later number: it is written all the same, and the exit status is 1. What is refused with 1, 2,
-3 or 16 cannot be mended.
+check and load say before and after; then writes the mended file. It may still be refused, by 7 or
+a later number: it is written all the same, and the exit status is 1. What is refused with 1, 2, 3
+or 16 cannot be mended.
 
 The mended file is FILE.mended, which must not exist; where nothing is dropped, none is written.
 One of these asks for something else:
@@ -64,8 +67,10 @@ One of these asks for something else:
   --in-place        write it over FILE; where nothing is dropped, FILE is left alone
   --dry-run         write nothing
 
-  --results DIGITS  how many result words each procedure leaves, from procedure 0 on, such as 001;
-                    else the run file's list. Without it a record alone is judged with all results 0
+  --results DIGITS    how many result words each procedure leaves, from procedure 0 on, such as 001;
+                      else the run file's list. Without it a record alone is judged with all
+                      results 0
+  --library SID=FILE  judge it with a run file as the library SID; may be given up to 15 times
 ";
 
 fn run(arguments: &Arguments, out: &mut Output) -> Result<Status, Failure> {
@@ -74,11 +79,12 @@ fn run(arguments: &Arguments, out: &mut Output) -> Result<Status, Failure> {
     let to = destination(arguments, name).map_err(usage)?;
     let results = arguments.results().map_err(usage)?;
     keep_apart(to.as_ref(), name).map_err(usage)?;
+    let libraries = Libraries::read(arguments, USAGE)?;
     let old = input::read_any(name)?;
-    let before = Judged::of(name, &old, results.as_deref())?;
+    let before = Judged::of(name, &old, results.as_deref(), &libraries)?;
     let mended = library::mend(before.record).map_err(|_| before.refused(name))?;
     let new = [before.head(), &mended.record].concat();
-    let after = Judged::of(name, &new, results.as_deref())?;
+    let after = Judged::of(name, &new, results.as_deref(), &libraries)?;
     let report = describe(&before, &mended, &after);
     match to {
         None => writeln!(out, "{report}nothing is written, as {DRY_RUN} asks")?,

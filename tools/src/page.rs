@@ -1,13 +1,14 @@
 //! `icode page`: the page of each run file, and a sentence about it for people.
 
-use crate::arguments::{Arguments, Flag};
+use crate::arguments::{Arguments, Flag, LIBRARY};
 use crate::bytes::WordForm;
 use crate::command::Command;
 use crate::failure::{about, shown, Failure, Status};
-use crate::library;
-use crate::outcome::Page;
+use crate::libraries::Libraries;
+use crate::outcome::{self, Page};
 use crate::output::Output;
 use crate::run_file::RunFile;
+use crate::set::Set;
 use crate::verdict::{refusal, Verdict};
 use crate::{input, record};
 use std::ffi::OsStr;
@@ -18,11 +19,11 @@ pub const COMMAND: Command = Command {
     summary: "prints the page of each run file, and says what happened",
     usage: USAGE,
     help: HELP,
-    flags: &[Flag { name: "--signed", value: None }],
+    flags: &[Flag { name: "--signed", value: None }, LIBRARY],
     run,
 };
 
-const USAGE: &str = "icode page [--signed] FILE..";
+const USAGE: &str = "icode page [--signed] [--library SID=FILE].. FILE..";
 
 const HELP: &str = "\
 Checks, loads and runs each run file (- is standard input) and prints its page:
@@ -36,8 +37,11 @@ Checks, loads and runs each run file (- is standard input) and prints its page:
 With several files a line ==> FILE <== stands before each page. A sentence on standard error says
 what happened, at which source line and with which words.
 
-  --signed  words of the stack and globals as signed numbers; without it the page is byte for byte
-            the printer's
+  --signed            words of the stack and globals as signed numbers; without it, and without
+                      libraries, the page is byte for byte the printer's
+  --library SID=FILE  lend the record and the results list of a run file as the library SID, decimal
+                      or hex with 0x; may be given up to 15 times. Then the line of the end also has
+                      the module that it is in: 0 for FILE, 1, 2, .. for the libraries as given
 ";
 
 fn run(arguments: &Arguments, out: &mut Output) -> Result<Status, Failure> {
@@ -46,9 +50,7 @@ fn run(arguments: &Arguments, out: &mut Output) -> Result<Status, Failure> {
     if files.is_empty() {
         return Err(usage("no file is given"));
     }
-    if files.iter().filter(|name| *name == "-").count() > 1 {
-        return Err(usage("standard input can be read only once"));
-    }
+    let libraries = Libraries::read(arguments, USAGE)?;
     let form = if arguments.has("--signed") { WordForm::Signed } else { WordForm::Unsigned };
     let mut worst = Status::Done;
     for name in files {
@@ -57,7 +59,7 @@ fn run(arguments: &Arguments, out: &mut Output) -> Result<Status, Failure> {
                 if files.len() > 1 {
                     writeln!(out, "==> {} <==", shown(name))?;
                 }
-                print_page(out, name, &bytes, form)?
+                print_page(out, name, &bytes, form, &libraries)?
             }
             Err(failure) => {
                 out.say(&failure.message())?;
@@ -74,16 +76,20 @@ fn print_page(
     name: &OsStr,
     bytes: &[u8],
     form: WordForm,
+    libraries: &Libraries,
 ) -> Result<Status, Failure> {
-    let page = library::report(bytes);
+    let page = outcome::page(bytes, libraries);
     match form {
         WordForm::Unsigned => out.write_all(&page)?,
         _ => out.write_all(in_form(&page, form).as_bytes())?,
     }
     let (status, sentence) = match (Page::read(&page), RunFile::split(bytes)) {
-        (Some(Page::Ended(ended)), Ok(file)) => (ended.status(), ended.sentence(&file, form)),
+        (Some(Page::Ended(ended)), Ok(file)) => {
+            let set = Set::new(file.record, file.results, libraries);
+            (ended.status(), ended.sentence(&set, &file, form))
+        }
         (Some(Page::Refused(number)), Ok(file)) => {
-            let verdict = Verdict::of(file.record, Some(file.results), Some(&file));
+            let verdict = Verdict::of(file.record, Some(file.results), Some(&file), libraries);
             (Status::NotDone, refusal(number, &verdict.reason))
         }
         (Some(Page::Refused(number)), Err(rule)) => (Status::NotDone, refusal(number, rule)),

@@ -2,23 +2,25 @@
 
 use crate::code::Procedure;
 use crate::faults::Fault;
-use crate::library;
-use crate::record;
+use crate::instruction::Instruction;
+use crate::record::{from_linked, Record};
+use crate::set::Set;
 use crate::sheet::Sheet;
 
 /// The number of a record with a procedure that has no stack picture.
 pub const NO_PICTURE: u32 = 15;
 
-/// Finds every procedure without a stack picture, by asking the library.
+/// Finds every procedure of a module without a stack picture, by asking the library.
 ///
 /// A procedure's picture depends on its own code, and of the others on their ENTER and their
 /// results alone. So each is checked beside stubs: the others with just an ENTER as theirs and an
 /// end that has a picture. It has none exactly where the library still answers 15.
-pub fn missing(code: &[u8], procedures: &[Procedure], results: &[u8]) -> Vec<Fault> {
+pub fn missing(set: &Set, own: usize, record: &Record, procedures: &[Procedure]) -> Vec<Fault> {
     let lacks = |wanted: &&Procedure| {
-        let record = beside_stubs(code, procedures, results, wanted.number);
-        let mut workspace = vec![0; 4 * record.len()];
-        library::check(&record, results, &mut workspace) == NO_PICTURE
+        let record = beside_stubs(record, procedures, set.modules[own].results, wanted.number);
+        let mut modules = set.modules.clone();
+        modules[own].record = &record;
+        Set::of(modules).check(own).0 == NO_PICTURE
     };
     procedures.iter().filter(lacks).map(describe).collect()
 }
@@ -31,21 +33,25 @@ fn describe(procedure: &Procedure) -> Fault {
 }
 
 /// Makes a record of the code in which every procedure but one is a stub.
-fn beside_stubs(code: &[u8], procedures: &[Procedure], results: &[u8], kept: usize) -> Vec<u8> {
+fn beside_stubs(record: &Record, procedures: &[Procedure], results: &[u8], kept: usize) -> Vec<u8> {
     let mut entries = vec![0; procedures.len()];
     let mut body = Vec::new();
+    let mut relocation = Vec::new();
     for procedure in procedures {
-        entries[procedure.number] = 2 * procedures.len() + body.len();
-        let own = &code[procedure.region.clone()];
+        let entry = 2 * procedures.len() + body.len();
+        entries[procedure.number] = entry;
+        let own = &record.code[procedure.region.clone()];
         if procedure.number == kept {
             body.extend(own);
+            let bytes = procedure.instructions.iter().filter_map(Instruction::library_byte);
+            relocation.extend(bytes.map(|byte| (byte - procedure.region.start + entry) as u32));
         } else {
             body.extend(stub(own, procedure.number, results));
         }
     }
     let entries = entries.iter().flat_map(|&entry| (entry as u16).to_be_bytes());
     let code: Vec<u8> = entries.chain(body).collect();
-    record::from_code(&code, &[])
+    from_linked(&record.imports, &code, &relocation)
 }
 
 /// Makes the shortest code that has a picture: RTN where there are no results to leave, else a jump

@@ -1,6 +1,6 @@
 //! The parts of a record.
 
-use crate::bytes::{halfword, word, words};
+use crate::bytes::{halfword, word, word_bytes, words};
 use crate::library;
 
 pub const HEADER_BYTES: usize = 28;
@@ -43,18 +43,29 @@ pub fn total_bytes(sizes: &[u32; 7]) -> u64 {
 /// Makes a record that has nothing but code and a version table.
 pub fn from_code(code: &[u8], version: &[u8]) -> Vec<u8> {
     let sizes = [0, code.len(), 0, 0, 0, version.len() / 4, 0];
-    let header = sizes.iter().flat_map(|&size| (size as u32).to_be_bytes());
-    header.chain(code.iter().chain(version).copied()).collect()
+    [&word_bytes(sizes.map(|size| size as u32)), code, version].concat()
+}
+
+/// Makes a record that has nothing but code and what links it to libraries.
+pub fn from_linked(imports: &[u32], code: &[u8], relocation: &[u32]) -> Vec<u8> {
+    let sizes = [imports.len(), code.len(), 0, 0, relocation.len(), 0, 0];
+    let (header, imports) =
+        (word_bytes(sizes.map(|size| size as u32)), word_bytes(imports.to_vec()));
+    [&header, &imports, code, &word_bytes(relocation.to_vec())].concat()
 }
 
 /// A record whose parts stand where its sizes say.
 pub struct Record<'a> {
     pub bytes: &'a [u8],
-    /// 0 where it is sound, else 4 to 7.
+    /// 0 where it is sound, else 5 to 7.
     pub number: u32,
+    /// SIDs of libraries.
+    pub imports: Vec<u32>,
     pub globals: u32,
     pub code: &'a [u8],
     pub constants: &'a [u8],
+    /// Offsets of library bytes in the code.
+    pub relocation: Vec<u32>,
     pub version: &'a [u8],
     pub source: &'a [u8],
 }
@@ -64,7 +75,7 @@ impl<'a> Record<'a> {
     pub fn split(bytes: &'a [u8]) -> Result<Record<'a>, u32> {
         let number = library::record_number(bytes);
         match (number, sizes(bytes)) {
-            (0 | 4.., Some(sizes)) => Ok(Record::cut(bytes, number, &sizes)),
+            (0 | 5.., Some(sizes)) => Ok(Record::cut(bytes, number, &sizes)),
             _ => Err(number),
         }
     }
@@ -76,8 +87,16 @@ impl<'a> Record<'a> {
             rest = behind;
             part
         };
-        let [_, code, _, constants, _, version, source] = std::array::from_fn(&mut next);
-        Record { bytes, number, globals: sizes[2], code, constants, version, source }
+        let [imports, code, _, constants, relocation, version, source] =
+            std::array::from_fn(&mut next);
+        let (imports, relocation, globals) = (words(imports), words(relocation), sizes[2]);
+        Record { bytes, number, imports, globals, code, constants, relocation, version, source }
+    }
+
+    /// Finds the SID of a library number, which counts from 1.
+    pub fn import(&self, number: u32) -> Option<u32> {
+        let at = (number as usize).checked_sub(1)?;
+        self.imports.get(at).copied()
     }
 
     /// Counts the words of memory that a load takes at least: 01's 3+g+c.

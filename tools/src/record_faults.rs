@@ -21,13 +21,9 @@ pub fn of_sizes(record: &[u8]) -> String {
     }
 }
 
-/// Says what is wrong with parts that stand where the sizes say: 4 to 7.
+/// Says what is wrong with parts that stand where the sizes say: 5 to 7.
 pub fn of_parts(record: &Record) -> String {
     match record.number {
-        4 => {
-            let sizes = sizes(record.bytes).unwrap_or_default();
-            format!("imports {} words, relocation {} words", sizes[0], sizes[4])
-        }
         5 => {
             let first = String::from_utf8_lossy(&record.version[..4]).into_owned();
             format!("it is {first:?}, and should be such as \" 3/-\" or \"12/B\"")
@@ -94,20 +90,22 @@ pub fn of_results(results: &[u8], procedures: usize) -> String {
     }
 }
 
-/// Names every cause of the load's 8 that holds.
-pub fn of_load(record: &Record, file: &RunFile) -> String {
+/// Names every cause of the load's 8 that holds, of a set with the main module first.
+pub fn of_load(records: &[Record], file: &RunFile) -> String {
     let (parameters, memory, stack) = (file.parameters.len(), file.memory_words, file.stack_words);
-    let least = record.loaded_words();
+    let globals = records[0].globals as usize;
+    let least: usize = records.iter().map(Record::loaded_words).sum();
     let mut causes = Vec::new();
-    if parameters > record.globals as usize {
+    if parameters > globals {
         let given = counted(parameters, "parameter", "parameters");
-        causes
-            .push(format!("{given} for {}", counted(record.globals as usize, "global", "globals")));
+        causes.push(format!("{given} for {}", counted(globals, "global", "globals")));
     }
     if usize::from(memory) < least {
-        let constants = words(record.constants).len();
-        let sum = format!("3+{}+{constants}", record.globals);
-        causes.push(format!("memory {memory} words, under {sum} = {least}"));
+        let sum = match records {
+            [main] => format!("3+{globals}+{} = {least}", words(main.constants).len()),
+            _ => format!("{least}, the 3+g+c of all modules"),
+        };
+        causes.push(format!("memory {memory} words, under {sum}"));
     }
     if stack > MAX_STACK_WORDS {
         causes.push(format!("stack {stack} words, over 1,024"));

@@ -84,6 +84,8 @@ pub enum Operands {
     Procedure,
     /// ENTER's parameter and data words.
     Two,
+    /// Library number, then a global or a procedure of that library.
+    External,
     /// The table of a switch.
     Table,
 }
@@ -98,6 +100,7 @@ impl Form {
             "JUMP" | "JUMP_C" | "JUMP_T" | "JUMP_F" | "ITER" => Operands::Distance,
             "CALL" => Operands::Procedure,
             "ENTER" => Operands::Two,
+            "LOAD_E" | "LOAD_A_E" | "STOR_E" | "CALL_E" => Operands::External,
             _ => Operands::Number,
         }
     }

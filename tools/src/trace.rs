@@ -3,16 +3,16 @@
 
 mod rows;
 
-use crate::arguments::{Arguments, Flag};
+use crate::arguments::{Arguments, Flag, LIBRARY};
 use crate::bytes::WordForm;
 use crate::command::Command;
 use crate::failure::{about, Failure, Status};
-use crate::library;
+use crate::libraries::Libraries;
 use crate::machine::{Machine, Outcome, SPENT};
 use crate::outcome::Ended;
 use crate::output::Output;
-use crate::record::Record;
 use crate::run_file::RunFile;
+use crate::set::Set;
 use crate::verdict::{split_run_file, Verdict};
 use crate::{input, record};
 use rows::Rows;
@@ -29,17 +29,20 @@ pub const COMMAND: Command = Command {
         Flag { name: "--steps", value: Some("N") },
         Flag { name: "--signed", value: None },
         Flag { name: "--both", value: None },
+        LIBRARY,
     ],
     run,
 };
 
-const USAGE: &str = "icode trace [--from N] [--steps N] [--signed | --both] FILE";
+const USAGE: &str =
+    "icode trace [--from N] [--steps N] [--signed | --both] [--library SID=FILE].. FILE";
 
 const HELP: &str = "\
 Checks and loads a run file (- is standard input), then runs it a step at a time. For each step:
 
   step         counted from 1; * for one that trapped, which is not counted and changed nothing
   calls        active before it
+  module       with libraries only: 0 for FILE, 1, 2, .. for the libraries as given
   offset       of the instruction in the code
   line         in the source, with its first and last code offset; 0 where there is none
   instruction
@@ -48,10 +51,12 @@ Checks and loads a run file (- is standard input), then runs it a step at a time
 Below stand the memory words that the step changed. The last line is that of the page, and a
 sentence on standard error says what happened.
 
-  --from N   show from step N on; the steps before are taken without being shown
-  --steps N  show N steps, then stop, though the run has not ended
-  --signed   words as signed numbers
-  --both     words as unsigned and signed numbers where these differ, such as 4294967290/-6
+  --from N            show from step N on; the steps before are taken without being shown
+  --steps N           show N steps, then stop, though the run has not ended
+  --signed            words as signed numbers
+  --both              words as unsigned and signed numbers where these differ, such as
+                      4294967290/-6
+  --library SID=FILE  lend a run file as the library SID, as icode page does
 ";
 
 fn run(arguments: &Arguments, out: &mut Output) -> Result<Status, Failure> {
@@ -65,15 +70,16 @@ fn run(arguments: &Arguments, out: &mut Output) -> Result<Status, Failure> {
         (false, true) => WordForm::Both,
         (false, false) => WordForm::Unsigned,
     };
+    let libraries = Libraries::read(arguments, USAGE)?;
     let bytes = input::read(name, record::MAX_BYTES)?;
     let file = split_run_file(name, &bytes)?;
-    let verdict = Verdict::of(file.record, Some(file.results), Some(&file));
+    let verdict = Verdict::of(file.record, Some(file.results), Some(&file), &libraries);
     if !verdict.is_accepted() {
         return Err(Failure::Refused(name.to_owned(), verdict.refusal()));
     }
-    let record = Record::split(file.record).map_err(Failure::Library)?;
-    let machine = Machine::load(&file).map_err(Failure::Library)?;
-    let rows = Rows { record: &record, machine, form };
+    let set = Set::new(file.record, file.results, &libraries);
+    let machine = Machine::load(&set, &file).map_err(Failure::Library)?;
+    let rows = Rows::new(&set, machine, form).ok_or(Failure::Library(0))?;
     Trace { name, file: &file, from, last: (from - 1).saturating_add(steps) }.run(out, rows)
 }
 
@@ -114,11 +120,9 @@ impl Trace<'_> {
         outcome: &Outcome,
         steps: u32,
     ) -> Result<Status, Failure> {
-        let Outcome { end, at, .. } = *outcome;
-        let line = library::line_span(self.file.record, at).map_or(0, |span| span.line);
-        let ended = Ended { end, at, line, steps, stack: rows.machine.stack().to_vec() };
+        let ended = Ended::new(rows.set, outcome, steps, rows.machine.stack());
         writeln!(out, "{}", ended.line_text())?;
-        out.say(&about(self.name, &ended.sentence(self.file, rows.form)))?;
+        out.say(&about(self.name, &ended.sentence(rows.set, self.file, rows.form)))?;
         Ok(ended.status())
     }
 }

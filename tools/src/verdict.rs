@@ -1,14 +1,14 @@
 //! What check and load say of a record, and the places behind it.
 
-use crate::code::{procedures, Procedure};
+use crate::blame::Blame;
 use crate::failure::{Failure, Status};
-use crate::faults::{self, Fault};
+use crate::faults::Fault;
+use crate::libraries::Libraries;
 use crate::machine::Machine;
 use crate::meaning::meaning;
-use crate::pictures::{self, NO_PICTURE};
 use crate::record::Record;
 use crate::run_file::{is_run_file, RunFile};
-use crate::{library, record_faults};
+use crate::set::Set;
 use std::ffi::OsStr;
 
 /// The number of a run file that is malformed or too long.
@@ -21,40 +21,27 @@ pub struct Verdict {
     pub workspace: Vec<u16>,
     /// What is behind the number, with its place; nothing where the record is accepted.
     pub reason: String,
-    /// The instructions behind 10 to 14, the procedures behind 15.
+    /// The instructions behind 10 to 14 and 18, the procedures behind 15.
     faults: Vec<Fault>,
 }
 
 impl Verdict {
-    /// Checks a record; with a run file, loads it too. Without results all procedures have none.
-    pub fn of(bytes: &[u8], results: Option<&[u8]>, file: Option<&RunFile>) -> Verdict {
-        let unsound =
-            |number, reason| Verdict { number, workspace: Vec::new(), reason, faults: Vec::new() };
-        match Record::split(bytes) {
-            Err(number) => unsound(number, record_faults::of_sizes(bytes)),
-            Ok(record) if record.number > 0 => {
-                unsound(record.number, record_faults::of_parts(&record))
-            }
-            Ok(record) => Verdict::of_sound(&record, results, file),
-        }
-    }
-
-    fn of_sound(record: &Record, results: Option<&[u8]>, file: Option<&RunFile>) -> Verdict {
-        let procedures = procedures(record);
-        let zeros = vec![0; procedures.len()];
-        let results = results.unwrap_or(&zeros);
-        let mut workspace = vec![0; 4 * record.code.len()];
-        let mut number = library::check(record.bytes, results, &mut workspace);
-        if let (0, Some(file)) = (number, file) {
-            number = Machine::load(file).err().unwrap_or(0);
-        }
-        let faults = find_faults(number, record, &procedures, results);
-        let reason = match (number, file) {
-            (8, Some(file)) => record_faults::of_load(record, file),
-            (9, _) => record_faults::of_results(results, procedures.len()),
-            _ => describe(record, number, &faults),
-        };
-        Verdict { number, workspace, reason, faults }
+    /// Checks a record with libraries, and these too; with a run file, loads all of them. Without
+    /// results all procedures have none.
+    pub fn of(
+        bytes: &[u8],
+        results: Option<&[u8]>,
+        file: Option<&RunFile>,
+        libraries: &Libraries,
+    ) -> Verdict {
+        let sound = Record::split(bytes).ok().filter(|record| record.number == 0);
+        let zeros = vec![0; sound.map_or(0, |record| record.entries().len())];
+        let set = Set::new(bytes, results.unwrap_or(&zeros), libraries);
+        let (number, refused, workspace) = checked(&set, file);
+        let Blame { module, reason, faults } = Blame::find(number, refused, &set, file);
+        // What is marked is the main module's.
+        let faults = if module == Some(0) { faults } else { Vec::new() };
+        Verdict { number, workspace, reason: named(&set, module, reason), faults }
     }
 
     pub fn is_accepted(&self) -> bool {
@@ -97,31 +84,23 @@ pub fn split_run_file<'a>(name: &OsStr, bytes: &'a [u8]) -> Result<RunFile<'a>, 
     RunFile::split(bytes).map_err(refused)
 }
 
-/// Describes the first fault with its place, and counts the others.
-fn describe(record: &Record, number: u32, faults: &[Fault]) -> String {
-    let [first, others @ ..] = faults else { return String::new() };
-    let place = match number {
-        NO_PICTURE => String::new(),
-        _ => format!("{}: ", record.place(first.place.start)),
-    };
-    match others.len() {
-        0 => format!("{place}{}", first.text),
-        more => format!("{place}{}; and {more} more", first.text),
+/// Checks the modules in their order up to the first that is refused, then loads. Answers the
+/// number, that module, and the workspace of the main one.
+fn checked(set: &Set, file: Option<&RunFile>) -> (u32, usize, Vec<u16>) {
+    let (mut number, workspace) = set.check(0);
+    let mut refused = 0;
+    while number == 0 && refused + 1 < set.modules.len() {
+        refused += 1;
+        (number, _) = set.check(refused);
     }
+    if let (0, Some(file)) = (number, file) {
+        number = Machine::load(set, file).err().unwrap_or(0);
+    }
+    (number, refused, workspace)
 }
 
-fn find_faults(
-    number: u32,
-    record: &Record,
-    procedures: &[Procedure],
-    results: &[u8],
-) -> Vec<Fault> {
-    match number {
-        10 | 11 => faults::undecoded(record.code, procedures),
-        12 => faults::successors(record.code, procedures),
-        13 => faults::enters(procedures),
-        14 => faults::callees(procedures),
-        NO_PICTURE => pictures::missing(record.code, procedures, results),
-        _ => Vec::new(),
-    }
+/// Names the library that is to blame before the reason.
+fn named(set: &Set, module: Option<usize>, reason: String) -> String {
+    let library = module.and_then(|module| set.modules[module].library);
+    library.map_or(reason.clone(), |library| format!("{}: {reason}", library.shown()))
 }

@@ -39,11 +39,26 @@ def try_instruction(tests, name, before, size):
         expect_fault(tests, f".procedure 0\n{name} {number}\n", 2, f"{name} takes a {what} {found}")
 
 
+def try_external(tests, name, code):
+    """A library number and a global or procedure, a byte each, and the relocation entry of the first."""
+    for library, operand in ((0, 0), (1, 2), (255, 255)):
+        status, out, err = made(tests, f".procedure 0\nNOP\n{name} {library}, {operand}\n", "--no-check")
+        record = record_of(bytes([0, 2, 0xFF]) + code + bytes([library, operand]), relocation=[4])
+        tests.expect(f"{name} {library}, {operand}", (status, out, err) == (0, record, ""), (status, out.hex(), err))
+    for operands, found in (("256, 0", 256), ("1, 256", 256), ("-1, 0", -1), ("0, -1", -1)):
+        expect_fault(tests, f".procedure 0\n{name} {operands}\n", 2, f"{name} takes a number from 0 to 255, found {found}")
+    expect_fault(tests, f".procedure 0\n{name} 1\n", 2, "expected ',', found the end of the line")
+    expect_fault(tests, f".procedure 0\nDOUBLE {name} 1, 1\n", 2, "expected an instruction that has this prefix")
+
+
 def test_sheet(tests):
     """Every instruction of the sheet has its code, and as many operand bytes as its length says."""
     for row in OPCODE_TABLE.read_text().splitlines():
         code, name, *rest = row.split()
         if name in ("-", "DOUBLE", "ENTER") or name.startswith("SWITCH"):
+            continue
+        if name.endswith("_E"):
+            try_external(tests, name, bytes([int(code, 16)]))
             continue
         size, code = int(rest[0]) - 1, bytes([int(code, 16)])
         try_instruction(tests, name, code, size)

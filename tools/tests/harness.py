@@ -66,9 +66,10 @@ def words_in(content):
     return [int.from_bytes(content[at:at + 4], "big") for at in range(0, len(content), 4)]
 
 
-def record_of(code, version=b"", source=b"", sizes=None, globals_=0, constants=b""):
-    sizes = sizes or [0, len(code), globals_, len(constants) // 4, 0, len(version) // 4, len(source) // 4]
-    return word_bytes(sizes) + code + constants + version + source
+def record_of(code, version=b"", source=b"", sizes=None, globals_=0, constants=b"", imports=(), relocation=()):
+    imported, behind = [len(imports), len(code), globals_], [len(relocation), len(version) // 4, len(source) // 4]
+    sizes = sizes or imported + [len(constants) // 4] + behind
+    return word_bytes(sizes) + word_bytes(imports) + code + constants + word_bytes(relocation) + version + source
 
 
 def run_file_of(record, budget=100, results=b"\0", parameters=(), memory=64, stack=16):
@@ -114,10 +115,17 @@ def mend_numbers(report):
 
 
 def pages(*folders):
-    """The stored run files, each with its page."""
+    """The stored run files, each with its page; where it has libraries, with that of an import which is not lent."""
     for folder in folders or (VECTORS / "pages", EXAMPLES):
         for path in sorted(folder.glob("*.run")):
-            yield path, path.with_suffix(".out").read_text()
+            yield path, "check 17\n" if libraries_of(path) else path.with_suffix(".out").read_text()
+
+
+def libraries_of(path):
+    """The options that lend a stored file its libraries: NAME.libraries has SID=FILE in each line. None for most."""
+    listed = path.with_suffix(".libraries")
+    rows = [line.split("=", 1) for line in listed.read_text().splitlines()] if listed.exists() else []
+    return [word for sid, name in rows for word in ("--library", f"{sid}={path.parent / name}")]
 
 
 def cases():
@@ -126,6 +134,15 @@ def cases():
         answers = path.with_suffix(".answers").read_text().splitlines()
         for case, answer in zip(path.read_text().splitlines(), answers):
             yield case.split(), answer.split()
+
+
+def modules_of(case):
+    """The SID and the record of each module of a call over a set; none of another call."""
+    at = {"mcheck": 2, "mload": 1, "mrun": 1}.get(case[0])
+    if at is None:
+        return []
+    words = case[at + 1:at + 1 + 2 * int(case[at])]
+    return [(int(sid), from_hex(record)) for sid, record in zip(words[::2], words[1::2])]
 
 
 def from_hex(text):

@@ -51,7 +51,7 @@ def shows(rows, workspace):
 
 
 def test_workspaces(tests):
-    """The number of every stored check, with the workspace that it leaves; 10 to 15 mark a place, and no other number does."""
+    """The number of every stored check, with the workspace that it leaves; 10 to 15 mark a place, 18 may, and no other number does."""
     for case, answer in cases():
         results = from_hex(case[2]) if case[0] == "check" else b""
         digits = digits_of(results) if case[0] == "check" else None
@@ -64,7 +64,7 @@ def test_workspaces(tests):
         if number == 0 or number >= 9:
             cells = 4 * int.from_bytes(content[4:8], "big")
             workspace = words_of(answer[2:])[:cells] if number == 0 else [0] * cells
-            good = good and shows(rows_of(out), workspace) and ("!" in marked(out)) == (number >= 10)
+            good = good and shows(rows_of(out), workspace) and (number == 18 or ("!" in marked(out)) == (10 <= number <= 15))
         tests.expect(f"check case {case[1][:80]}", good, (status, out, err))
 
 

@@ -68,9 +68,9 @@ RECORDS = [
     ("the last kept one", [6, 0], [(39, 6, "pair 1, offset 5: not below 3, the code size"), (43, 6, "pair 1, line 9"),
                                    (47, 6, "pair 2, offset 0: not above 1, that of pair 0"), (51, 6, "pair 2, line 8")],
      record_of(SOUND, source=word_bytes([1, 1, 5, 9, 0, 8, 2, 2]))),
-    ("imports", [4, 4], [(35, 5, 'version word 0, "xxxx" (78 78 78 78): malformed')],
+    ("imports", [5, 17], [(35, 5, 'version word 0, "xxxx" (78 78 78 78): malformed')],
      word_bytes([1, 3, 0, 0, 0, 1, 0, 0]) + SOUND + b"xxxx"),
-    ("relocation, and both tables", [4, 4], [(35, 5, 'version word 0, "xxxx" (78 78 78 78): malformed'),
+    ("relocation, and both tables", [5, 18], [(35, 5, 'version word 0, "xxxx" (78 78 78 78): malformed'),
                                              (47, 6, "pair 1, offset 3: not below 3, the code size"), (51, 6, "pair 1, line 9")],
      word_bytes([0, 3, 0, 0, 1, 1, 4]) + SOUND + bytes(4) + b"xxxx" + word_bytes([1, 1, 3, 9])),
     ("both tables", [5, 0], [(31, 5, 'version word 0, "xxxx" (78 78 78 78): malformed'), (35, 6, "the only source word, 7: of no pair")],
@@ -140,7 +140,7 @@ def test_limit(tests):
     longest = word_bytes([16, 4096, 0, 1024, 4096, 16, 2048]) + bytes(64 + 4096 + 4096 + 16384) + b"12/B" * 16
     status, new, rows, numbers = mended(tests, longest + source[:-8] + word_bytes([4096, 1]))
     dropped = [(32916, 6, "pair 1023, offset 4096: not below 4096, the code size"), (32920, 6, "pair 1023, line 1")]
-    good = new == longest[:24] + word_bytes([2046]) + longest[28:] + source[:-8] and (status, rows, numbers) == (1, dropped, [4, 4])
+    good = new == longest[:24] + word_bytes([2046]) + longest[28:] + source[:-8] and (status, rows, numbers) == (1, dropped, [6, 7])
     tests.expect("the longest record", good, (status, len(new), rows, numbers))
 
 

@@ -28,7 +28,11 @@ def round_trip(tests, name, content, options=(), accepted=None):
 
 def test(tests):
     seen, accepted = set(), 0
+    for record in {record for case, _ in cases() for _, record in modules_of(case)}:
+        round_trip(tests, "module of a set", record)
     for case, answer in cases():
+        if modules_of(case):
+            continue
         record, results = case[1], from_hex(case[2]) if case[0] == "check" else None
         digits = digits_of(results) if results is not None else None
         if (record, digits) in seen:
@@ -42,5 +46,5 @@ def test(tests):
     tests.expect("enough of them are accepted", accepted >= MIN_ACCEPTED, accepted)
     for text in sorted(EXAMPLES.glob("*.icode")):
         page = text.with_suffix(".run")
-        made, out, err = tests.run_bytes("asm", text)
+        made, out, err = tests.run_bytes("asm", *libraries_of(page), text)
         tests.expect(f"text of {page.name}", (made, out, err) == (0, page.read_bytes(), ""), (made, out, err))

@@ -28,6 +28,18 @@ def test_usage(tests):
             good = status == 0 and out.startswith(f"usage: icode {command} ") and "Exit status: 0 " in out and err == ""
             tests.expect(f"{command} {option}", good, (status, out, err))
     tests.expect_run("standard input twice", ("page", "-", "-"), 2, "standard input can be read only once\nusage: icode page")
+    for command in COMMANDS:
+        arguments = (command, "--dry-run") if command == "mend" else (command,)
+        tests.expect_run(f"{command}: standard input as library too", (*arguments, "--library", "7=-", "-"), 2,
+                         f"standard input can be read only once\nusage: icode {command}")
+        for text, words in (("7", "is not SID=FILE"), ("7=", "has no FILE behind the ="), ("=x", "has no SID before the ="),
+                            ("-1=x", "has no SID"), ("+1=x", "has no SID"), ("4294967296=x", "has no SID"),
+                            ("0x=x", "has no SID"), ("a=x", "has no SID"), ("0x1g=x", "has no SID")):
+            tests.expect_run(f"{command}: --library {text}", (*arguments, "--library", text, PAGE), 2, f"--library '{text}' {words}")
+        tests.expect_run(f"{command}: no library", (*arguments, PAGE, "--library"), 2, "--library needs SID=FILE behind it")
+        tests.expect_run(f"{command}: missing library", (*arguments, "--library=7=missing", PAGE), 2, "cannot read 'missing': No such file")
+        tests.expect_run(f"{command}: library that is no run file", (*arguments, "--library", f"7={__file__}", PAGE), 1,
+                         "refused with 16: run file malformed or too long: it ")
 
 
 def test_values(tests):

@@ -3,10 +3,11 @@ use mathlib.Core.Bool.{cond, _&&_}
 use mathlib.Core.List.{List}
 use Prim.Native.Nat.{ℕ, zero, suc, _+_, _-_}
 use lib.Dec.{eqb, leb}
+use Rattle.entries.specs.Libraries.{Library, libraryIn}
 use Rattle.operand.specs.Distance.{placeAt}
 use Rattle.shape.specs.declared.Shape.{Shape}
 use Rattle.shape.specs.declared.Shape.the-variants.{Straight, Pop, Jump, JumpC, JumpTF, Iter}
-use Rattle.shape.specs.declared.Shape.the-variants.{Next, Switch, Leave, Call, Enter, Rtn}
+use Rattle.shape.specs.declared.Shape.the-variants.{Next, Switch, Leave, Call, CallExternal, Enter, Rtn}
 use Rattle.shape.specs.declared.Table.{Table}
 use Rattle.switch_table.specs.Switch.{exitLabel}
 use Rattle.stackmap.specs.Ways.{isIter, isSwitch, iterStart, parametersIn, resultsIn}
@@ -69,16 +70,22 @@ switchWays code w at t table n = cond (poppable code w t 1) (Many table n (top (
 unfoldable pub rtnWays : Top → ℕ → Ways
 rtnWays t results = cond (eqb (t .height) results && eqb (t .origin) 0) Ended Broken
 
-unfoldable pub waysTop : List ℕ → List ℕ → List ℕ → ℕ → ℕ → ℕ → Shape → Top → Ways
-waysTop code results w p at next (Straight pops pushes) t = straightWays code w next t pops pushes
-waysTop code results w p at next (Pop n) t = popWays code w next t n
-waysTop code results w p at next (Jump d) t = One (toward (placeAt at d) t)
-waysTop code results w p at next (JumpC d) t = jumpCWays code w at next t d
-waysTop code results w p at next (JumpTF d) t = jumpTFWays code w at next t d
-waysTop code results w p at next (Iter d) t = iterWays code w at next t d
-waysTop code results w p at next Next t = nextWays code w next t
-waysTop code results w p at next (Switch table n) t = switchWays code w at t table n
-waysTop code results w p at next Leave t = leaveWays code w t
-waysTop code results w p at next (Call c) t = straightWays code w next t (parametersIn code c) (resultsIn results c)
-waysTop code results w p at next (Enter par) t = straightWays code w next t par 0
-waysTop code results w p at next Rtn t = rtnWays t (resultsIn results p)
+-- The parameters and results of a procedure of library l are those of its own module.
+unfoldable pub externalWays : List ℕ → List Library → List ℕ → ℕ → Top → ℕ → ℕ → Ways
+externalWays code libraries w next t l c =
+    straightWays code w next t (parametersIn (libraryIn libraries l .code) c) (resultsIn (libraryIn libraries l .results) c)
+
+unfoldable pub waysTop : List ℕ → List Library → List ℕ → List ℕ → ℕ → ℕ → ℕ → Shape → Top → Ways
+waysTop code libraries results w p at next (Straight pops pushes) t = straightWays code w next t pops pushes
+waysTop code libraries results w p at next (Pop n) t = popWays code w next t n
+waysTop code libraries results w p at next (Jump d) t = One (toward (placeAt at d) t)
+waysTop code libraries results w p at next (JumpC d) t = jumpCWays code w at next t d
+waysTop code libraries results w p at next (JumpTF d) t = jumpTFWays code w at next t d
+waysTop code libraries results w p at next (Iter d) t = iterWays code w at next t d
+waysTop code libraries results w p at next Next t = nextWays code w next t
+waysTop code libraries results w p at next (Switch table n) t = switchWays code w at t table n
+waysTop code libraries results w p at next Leave t = leaveWays code w t
+waysTop code libraries results w p at next (Call c) t = straightWays code w next t (parametersIn code c) (resultsIn results c)
+waysTop code libraries results w p at next (CallExternal l c) t = externalWays code libraries w next t l c
+waysTop code libraries results w p at next (Enter par) t = straightWays code w next t par 0
+waysTop code libraries results w p at next Rtn t = rtnWays t (resultsIn results p)

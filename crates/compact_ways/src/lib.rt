@@ -1,8 +1,9 @@
 // What an instruction gives to its successors.
 ghost use mathlib.Core.Path.{_≡_};
 ghost use Prim.Native.Nat.{_<_};
+ghost use Rattle.entries.specs.Libraries.{librariesIn};
 ghost use Rattle.stackmap.specs.Ways.{parametersIn, resultsIn};
-ghost use Rattle.compact_ways.specs.Ways.{toward, inOrder, straightWays, popWays, jumpCWays, jumpTFWays, iterWays, nextWays, leaveWays, switchWays, rtnWays, waysTop};
+ghost use Rattle.compact_ways.specs.Ways.{toward, inOrder, straightWays, popWays, jumpCWays, jumpTFWays, iterWays, nextWays, leaveWays, switchWays, rtnWays, externalWays, waysTop};
 use compact::top;
 use compact::top::Top;
 use shape::Shape;
@@ -221,10 +222,33 @@ fn rtn_ways(t: Top, results: u32) -> Ways
     Ways::Ended
 }
 
+// CALL_E: parameters and results are those of the library's own module.
+fn external_ways(
+    code: &[u8],
+    libraries: &[u32],
+    records: &[u8],
+    lists: &[u8],
+    w: &[u16],
+    next: usize,
+    t: Top,
+    l: u32,
+    c: u32,
+) -> Ways
+    ensures { λ a. ⌜ a ≡ externalWays (now (code .entry)) (librariesIn (now (libraries .entry)) (now (records .entry)) (now (lists .entry))) (now (w .entry)) next t l c ⌝ }
+{
+    let own = entries::library_code(libraries, records, l);
+    let parameters = callee_parameters(own, c);
+    let list = entries::library_results(libraries, lists, l);
+    straight_ways(code, w, next, t, parameters, callee_results(list, c))
+}
+
 // The ways out of an instruction at an offset of procedure `p`, of a shape, before `next`.
 pub fn ways_of(
     code: &[u8],
     results: &[u8],
+    libraries: &[u32],
+    records: &[u8],
+    lists: &[u8],
     w: &[u16],
     p: u32,
     at: usize,
@@ -233,7 +257,7 @@ pub fn ways_of(
     t: Top,
 ) -> Ways
     requires { ⌜ at < 65535 ⌝ }
-    ensures { λ a. ⌜ a ≡ waysTop (now (code .entry)) (now (results .entry)) (now (w .entry)) p at next shape t ⌝ }
+    ensures { λ a. ⌜ a ≡ waysTop (now (code .entry)) (librariesIn (now (libraries .entry)) (now (records .entry)) (now (lists .entry))) (now (results .entry)) (now (w .entry)) p at next shape t ⌝ }
 {
     match shape {
         Shape::Straight(pops, pushes) => straight_ways(code, w, next, t, pops, pushes),
@@ -255,6 +279,17 @@ pub fn ways_of(
                 callee_results(results, c),
             )
         }
+        Shape::CallExternal(l, c) => external_ways(
+            code,
+            libraries,
+            records,
+            lists,
+            w,
+            next,
+            t,
+            l,
+            c,
+        ),
         Shape::Enter(parameters) => straight_ways(code, w, next, t, parameters, 0),
         Shape::Rtn => rtn_ways(t, callee_results(results, p)),
     }

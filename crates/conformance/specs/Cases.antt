@@ -6,14 +6,14 @@ use mathlib.Core.Path.{_≡_}
 use Prim.Native.Nat.{ℕ, _+_, _*_, _/_, _%_}
 use lib.ListN.{length, take, drop, replicate}
 use Rattle.verifier.specs.Check.{checkOf}
-use Rattle.registers.specs.Program.{globalsStart}
+use Rattle.registers.specs.Modules.{headerWords}
 use Rattle.registers.specs.State.{state}
 use Rattle.load.specs.declared.Loaded.{Loaded}
 use Rattle.load.specs.declared.Loaded.the-variants.{Refused, Ready}
-use Rattle.machine.specs.declared.run.Answer.{Answer}
-use Rattle.machine.specs.declared.run.Answer.the-variants.{Refused as NotRun, Ended}
+use Rattle.run.specs.declared.Answer.{Answer}
+use Rattle.run.specs.declared.Answer.the-variants.{Refused as NotRun, Ended}
 use Rattle.load.specs.Load.{loadOf}
-use Rattle.machine.specs.Run.{endNumber, runOf}
+use Rattle.run.specs.Run.{endNumber, runOf}
 
 pub record Case : Type 0 where
   pub code : List ℕ
@@ -42,7 +42,7 @@ recordFor c =
 abbrev pub shown : Case → Answer → List ℕ → List ℕ → Outcome
 shown c (NotRun n) m s = refused n
 shown c (Ended e) m s =
-    ended (endNumber (e .ending)) (e .registers .pc) (e .steps) (take (c .globals) (drop globalsStart m)) (take (e .registers .height) s)
+    ended (endNumber (e .ending)) (e .registers .pc) (e .steps) (take (c .globals) (drop headerWords m)) (take (e .registers .height) s)
 
 abbrev pub outcomeOf : Case → Loaded → List ℕ → List ℕ → Outcome
 outcomeOf c (Refused n) m s = refused n

@@ -21,11 +21,11 @@ use Rattle.operate.specs.declared.Value.{Value}
 use Rattle.operate.specs.declared.Value.the-variants.{Word, Trap}
 use Rattle.registers.specs.declared.Registers.{Registers}
 use Rattle.effect.specs.declared.effect.Push.the-variants.{NoPush, PushOne}
-use Rattle.effect.specs.declared.effect.Write.the-variants.{NoWrite, WriteOne, WriteTwo, WritePopped}
+use Rattle.effect.specs.declared.effect.Write.the-variants.{NoWrite, WriteOne, WriteTwo, WriteThree, WritePopped}
 use Rattle.effect.specs.declared.effect.Effect.{Effect}
 use Rattle.effect.specs.declared.effect.Effect.the-variants.{Trap as trap, Finish, Go}
-use Rattle.registers.specs.declared.Attributes.{Attributes}
-use Rattle.registers.specs.Memory.{read, live, protects}
+use Rattle.registers.specs.Modules.{Modules, moduleAt, globalsStart, noLibrary}
+use Rattle.registers.specs.Memory.{read, negated}
 use Rattle.registers.specs.Changes.{moved, sized, called, returned}
 use Rattle.effect.specs.Data.{ifBoolean, ifStorable}
 
@@ -47,10 +47,10 @@ abbrev pub beyond : ℤ → ℤ → ℤ → Bool
 beyond s x l = (ltZ (pos 0) s && ltZ l x) || (ltZ s (pos 0) && ltZ x l)
 
 -- ITER [ adr, first, last, step ]: past the loop, or MEMORY(A) := F and the label is pushed.
-unfoldable pub iterEffect : (A : Attributes) (q : Registers) (m : List ℕ) (next distance address first last step : ℕ) → Effect
-iterEffect A q m next d a f l s =
+unfoldable pub iterEffect : (Ms : Modules) (q : Registers) (m : List ℕ) (next distance address first last step : ℕ) → Effect
+iterEffect Ms q m next d a f l s =
     cond (beyond (toZ w32 s) (toZ w32 f) (toZ w32 l)) (Go 4 NoPush NoWrite (moved q (placeAt (q .pc) d)))
-    (ifStorable A q m a Normal (Go 0 (PushOne next) (WriteOne a f) (moved q next)))
+    (ifStorable Ms q m a Normal (Go 0 (PushOne next) (WriteOne a f) (moved q next)))
 
 -- NEXT's sum: MEMORY(A) + S, signed. `Trap` says here that it leaves the range; NEXT does not trap for it.
 unfoldable pub nextSum : List ℕ → ℕ → ℕ → Value
@@ -69,8 +69,8 @@ sumEffect q next a l s label (Word x) = roundEffect q next a l s label x
 sumEffect q next a l s label (Trap n) = Go 5 NoPush NoWrite (moved q next)
 
 -- NEXT [ adr, first, last, step, label ]. 02, K3: "The address must still be live and unprotected." So 32, 33, then the sum.
-unfoldable pub nextEffect : (A : Attributes) (q : Registers) (m : List ℕ) (next address last step label : ℕ) → Effect
-nextEffect A q m next a l s label = ifStorable A q m a Normal (sumEffect q next a l s label (nextSum m a s))
+unfoldable pub nextEffect : (Ms : Modules) (q : Registers) (m : List ℕ) (next address last step label : ℕ) → Effect
+nextEffect Ms q m next a l s label = ifStorable Ms q m a Normal (sumEffect q next a l s label (nextSum m a s))
 
 -- SWITCH: if X < 0 or X > n then PC := PC + E. As a word, a negative X is above every n. SWITCH_X: the range that holds X, or E.
 abbrev pub switchDistance : (code : List ℕ) (at : ℕ) → Table → (n x : ℕ) → ℕ
@@ -83,12 +83,21 @@ switchEffect code q t n x =
     let at = q .pc in
     Go 1 (PushOne (exitLabel code at)) NoWrite (moved q (placeAt at (switchDistance code at t n x)))
 
--- 01: "CALL tests callee, depth, memory": 23, 37, 35. "At most 64 calls are active".
+-- 01: "CALL tests callee, depth, memory": 23, 37, 35. "At most 64 calls are active". CALL_E does likewise, with three link words.
+abbrev pub ifCallable : (absent : Bool) (q : Registers) (m : List ℕ) (links : ℕ) → Effect → Effect
+ifCallable absent q m links e =
+    cond absent (trap 23) (cond (leb 64 (q .calls)) (trap 37) (cond (leb (q .mp + links) (length m)) e (trap 35)))
+
 unfoldable pub callEffect : (code : List ℕ) (q : Registers) (m : List ℕ) (next callee : ℕ) → Effect
 callEffect code q m next p =
-    cond (noCallee code p) (trap 23)
-    (cond (leb 64 (q .calls)) (trap 37)
-    (cond (leb (q .mp + 2) (length m)) (Go 0 NoPush (WriteTwo (q .mp) (q .fp) next) (called q (entryAt code p))) (trap 35)))
+    ifCallable (noCallee code p) q m 2 (Go 0 NoPush (WriteTwo (q .mp) (q .fp) next) (called q 2 (q .gp) (entryAt code p)))
+
+-- CALL_E: MEMORY(MP) := GP; MEMORY(MP+1) := FP; MEMORY(MP+2) := -(PC+3). 23: no such library, or no such callee in it.
+unfoldable pub callExternalEffect : (Ms : Modules) (q : Registers) (m : List ℕ) (next library callee : ℕ) → Effect
+callExternalEffect Ms q m next l p =
+    let code = moduleAt Ms l .code in
+    ifCallable (noLibrary Ms l || noCallee code p) q m 3
+    (Go 0 NoPush (WriteThree (q .mp) (q .gp) (q .fp) (negated next)) (called q 3 (globalsStart Ms l) (entryAt code p)))
 
 -- ENTER: MEMORY(MP..MP+par-1) := the top par words; MP := MP + par + dat.
 unfoldable pub enterEffect : (q : Registers) (m : List ℕ) (next parameters words : ℕ) → Effect

@@ -1,23 +1,24 @@
 // Jumps, loops, switches and calls, as effects.
 ghost use mathlib.Core.Path.{_≡_};
 ghost use mathlib.Core.Bool.{true};
-ghost use Prim.Native.Nat.{_≤_};
+ghost use mathlib.Core.List.{List};
+ghost use Prim.Native.Nat.{ℕ, _≤_};
 ghost use lib.ListN.{length};
 ghost use mir.Syntax.{w32};
 ghost use mir.Val.{toZ};
 ghost use Rattle.control.specs.Control.{jumpEffect, jumpCEffect, jumpTFEffect, beyond, iterEffect, roundEffect, sumEffect, nextSum};
-ghost use Rattle.control.specs.Control.{nextEffect, switchDistance, switchEffect, callEffect, enterEffect, rtnEffect};
+ghost use Rattle.control.specs.Control.{nextEffect, switchDistance, switchEffect, callEffect, callExternalEffect, enterEffect, rtnEffect};
 ghost use Rattle.registers.specs.Memory.{chained};
-ghost use Rattle.registers.specs.Program.{framesStart};
+ghost use Rattle.registers.specs.Modules.{modulesIn, framesStart};
 ghost use Rattle.registers.specs.Changes.{moved};
 use effect::effect::Effect;
 use effect::effect::Push;
 use effect::effect::Write;
 use opcode::instruction::Arithmetic;
 use operate::Value;
-use registers::Attributes;
 use registers::Registers;
 use registers::access;
+use registers::table;
 use shape::Table;
 
 // So many words go, and the place is another.
@@ -74,7 +75,8 @@ pub fn is_beyond(step: u32, x: u32, last: u32) -> bool
 
 // ITER.
 pub fn iter_effect(
-    attributes: Attributes,
+    table: &[u32],
+    frames: u32,
     q: Registers,
     m: &[u32],
     next: u32,
@@ -84,8 +86,10 @@ pub fn iter_effect(
     last: u32,
     step: u32,
 ) -> Effect
-    requires { ⌜ chained (now m) (framesStart attributes) (q .fp) (q .calls) ≡ true ⌝ }
-    ensures { λ e. ⌜ e ≡ iterEffect attributes q (now (m .entry)) next distance a first last step ⌝ }
+    requires { ⌜ length (now table) ≤ 80 ⌝ }
+    requires { ⌜ chained (now m) frames (q .fp) (q .calls) ≡ true ⌝ }
+    ensures { λ e. ⌜ ((copy : List ℕ)
+        → e ≡ iterEffect (modulesIn (now (table .entry)) copy) q (now (m .entry)) next distance a first last step) ⌝ }
 {
     if is_beyond(step, first, last) {
         return jump_to(q, 4, operand::place_at(q.pc, distance));
@@ -93,7 +97,7 @@ pub fn iter_effect(
     if !access::is_live(q, a as usize, 1) {
         return Effect::Trap(32);
     }
-    if access::is_protected(attributes, q, m, a as usize) {
+    if access::is_protected(table, frames, q, m, a as usize) {
         return Effect::Trap(33);
     }
     Effect::Go(
@@ -134,7 +138,8 @@ fn sum_effect(
 
 // NEXT.
 pub fn next_effect(
-    attributes: Attributes,
+    table: &[u32],
+    frames: u32,
     q: Registers,
     m: &[u32],
     next: u32,
@@ -143,13 +148,15 @@ pub fn next_effect(
     step: u32,
     label: u32,
 ) -> Effect
-    requires { ⌜ chained (now m) (framesStart attributes) (q .fp) (q .calls) ≡ true ⌝ }
-    ensures { λ e. ⌜ e ≡ nextEffect attributes q (now (m .entry)) next a last step label ⌝ }
+    requires { ⌜ length (now table) ≤ 80 ⌝ }
+    requires { ⌜ chained (now m) frames (q .fp) (q .calls) ≡ true ⌝ }
+    ensures { λ e. ⌜ ((copy : List ℕ)
+        → e ≡ nextEffect (modulesIn (now (table .entry)) copy) q (now (m .entry)) next a last step label) ⌝ }
 {
     if !access::is_live(q, a as usize, 1) {
         return Effect::Trap(32);
     }
-    if access::is_protected(attributes, q, m, a as usize) {
+    if access::is_protected(table, frames, q, m, a as usize) {
         return Effect::Trap(33);
     }
     sum_effect(q, next, a, last, step, label, next_sum(m, a, step))
@@ -215,7 +222,50 @@ pub fn call_effect(code: &[u8], q: Registers, m: &[u32], next: u32, p: u32) -> E
         0,
         Push::NoPush,
         Write::WriteTwo(q.mp, q.fp, next),
-        q.called(entry),
+        q.called(2, q.gp, entry),
+    )
+}
+
+// CALL_E.
+pub fn call_external_effect(
+    table: &[u32],
+    copy: &[u8],
+    q: Registers,
+    m: &[u32],
+    next: u32,
+    l: u32,
+    p: u32,
+) -> Effect
+    requires { ⌜ length (now table) ≤ 80 ⌝ }
+    requires { ⌜ framesStart (modulesIn (now table) (now copy)) ≤ 16384 ⌝ }
+    requires { ⌜ length (now m) ≤ 16384 ⌝ }
+    ensures { λ e. ⌜ e ≡ callExternalEffect (modulesIn (now (table .entry)) (now (copy .entry))) q (now (m .entry)) next l p ⌝ }
+{
+    if table::is_no_library(table, l) {
+        return Effect::Trap(23);
+    }
+    let k = l as usize;
+    let code = words::part(
+        copy,
+        table::row_word(table, k, 0),
+        table::row_word(table, k, 1),
+    );
+    if entries::is_no_callee(code, p) {
+        return Effect::Trap(23);
+    }
+    if 64 <= q.calls {
+        return Effect::Trap(37);
+    }
+    if m.len() < (q.mp as usize) + 3 {
+        return Effect::Trap(35);
+    }
+    let entry = entries::entry_at(code, p) as u32;
+    let gp = table::globals_start(table, l) as u32;
+    Effect::Go(
+        0,
+        Push::NoPush,
+        Write::WriteThree(q.mp, q.gp, q.fp, access::negated(next)),
+        q.called(3, gp, entry),
     )
 }
 
@@ -237,8 +287,8 @@ pub fn enter_effect(q: Registers, m: &[u32], next: u32, parameters: u32, locals:
 }
 
 // RTN.
-pub fn rtn_effect(attributes: Attributes, q: Registers, m: &[u32]) -> Effect
-    requires { ⌜ chained (now m) (framesStart attributes) (q .fp) (q .calls) ≡ true ⌝ }
+pub fn rtn_effect(frames: u32, q: Registers, m: &[u32]) -> Effect
+    requires { ⌜ chained (now m) frames (q .fp) (q .calls) ≡ true ⌝ }
     ensures { λ e. ⌜ e ≡ rtnEffect q (now (m .entry)) ⌝ }
 {
     if q.calls == 0 {

@@ -1,16 +1,16 @@
 -- The demands: every theorem behind them, in one place.
 use Rattle.verifier.proofs.Exactly.{accepts-exactly, refuses-exactly, shows-reached, shows-no-more}
-use Rattle.safety.proofs.JoinedCall.{refused-joined}
-use Rattle.safety.proofs.LabelWords.{iter-pushes, switch-pushes}
+use Rattle.joined.proofs.JoinedCall.{refused-joined}
+use Rattle.invariant.proofs.LabelWords.{iter-pushes, switch-pushes}
 use Rattle.guarantees.proofs.Refusals.{refused-load, refused-run, count-within-budget, spends-budget}
 use Rattle.guarantees.proofs.Steps.{trapped-step, writes-below-height, stays-fit, keeps-protected}
 use Rattle.guarantees.proofs.Numbers.{reading-numbers, check-numbers, load-numbers, run-numbers, step-traps}
-use Rattle.guarantees.proofs.Runs.{runs-by-steps}
+use Rattle.guarantees.proofs.Runs.{runs-by-steps, names-module}
 use Rattle.demands.specs.Demands.{Demand1, Demand2, Demand3, Besides, Demands}
-use Rattle.demands.proofs.Sentences.{ends-properly, comes-on, has-place, has-picture, has-share, keeps-fixed, keeps-sizes}
+use Rattle.demands.proofs.Sentences.{ends-properly, comes-on, has-place, has-module, has-picture, has-share, keeps-fixed, keeps-sizes}
 use Rattle.demands.proofs.Sentences.{keeps-links, leaves-below}
 use Rattle.registers.proofs.Words.{reads-back}
-use Rattle.demands.proofs.InTurn.{calls-in-turn}
+use Rattle.demands.proofs.InTurn.{set-in-turn, record-in-turn}
 
 first : Demand1
 first =
@@ -35,13 +35,15 @@ third =
       ends = ends-properly;
       steps = comes-on;
       place = has-place;
+      place-module = has-module;
       picture = has-picture;
       share = has-share;
       fixed = keeps-fixed;
       links = keeps-links;
       below = leaves-below;
       reads-back = reads-back;
-      in-turn = calls-in-turn;
+      set-in-turn = set-in-turn;
+      record-in-turn = record-in-turn;
     }
 
 besides : Besides
@@ -55,6 +57,7 @@ besides =
       sizes = keeps-sizes;
       counts = count-within-budget;
       spends = spends-budget;
+      names-module = names-module;
       stays-fit = stays-fit;
       writes-below = writes-below-height;
       protects = keeps-protected;

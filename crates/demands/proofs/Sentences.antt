@@ -1,27 +1,27 @@
 -- The sentences of demand 3: each is a part of safety's claim, and what the picture has at a place is one list, since every map
 -- of the region has what is reached.
-use mathlib.Core.List.{List}
-use mathlib.Core.Logic.{_⊎_, inl, inr}
 use mathlib.Core.Option.{some}
 use mathlib.Core.Path.{_≡_, _∙_, sym, subst}
-use Prim.Native.Nat.{ℕ}
-use Rattle.stackmap.specs.Slots.{Slot}
+use Prim.Native.Nat.{ℕ, _<_}
+use native.Mathlib.Omega.{arith}
+use lib.ListN.{length}
+use Rattle.load.proofs.Modules.{modules-length}
 use Rattle.stackmap.proofs.Exact.{has-reached}
-use Rattle.safety.specs.Active.{Configuration, running, at-first, one-more}
+use Rattle.invariant.specs.Active.{Configuration, runningMember, running, at-first, one-more}
 use Rattle.safety.specs.Demand3.{Demand3, Safe}
-use Rattle.safety.proofs.Places.{checked}
+use Rattle.safety.proofs.Copies.{mapped-at}
 use Rattle.safety.proofs.Ends.{claim}
-use Rattle.demands.specs.Fresh.{Fresh, programIn, subjectIn, workspaceLeft, loadedState, ComesTo, Pictured, Shared}
-use Rattle.demands.specs.Third.{EndsProperly, ComesOn, HasPlace, HasPicture, HasShare}
+use Rattle.demands.specs.Fresh.{Fresh, modulesIn, subjectsIn, workspacesLeft, loadLeft, loadedState, ComesTo, Shared}
+use Rattle.demands.specs.Third.{EndsProperly, ComesOn, HasPlace, HasModule, HasPicture, HasShare}
 use Rattle.demands.specs.Third.{KeepsFixed, KeepsSizes, KeepsLinks, LeavesBelow}
 
-claimed : (F : Fresh) → Demand3 (F .bytes) (workspaceLeft F) (loadedState F) (subjectIn F)
+claimed : (F : Fresh) → Demand3 (F .members) (loadLeft F .copy) (workspacesLeft F) (loadedState F) (subjectsIn F)
 claimed F =
-    claim (F .bytes) (F .results) (F .workspace) (F .parameters) (F .memory) (F .stack) (F .registers) (F .are-bytes)
-    (F .accepted) (F .loaded) (F .ruled)
+    claim (F .members) (F .spaces) (F .parameters) (F .copy) (F .memory) (F .stack) (F .registers) (F .are-bytes) (F .accepted)
+    (F .loaded) (F .ruled)
 
 safe : (F : Fresh) (n : ℕ) (c : Configuration) → ComesTo F n c
-    → Safe (programIn F) (subjectIn F) (workspaceLeft F) (loadedState F) c
+    → Safe (modulesIn F) (subjectsIn F) (workspacesLeft F) (loadedState F) c
 safe F n c v = claimed F .safe n c v
 
 pub ends-properly : EndsProperly
@@ -35,15 +35,21 @@ has-place F n c v =
     let S = safe F n c v in
     (S .procedure, S .slots, S .placed)
 
+pub has-module : HasModule
+has-module F n c v = let S = safe F n c v in (S .member, S .global)
+
 pub has-picture : HasPicture
-has-picture F n c v slots p π is = has-reached (subjectIn F) (running (c .calls)) π is (c .state .registers .pc) slots p
+has-picture F n c v slots p π is =
+    has-reached (subjectsIn F (runningMember (c .calls))) (running (c .calls)) π is (c .state .registers .pc) slots p
 
 pub has-share : HasShare
 has-share F n c v slots p =
     let S = safe F n c v in
-    let C = checked (F .bytes) (F .results) (F .workspace) (F .are-bytes) (F .accepted) (F .ruled) in
-    let (π, is) = C .maps (running (c .calls)) (S .procedure) in
-    let has = has-reached (subjectIn F) (running (c .calls)) π is (c .state .registers .pc) slots p in
+    let k = runningMember (c .calls) in
+    let h : k < length (F .members) = omega (arith, S .member, modules-length (F .members)) in
+    let (π, is) =
+    mapped-at (F .members) (F .ruled) k h (F .spaces k) (F .are-bytes) (F .accepted k h) (running (c .calls)) (S .procedure) in
+    let has = has-reached (subjectsIn F k) (running (c .calls)) π is (c .state .registers .pc) slots p in
     let same : some (S .slots) ≡ some slots = sym (S .pictured π is) ∙ has in
     let equal : S .slots ≡ slots = cc in
     subst (Shared F c) equal (record { height = S .height; labels = S .labels; shown = S .shown })
@@ -57,8 +63,7 @@ module _ (F : Fresh) (n : ℕ) (c : Configuration) (v : ComesTo F n c) (other : 
   shown-stands = record { height = other .height; labels = other .labels; shown = safe F n c v .shown }
 
 pub keeps-fixed : KeepsFixed
-keeps-fixed F n c v a (inl l) = safe F n c v .header a l
-keeps-fixed F n c v a (inr (l, h)) = safe F n c v .constants a l h
+keeps-fixed F n c v = safe F n c v .fixed
 
 pub keeps-sizes : KeepsSizes
 keeps-sizes F n c v = let S = safe F n c v in (S .memory-size, S .stack-size)

@@ -1,17 +1,17 @@
 -- The letter's demands, sentence by sentence, over the definitions that the promises of reading, check, load and run equal. The letter:
 -- "Rattle's checker should, and this is what it should say".
 use Rattle.verifier.specs.Exact.{AcceptsExactly, RefusesExactly, ShowsReached, ShowsNoMore}
-use Rattle.safety.specs.Joined.{RefusedJoined}
-use Rattle.safety.specs.Labels.{IterPushes, SwitchPushes}
+use Rattle.joined.specs.Joined.{RefusedJoined}
+use Rattle.invariant.specs.Labels.{IterPushes, SwitchPushes}
 use Rattle.guarantees.specs.Guarantees.{RefusedLoad, RefusedRun, TrappedStep}
 use Rattle.guarantees.specs.Guarantees.{CountWithinBudget, SpendsBudget, WritesBelowHeight, StaysFit}
-use Rattle.guarantees.specs.Guarantees.{KeepsProtected}
+use Rattle.guarantees.specs.Guarantees.{NamesModule, KeepsProtected}
 use Rattle.guarantees.specs.Answers.{ReadingNumbers, CheckNumbers, LoadNumbers, RunNumbers, StepTraps}
 use Rattle.guarantees.specs.Runs.{RunsBySteps}
-use Rattle.demands.specs.Third.{EndsProperly, ComesOn, HasPlace, HasPicture, HasShare}
+use Rattle.demands.specs.Third.{EndsProperly, ComesOn, HasPlace, HasModule, HasPicture, HasShare}
 use Rattle.demands.specs.Third.{KeepsFixed, KeepsSizes, KeepsLinks, LeavesBelow}
 use Rattle.registers.specs.State.{ReadsBack}
-use Rattle.demands.specs.Calls.{CallsInTurn}
+use Rattle.demands.specs.Calls.{SetInTurn, RecordInTurn}
 
 -- 1. "Reading, checking, loading and running answer for any bytes, sizes and lent memory." That they answer at all is what the checker
 -- says of every function, and none of these has a `requires`; what they answer are 01's numbers.
@@ -29,7 +29,8 @@ pub record Demand1 : Type 0 where
   pub trapped-step : TrappedStep
 
 -- 2. "The check accepts exactly the records that meet the written rules, and every run, accepted code or not, gives the memory, stack,
--- trap, place and step count that the manual's steps give as our document reads them."
+-- trap, place and step count that the manual's steps give as our document reads them." 02, K1: "Demands 2 and 3 now speak of a set of
+-- modules", of which a record by itself is one.
 pub record Demand2 : Type 0 where
   pub accepts : AcceptsExactly
   pub runs : RunsBySteps
@@ -40,14 +41,16 @@ pub record Demand3 : Type 0 where
   pub ends : EndsProperly
   pub steps : ComesOn
   pub place : HasPlace
+  pub place-module : HasModule
   pub picture : HasPicture
   pub share : HasShare
   pub fixed : KeepsFixed
   pub links : KeepsLinks
   pub below : LeavesBelow
-  -- For callers that make the three calls in turn.
+  -- For callers that make the calls in turn, over a set and over a record.
   pub reads-back : ReadsBack
-  pub in-turn : CallsInTurn
+  pub set-in-turn : SetInTurn
+  pub record-in-turn : RecordInTurn
 
 -- What 01 says besides, of the check and its workspace, and of steps and runs.
 pub record Besides : Type 0 where
@@ -59,6 +62,7 @@ pub record Besides : Type 0 where
   pub sizes : KeepsSizes
   pub counts : CountWithinBudget
   pub spends : SpendsBudget
+  pub names-module : NamesModule
   pub stays-fit : StaysFit
   pub writes-below : WritesBelowHeight
   pub protects : KeepsProtected

@@ -1,8 +1,8 @@
 // Check, load and run, with the letter's demands as the promise: specs/Demands.antt is the page to read beside the letter.
 ghost use mathlib.Core.Path.{_≡_};
-ghost use Rattle.safety.specs.Joined.{joined, joinedOf};
+ghost use Rattle.joined.specs.Joined.{joined, joinedOf};
 ghost use Rattle.demands.specs.Demands.{Demands};
-use machine::run::Answer;
+use run::Answer;
 
 // Gives the check's number or the load's, or how the run ended.
 pub fn check_load_run(
@@ -18,5 +18,5 @@ pub fn check_load_run(
         ≡ joinedOf (now (r .entry)) (now (results .entry)) (now (workspace .entry)) (now (parameters .entry)) budget
         (now (memory .entry)) (now (stack .entry))) × Demands ⌝ }
 {
-    safety::check_load_run(r, results, workspace, parameters, budget, memory, stack)
+    joined::check_load_run(r, results, workspace, parameters, budget, memory, stack)
 }

@@ -1,12 +1,13 @@
 // Loads, stores and the operations on stack words, as effects.
 ghost use mathlib.Core.Path.{_≡_};
 ghost use mathlib.Core.Bool.{true};
-ghost use Prim.Native.Nat.{_≤_};
+ghost use mathlib.Core.List.{List};
+ghost use Prim.Native.Nat.{ℕ, _≤_, _<_};
 ghost use lib.ListN.{length};
-ghost use Rattle.effect.specs.Data.{baseOf, loadEffect, loadAddressEffect, storeEffect};
+ghost use Rattle.effect.specs.Data.{baseOf, noBase, loadEffect, loadAddressEffect, storeEffect};
 ghost use Rattle.effect.specs.Data.{loaded, protectsAny, stored, pushEffect, operateEffect, allocEffect, freeEffect};
 ghost use Rattle.registers.specs.Memory.{chained};
-ghost use Rattle.registers.specs.Program.{framesStart};
+ghost use Rattle.registers.specs.Modules.{modulesIn};
 use crate::effect::Effect;
 use crate::effect::Push;
 use crate::effect::Write;
@@ -14,29 +15,46 @@ use opcode::instruction::Base;
 use opcode::instruction::Mode;
 use opcode::instruction::Operation;
 use operate::Value;
-use registers::Attributes;
 use registers::Registers;
 use registers::access;
+use registers::table;
 
-// What an offset is counted from; `popped` is the word that the stack gives for an address.
-pub fn base_of(q: Registers, m: &[u32], popped: u32, base: Base) -> u32
-    ensures { λ a. ⌜ a ≡ baseOf q (now (m .entry)) popped base ⌝ }
+// Whether a base is a library that is not there.
+fn is_no_base(table: &[u32], base: Base) -> bool
+    ensures { λ b. ⌜ ((copy : List ℕ) → b ≡ noBase (modulesIn (now (table .entry)) copy) base) ⌝ }
 {
     match base {
-        Base::Local => q.fp,
-        Base::Global => q.gp,
-        Base::Constant => {
-            if q.gp == 0 {
-                return access::word_at(m, 0);
-            }
-            access::word_at(m, (q.gp - 1) as usize)
-        }
-        Base::Popped => popped,
+        Base::Local => false,
+        Base::Global => false,
+        Base::Constant => false,
+        Base::Popped => false,
+        Base::External(l) => table::is_no_library(table, l),
     }
 }
 
-// LOAD_L, _G, _T, _F; `popped` is LOAD_F's address word.
+// What an offset is counted from; `popped` is the word that the stack gives for an address.
+fn base_of(table: &[u32], q: Registers, m: &[u32], popped: u32, base: Base) -> usize
+    requires { ⌜ length (now table) ≤ 80 ⌝ }
+    ensures { λ a. ⌜ ((copy : List ℕ) → a ≡ baseOf (modulesIn (now (table .entry)) copy) q (now (m .entry)) popped base)
+        × (a < 0x40_0000_0000) ⌝ }
+{
+    match base {
+        Base::Local => q.fp as usize,
+        Base::Global => q.gp as usize,
+        Base::Constant => {
+            if q.gp == 0 {
+                return access::word_at(m, 0) as usize;
+            }
+            access::word_at(m, (q.gp - 1) as usize) as usize
+        }
+        Base::Popped => popped as usize,
+        Base::External(l) => table::globals_start(table, l),
+    }
+}
+
+// LOAD_L, _G, _T, _F, _E; `popped` is LOAD_F's address word.
 pub fn load_effect(
+    table: &[u32],
     q: Registers,
     m: &[u32],
     next: u32,
@@ -45,9 +63,14 @@ pub fn load_effect(
     offset: u32,
     popped: u32,
 ) -> Effect
-    ensures { λ e. ⌜ e ≡ loadEffect q (now (m .entry)) next base mode offset popped ⌝ }
+    requires { ⌜ length (now table) ≤ 80 ⌝ }
+    ensures { λ e. ⌜ ((copy : List ℕ)
+        → e ≡ loadEffect (modulesIn (now (table .entry)) copy) q (now (m .entry)) next base mode offset popped) ⌝ }
 {
-    let a = (base_of(q, m, popped, base) as usize) + (offset as usize);
+    if is_no_base(table, base) {
+        return Effect::Trap(23);
+    }
+    let a = base_of(table, q, m, popped, base) + (offset as usize);
     if !access::is_live(q, a, shape::words_in(mode) as usize) {
         return Effect::Trap(32);
     }
@@ -70,8 +93,9 @@ fn loaded(m: &[u32], a: usize, mode: Mode) -> Push
     }
 }
 
-// LOAD_A_L, _G, _T, _F; `popped` is LOAD_A_F's address word.
+// LOAD_A_L, _G, _T, _F, _E; `popped` is LOAD_A_F's address word.
 pub fn load_address_effect(
+    table: &[u32],
     q: Registers,
     m: &[u32],
     next: u32,
@@ -79,18 +103,24 @@ pub fn load_address_effect(
     offset: u32,
     popped: u32,
 ) -> Effect
-    ensures { λ e. ⌜ e ≡ loadAddressEffect q (now (m .entry)) next base offset popped ⌝ }
+    requires { ⌜ length (now table) ≤ 80 ⌝ }
+    ensures { λ e. ⌜ ((copy : List ℕ)
+        → e ≡ loadAddressEffect (modulesIn (now (table .entry)) copy) q (now (m .entry)) next base offset popped) ⌝ }
 {
-    let a = (base_of(q, m, popped, base) as usize) + (offset as usize);
+    if is_no_base(table, base) {
+        return Effect::Trap(23);
+    }
+    let a = base_of(table, q, m, popped, base) + (offset as usize);
     if a < 0x1_0000_0000 {
         return push_effect(q, next, shape::popped_words(base), a as u32);
     }
     Effect::Trap(31)
 }
 
-// STOR_L, _G, _F, of one word or two; `popped` is STOR_F's address word.
+// STOR_L, _G, _F, _E, of one word or two; `popped` is STOR_F's address word.
 pub fn store_effect(
-    attributes: Attributes,
+    table: &[u32],
+    frames: u32,
     q: Registers,
     m: &[u32],
     next: u32,
@@ -101,15 +131,20 @@ pub fn store_effect(
     x: u32,
     y: u32,
 ) -> Effect
-    requires { ⌜ chained (now m) (framesStart attributes) (q .fp) (q .calls) ≡ true ⌝ }
-    ensures { λ e. ⌜ e ≡ storeEffect attributes q (now (m .entry)) next base mode offset popped x y ⌝ }
+    requires { ⌜ length (now table) ≤ 80 ⌝ }
+    requires { ⌜ chained (now m) frames (q .fp) (q .calls) ≡ true ⌝ }
+    ensures { λ e. ⌜ ((copy : List ℕ)
+        → e ≡ storeEffect (modulesIn (now (table .entry)) copy) q (now (m .entry)) next base mode offset popped x y) ⌝ }
 {
-    let a = (base_of(q, m, popped, base) as usize) + (offset as usize);
+    if is_no_base(table, base) {
+        return Effect::Trap(23);
+    }
+    let a = base_of(table, q, m, popped, base) + (offset as usize);
     let pops = shape::popped_words(base) + shape::words_in(mode);
     if !access::is_live(q, a, shape::words_in(mode) as usize) {
         return Effect::Trap(32);
     }
-    if is_any_protected(attributes, q, m, a, mode) {
+    if is_any_protected(table, frames, q, m, a, mode) {
         return Effect::Trap(33);
     }
     Effect::Go(
@@ -121,18 +156,26 @@ pub fn store_effect(
 }
 
 // Whether a store of one word or two to `a` on is refused.
-fn is_any_protected(attributes: Attributes, q: Registers, m: &[u32], a: usize, mode: Mode) -> bool
-    requires { ⌜ chained (now m) (framesStart attributes) (q .fp) (q .calls) ≡ true ⌝ }
+fn is_any_protected(
+    table: &[u32],
+    frames: u32,
+    q: Registers,
+    m: &[u32],
+    a: usize,
+    mode: Mode,
+) -> bool
+    requires { ⌜ length (now table) ≤ 80 ⌝ }
+    requires { ⌜ chained (now m) frames (q .fp) (q .calls) ≡ true ⌝ }
     requires { ⌜ a ≤ 0xFFFF_FFFF ⌝ }
-    ensures { λ b. ⌜ b ≡ protectsAny attributes q (now (m .entry)) a mode ⌝ }
+    ensures { λ b. ⌜ ((copy : List ℕ) → b ≡ protectsAny (modulesIn (now (table .entry)) copy) q (now (m .entry)) a mode) ⌝ }
 {
     match mode {
-        Mode::Normal => access::is_protected(attributes, q, m, a),
+        Mode::Normal => access::is_protected(table, frames, q, m, a),
         Mode::Double => {
-            if access::is_protected(attributes, q, m, a) {
+            if access::is_protected(table, frames, q, m, a) {
                 return true;
             }
-            access::is_protected(attributes, q, m, a + 1)
+            access::is_protected(table, frames, q, m, a + 1)
         }
     }
 }

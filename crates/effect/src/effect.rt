@@ -14,6 +14,7 @@ pub enum Write {
     NoWrite,
     WriteOne(u32, u32),
     WriteTwo(u32, u32, u32),
+    WriteThree(u32, u32, u32, u32),
     WritePopped(u32),
 }
 

@@ -1,6 +1,9 @@
-// The entry table at the start of the code, and the procedures' regions.
+// The entry table at the start of the code, the procedures' regions, and the libraries that a module imports.
 ghost use mathlib.Core.Path.{_≡_};
+ghost use mathlib.Core.List.{List};
+ghost use Prim.Native.Nat.{ℕ, _<_};
 ghost use Rattle.entries.specs.Entries.{entryAt, entryCount, noCallee, countSound, entriesSound, regionEnd};
+ghost use Rattle.entries.specs.Libraries.{libraryIn, librariesIn, rowWord};
 
 pub fn entry_at(code: &[u8], p: u32) -> u16
     ensures { λ n. ⌜ n ≡ entryAt (now (code .entry)) p ⌝ }
@@ -79,4 +82,37 @@ pub fn region_end(code: &[u8], p: u32) -> usize
         return entry_at(code, p + 1) as usize;
     }
     entry_at(code, 0) as usize
+}
+
+// Word `j` of a library's row; 0 where there is no such library.
+fn row_word(libraries: &[u32], l: u32, j: usize) -> u32
+    requires { ⌜ j < 4 ⌝ }
+    ensures { λ n. ⌜ n ≡ rowWord (now (libraries .entry)) l j ⌝ }
+{
+    if l == 0 {
+        return 0;
+    }
+    let k = (l - 1) as usize;
+    if libraries.len() / 4 <= k {
+        return 0;
+    }
+    libraries[4 * k + j]
+}
+
+// The code of library `l`; nothing where there is no such library.
+pub fn library_code<'a>(libraries: &[u32], records: &'a [u8], l: u32) -> &'a [u8]
+    ensures { λ code. ⌜ ((lists : List ℕ) → now code ≡ libraryIn (librariesIn (now (libraries .entry)) (now (records .entry)) lists) l .code) ⌝ }
+{
+    let from = row_word(libraries, l, 0) as usize;
+    let size = row_word(libraries, l, 1) as usize;
+    words::part(records, from, size)
+}
+
+// Its results list.
+pub fn library_results<'a>(libraries: &[u32], lists: &'a [u8], l: u32) -> &'a [u8]
+    ensures { λ results. ⌜ ((records : List ℕ) → now results ≡ libraryIn (librariesIn (now (libraries .entry)) records (now (lists .entry))) l .results) ⌝ }
+{
+    let from = row_word(libraries, l, 2) as usize;
+    let size = row_word(libraries, l, 3) as usize;
+    words::part(lists, from, size)
 }

@@ -9,7 +9,7 @@ use lib.Seq.{getD-take, getD-drop}
 use Rattle.opcode.specs.declared.instruction.Mode.{Mode}
 use Rattle.opcode.specs.declared.instruction.Mode.the-variants.{Normal, Double}
 use Rattle.opcode.specs.declared.instruction.Base.{Base}
-use Rattle.opcode.specs.declared.instruction.Base.the-variants.{Local, Global, Constant, Popped}
+use Rattle.opcode.specs.declared.instruction.Base.the-variants.{Local, Global, Constant, Popped, External}
 use Rattle.opcode.specs.declared.instruction.Operation.{Operation}
 use Rattle.opcode.specs.declared.instruction.Operation.the-variants.{Signed, Unsigned, Negate, Equal, NotEqual}
 use Rattle.opcode.specs.declared.instruction.Operation.the-variants.{CompareSigned, CompareUnsigned, Set, Not}
@@ -19,6 +19,7 @@ use Rattle.operate.specs.Operation.{operationValue}
 use Rattle.shape.specs.Counts.{popped, wordsIn, operands}
 use Rattle.shape.specs.Shape.{shapeOf}
 use Rattle.registers.specs.declared.Registers.{Registers}
+use Rattle.registers.specs.Modules.{Modules}
 use Rattle.registers.specs.Program.{Program}
 use Rattle.registers.specs.Memory.{read}
 use Rattle.effect.specs.Data.{baseOf, loadEffect, loadAddressEffect, storeEffect, operateEffect}
@@ -58,24 +59,25 @@ operation-found wraps (CompareUnsigned order) = two-found (operationValue wraps 
 operation-found wraps (Set op) = two-found (operationValue wraps (Set op))
 operation-found wraps Not = one-found (λ x. operationValue wraps Not x 0)
 
-base-found : (q : Registers) (m s : List ℕ) (base : Base) → popped base ≤ q .height
-    → baseOf q m (read (topWords (popped base) (q .height) s) 0) base ≡ baseOf q m (read s (q .height - 1)) base
-base-found q m s Local l = refl
-base-found q m s Global l = refl
-base-found q m s Constant l = refl
-base-found q m s Popped l = found s (q .height) 1 0 l (omega arith)
+base-found : (Ms : Modules) (q : Registers) (m s : List ℕ) (base : Base) → popped base ≤ q .height
+    → baseOf Ms q m (read (topWords (popped base) (q .height) s) 0) base ≡ baseOf Ms q m (read s (q .height - 1)) base
+base-found Ms q m s Local l = refl
+base-found Ms q m s Global l = refl
+base-found Ms q m s Constant l = refl
+base-found Ms q m s Popped l = found s (q .height) 1 0 l (omega arith)
+base-found Ms q m s (External k) l = refl
 
-pub load-found : (q : Registers) (m s : List ℕ) (next : ℕ) (base : Base) (mode : Mode) (n : ℕ) → popped base ≤ q .height
-    → loadEffect q m next base mode n (read (topWords (popped base) (q .height) s) 0)
-    ≡ loadEffect q m next base mode n (read s (q .height - 1))
+pub load-found : (Ms : Modules) (q : Registers) (m s : List ℕ) (next : ℕ) (base : Base) (mode : Mode) (n : ℕ) → popped base ≤ q .height
+    → loadEffect Ms q m next base mode n (read (topWords (popped base) (q .height) s) 0)
+    ≡ loadEffect Ms q m next base mode n (read s (q .height - 1))
 unfolding loadEffect
-load-found q m s next base mode n l = rw (base-found q m s base l)
+load-found Ms q m s next base mode n l = rw (base-found Ms q m s base l)
 
-pub load-address-found : (q : Registers) (m s : List ℕ) (next : ℕ) (base : Base) (n : ℕ) → popped base ≤ q .height
-    → loadAddressEffect q m next base n (read (topWords (popped base) (q .height) s) 0)
-    ≡ loadAddressEffect q m next base n (read s (q .height - 1))
+pub load-address-found : (Ms : Modules) (q : Registers) (m s : List ℕ) (next : ℕ) (base : Base) (n : ℕ) → popped base ≤ q .height
+    → loadAddressEffect Ms q m next base n (read (topWords (popped base) (q .height) s) 0)
+    ≡ loadAddressEffect Ms q m next base n (read s (q .height - 1))
 unfolding loadAddressEffect
-load-address-found q m s next base n l = rw (base-found q m s base l)
+load-address-found Ms q m s next base n l = rw (base-found Ms q m s base l)
 
 pub operate-found : (wraps : Bool) (op : Operation) (q : Registers) (s : List ℕ) (next : ℕ) → operands op ≤ q .height
     → let ws = topWords (operands op) (q .height) s in
@@ -86,7 +88,7 @@ operate-found wraps op q s next l = rw (operation-found wraps op s (q .height) l
 -- The words of STOR, by their depth in the stack.
 abbrev pub storeAt : Program → Registers → List ℕ → List ℕ → ℕ → Base → Mode → ℕ → Effect
 storeAt P q m s next base mode n =
-    storeEffect (P .attributes) q m next base mode n (read s (q .height - (popped base + wordsIn mode)))
+    storeEffect (P .modules) q m next base mode n (read s (q .height - (popped base + wordsIn mode)))
     (read s (q .height - wordsIn mode)) (read s (q .height - (wordsIn mode - 1)))
 
 pub store-found : (P : Program) (q : Registers) (m s : List ℕ) (next : ℕ) (base : Base) (mode : Mode) (n : ℕ)
@@ -96,6 +98,7 @@ unfolding execute shapeOf storeEffect
 store-found P q m s next Local Normal n l = rw (found s (q .height) 1 0 l (omega arith))
 store-found P q m s next Global Normal n l = rw (found s (q .height) 1 0 l (omega arith))
 store-found P q m s next Constant Normal n l = rw (found s (q .height) 1 0 l (omega arith))
+store-found P q m s next (External k) Normal n l = rw (found s (q .height) 1 0 l (omega arith))
 store-found P q m s next Popped Normal n l =
     rw (found s (q .height) 2 0 l (omega arith), found s (q .height) 2 1 l (omega arith))
 store-found P q m s next Local Double n l =
@@ -104,12 +107,14 @@ store-found P q m s next Global Double n l =
     rw (found s (q .height) 2 0 l (omega arith), found s (q .height) 2 1 l (omega arith))
 store-found P q m s next Constant Double n l =
     rw (found s (q .height) 2 0 l (omega arith), found s (q .height) 2 1 l (omega arith))
+store-found P q m s next (External k) Double n l =
+    rw (found s (q .height) 2 0 l (omega arith), found s (q .height) 2 1 l (omega arith))
 store-found P q m s next Popped Double n l =
     rw (found s (q .height) 3 0 l (omega arith), found s (q .height) 3 1 l (omega arith), found s (q .height) 3 2 l (omega arith))
 
 pub iter-found : (P : Program) (q : Registers) (m s : List ℕ) (next d : ℕ) → 4 ≤ q .height
     → executed P (state q m s) next (Iter d)
-    ≡ iterEffect (P .attributes) q m next d (read s (q .height - 4)) (read s (q .height - 3)) (read s (q .height - 2))
+    ≡ iterEffect (P .modules) q m next d (read s (q .height - 4)) (read s (q .height - 3)) (read s (q .height - 2))
     (read s (q .height - 1))
 unfolding execute shapeOf
 iter-found P q m s next d l =
@@ -122,7 +127,7 @@ iter-found P q m s next d l =
 
 pub next-found : (P : Program) (q : Registers) (m s : List ℕ) (next : ℕ) → 5 ≤ q .height
     → executed P (state q m s) next Next
-    ≡ nextEffect (P .attributes) q m next (read s (q .height - 5)) (read s (q .height - 3)) (read s (q .height - 2))
+    ≡ nextEffect (P .modules) q m next (read s (q .height - 5)) (read s (q .height - 3)) (read s (q .height - 2))
     (read s (q .height - 1))
 unfolding execute shapeOf
 next-found P q m s next l =

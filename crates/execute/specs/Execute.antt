@@ -6,7 +6,7 @@ use lib.ListN.{take, drop}
 use Rattle.opcode.specs.declared.instruction.Instruction.{Instruction}
 use Rattle.opcode.specs.declared.instruction.Instruction.the-variants.{LoadConstant, Load, LoadAddress, Store, Pop, Swap, Nop}
 use Rattle.opcode.specs.declared.instruction.Instruction.the-variants.{Operate, Alloc, Free, Jump, JumpC, JumpT, JumpF, Iter}
-use Rattle.opcode.specs.declared.instruction.Instruction.the-variants.{Next, Switch, SwitchX, Leave, Call, Enter, Rtn}
+use Rattle.opcode.specs.declared.instruction.Instruction.the-variants.{Next, Switch, SwitchX, Leave, Call, CallExternal, Enter, Rtn}
 use Rattle.shape.specs.declared.Table.the-variants.{Branches, Ranges}
 use Rattle.shape.specs.Counts.{popped}
 use Rattle.shape.specs.Shape.{needed}
@@ -20,7 +20,7 @@ use Rattle.effect.specs.declared.effect.Effect.{Effect}
 use Rattle.effect.specs.declared.effect.Effect.the-variants.{Go}
 use Rattle.effect.specs.Data.{loadEffect, loadAddressEffect, storeEffect, pushEffect, operateEffect, allocEffect, freeEffect}
 use Rattle.control.specs.Control.{jumpEffect, jumpCEffect, jumpTFEffect, iterEffect, nextEffect}
-use Rattle.control.specs.Control.{switchEffect, callEffect, enterEffect, rtnEffect}
+use Rattle.control.specs.Control.{switchEffect, callEffect, callExternalEffect, enterEffect, rtnEffect}
 
 -- The top n words of a stack of some height, the lowest first.
 abbrev pub topWords : ℕ → ℕ → List ℕ → List ℕ
@@ -38,11 +38,11 @@ word S k = read (S .stack) k
 unfoldable pub execute : (P : Program) (S : State) (next : ℕ) → Instruction → Effect
 execute P S next (LoadConstant n) = pushEffect (S .registers) next 0 n  -- [ => val ]
 execute P S next (Load base mode n) =
-    loadEffect (S .registers) (S .memory) next base mode n (word S 0)  -- [ => val ], LOAD_F [ adr => val ]
+    loadEffect (P .modules) (S .registers) (S .memory) next base mode n (word S 0)  -- [ => val ], LOAD_F [ adr => val ]
 execute P S next (LoadAddress base n) =
-    loadAddressEffect (S .registers) (S .memory) next base n (word S 0)  -- [ => adr ], LOAD_A_F [ adr => adr ]
+    loadAddressEffect (P .modules) (S .registers) (S .memory) next base n (word S 0)  -- [ => adr ], LOAD_A_F [ adr => adr ]
 execute P S next (Store base mode n) =  -- [ val => ], STOR_F [ adr, val => ]
-    storeEffect (P .attributes) (S .registers) (S .memory) next base mode n (word S 0) (word S (popped base))
+    storeEffect (P .modules) (S .registers) (S .memory) next base mode n (word S 0) (word S (popped base))
     (word S (popped base + 1))
 execute P S next (Pop n) = Go n NoPush NoWrite (moved (S .registers) next)  -- [ val (,...) => ]
 execute P S next Swap = Go 2 (PushTwo (word S 1) (word S 0)) NoWrite (moved (S .registers) next)  -- [ val, val => val, val ]
@@ -56,13 +56,15 @@ execute P S next (JumpC d) = jumpCEffect (S .registers) next d (word S 0)  -- [ 
 execute P S next (JumpT d) = jumpTFEffect (S .registers) next 1 d (word S 0)  -- [ bool => (bool) ]
 execute P S next (JumpF d) = jumpTFEffect (S .registers) next 0 d (word S 0)  -- [ bool => (bool) ]
 execute P S next (Iter d) =  -- [ adr, first, last, step => (adr, first, last, step, label) ]
-    iterEffect (P .attributes) (S .registers) (S .memory) next d (word S 0) (word S 1) (word S 2) (word S 3)
+    iterEffect (P .modules) (S .registers) (S .memory) next d (word S 0) (word S 1) (word S 2) (word S 3)
 execute P S next Next =  -- [ adr, first, last, step, label => (adr, first, last, step, label) ]
-    nextEffect (P .attributes) (S .registers) (S .memory) next (word S 0) (word S 2) (word S 3) (word S 4)
+    nextEffect (P .modules) (S .registers) (S .memory) next (word S 0) (word S 2) (word S 3) (word S 4)
 execute P S next (Switch n) = switchEffect (P .code) (S .registers) Branches n (word S 0)  -- [ val => label ]
 execute P S next (SwitchX n) = switchEffect (P .code) (S .registers) Ranges n (word S 0)  -- [ val => label ]
 execute P S next Leave = Go 1 NoPush NoWrite (moved (S .registers) (word S 0))  -- [ label => ]
 execute P S next (Call p) = callEffect (P .code) (S .registers) (S .memory) next p  -- [ ]
+execute P S next (CallExternal l p) =
+    callExternalEffect (P .modules) (S .registers) (S .memory) next l p  -- [ ]
 execute P S next (Enter par dat) = enterEffect (S .registers) (S .memory) next par dat  -- [ val, ..., val => ]
 execute P S next Rtn = rtnEffect (S .registers) (S .memory)  -- [ ]
 

@@ -6,7 +6,8 @@ ghost use Prim.Native.Nat.{ℕ, _≤_, _-_};
 ghost use lib.ListN.{length};
 ghost use Rattle.shape.specs.Shape.{needed};
 ghost use Rattle.registers.specs.Memory.{read, chained};
-ghost use Rattle.registers.specs.Program.{framesStart, program};
+ghost use Rattle.registers.specs.Modules.{modulesIn, framesStart};
+ghost use Rattle.registers.specs.Program.{program};
 ghost use Rattle.registers.specs.State.{state};
 ghost use Rattle.execute.specs.Execute.{executed};
 use effect::data;
@@ -33,6 +34,7 @@ fn peek(s: &[u32], q: Registers, depth: u32) -> u32
 
 // STOR: the address, if it is popped, lies below the words.
 fn execute_store(
+    table: &[u32],
     attributes: Attributes,
     q: Registers,
     m: &[u32],
@@ -42,20 +44,34 @@ fn execute_store(
     mode: Mode,
     offset: u32,
 ) -> Effect
-    requires { ⌜ chained (now m) (framesStart attributes) (q .fp) (q .calls) ≡ true ⌝ }
+    requires { ⌜ length (now table) ≤ 80 ⌝ }
+    requires { ⌜ chained (now m) (attributes .frames) (q .fp) (q .calls) ≡ true ⌝ }
     requires { ⌜ needed (Instruction.Store base mode offset) ≤ q .height ⌝ }
-    ensures { λ e. ⌜ ((code : List ℕ) → e ≡ executed (program code attributes) (state q (now (m .entry)) (now (s .entry)))
-        next (Instruction.Store base mode offset)) ⌝ }
+    ensures { λ e. ⌜ ((code copy : List ℕ) → e
+        ≡ executed (program code attributes (modulesIn (now (table .entry)) copy)) (state q (now (m .entry)) (now (s .entry))) next (Instruction.Store base mode offset)) ⌝ }
 {
     let words = shape::words_in(mode);
     let popped = peek(s, q, shape::popped_words(base) + words);
     let x = peek(s, q, words);
     let y = peek(s, q, words - 1);
-    data::store_effect(attributes, q, m, next, base, mode, offset, popped, x, y)
+    data::store_effect(
+        table,
+        attributes.frames,
+        q,
+        m,
+        next,
+        base,
+        mode,
+        offset,
+        popped,
+        x,
+        y,
+    )
 }
 
 // ITER: four words.
 fn execute_iter(
+    table: &[u32],
     attributes: Attributes,
     q: Registers,
     m: &[u32],
@@ -63,34 +79,56 @@ fn execute_iter(
     next: u32,
     distance: u32,
 ) -> Effect
-    requires { ⌜ chained (now m) (framesStart attributes) (q .fp) (q .calls) ≡ true ⌝ }
+    requires { ⌜ length (now table) ≤ 80 ⌝ }
+    requires { ⌜ chained (now m) (attributes .frames) (q .fp) (q .calls) ≡ true ⌝ }
     requires { ⌜ 4 ≤ q .height ⌝ }
-    ensures { λ e. ⌜ ((code : List ℕ) → e ≡ executed (program code attributes) (state q (now (m .entry)) (now (s .entry)))
-        next (Instruction.Iter distance)) ⌝ }
+    ensures { λ e. ⌜ ((code copy : List ℕ) → e
+        ≡ executed (program code attributes (modulesIn (now (table .entry)) copy)) (state q (now (m .entry)) (now (s .entry))) next (Instruction.Iter distance)) ⌝ }
 {
     let a = peek(s, q, 4);
     let first = peek(s, q, 3);
     let last = peek(s, q, 2);
     let step = peek(s, q, 1);
-    control::iter_effect(attributes, q, m, next, distance, a, first, last, step)
+    control::iter_effect(
+        table,
+        attributes.frames,
+        q,
+        m,
+        next,
+        distance,
+        a,
+        first,
+        last,
+        step,
+    )
 }
 
 // NEXT: four words, and the label above them.
-fn execute_next(attributes: Attributes, q: Registers, m: &[u32], s: &[u32], next: u32) -> Effect
-    requires { ⌜ chained (now m) (framesStart attributes) (q .fp) (q .calls) ≡ true ⌝ }
+fn execute_next(
+    table: &[u32],
+    attributes: Attributes,
+    q: Registers,
+    m: &[u32],
+    s: &[u32],
+    next: u32,
+) -> Effect
+    requires { ⌜ length (now table) ≤ 80 ⌝ }
+    requires { ⌜ chained (now m) (attributes .frames) (q .fp) (q .calls) ≡ true ⌝ }
     requires { ⌜ 5 ≤ q .height ⌝ }
-    ensures { λ e. ⌜ ((code : List ℕ) → e ≡ executed (program code attributes) (state q (now (m .entry)) (now (s .entry)))
-        next Instruction.Next) ⌝ }
+    ensures { λ e. ⌜ ((code copy : List ℕ) → e
+        ≡ executed (program code attributes (modulesIn (now (table .entry)) copy)) (state q (now (m .entry)) (now (s .entry))) next Instruction.Next) ⌝ }
 {
     let a = peek(s, q, 5);
     let last = peek(s, q, 3);
     let step = peek(s, q, 2);
     let label = peek(s, q, 1);
-    control::next_effect(attributes, q, m, next, a, last, step, label)
+    control::next_effect(table, attributes.frames, q, m, next, a, last, step, label)
 }
 
 // The effect of an instruction whose stack words are there.
 pub fn execute(
+    table: &[u32],
+    copy: &[u8],
     code: &[u8],
     attributes: Attributes,
     q: Registers,
@@ -99,21 +137,25 @@ pub fn execute(
     next: u32,
     i: Instruction,
 ) -> Effect
-    requires { ⌜ chained (now m) (framesStart attributes) (q .fp) (q .calls) ≡ true ⌝ }
+    requires { ⌜ length (now table) ≤ 80 ⌝ }
+    requires { ⌜ chained (now m) (attributes .frames) (q .fp) (q .calls) ≡ true ⌝ }
+    requires { ⌜ framesStart (modulesIn (now table) (now copy)) ≤ 16384 ⌝ }
     requires { ⌜ length (now m) ≤ 16384 ⌝ }
     requires { ⌜ needed i ≤ q .height ⌝ }
-    ensures { λ e. ⌜ e ≡ executed (program (now (code .entry)) attributes) (state q (now (m .entry)) (now (s .entry))) next i ⌝ }
+    ensures { λ e. ⌜ e
+        ≡ executed (program (now (code .entry)) attributes (modulesIn (now (table .entry)) (now (copy .entry))))
+        (state q (now (m .entry)) (now (s .entry))) next i ⌝ }
 {
     match i {
         Instruction::LoadConstant(n) => data::push_effect(q, next, 0, n),
         Instruction::Load(base, mode, offset) => {
-            data::load_effect(q, m, next, base, mode, offset, peek(s, q, 1))
+            data::load_effect(table, q, m, next, base, mode, offset, peek(s, q, 1))
         }
         Instruction::LoadAddress(base, offset) => {
-            data::load_address_effect(q, m, next, base, offset, peek(s, q, 1))
+            data::load_address_effect(table, q, m, next, base, offset, peek(s, q, 1))
         }
         Instruction::Store(base, mode, offset) => {
-            execute_store(attributes, q, m, s, next, base, mode, offset)
+            execute_store(table, attributes, q, m, s, next, base, mode, offset)
         }
         Instruction::Pop(n) => control::jump_to(q, n, next),
         Instruction::Swap => Effect::Go(
@@ -137,8 +179,8 @@ pub fn execute(
         Instruction::JumpF(distance) => {
             control::jump_tf_effect(q, next, 0, distance, peek(s, q, 1))
         }
-        Instruction::Iter(distance) => execute_iter(attributes, q, m, s, next, distance),
-        Instruction::Next => execute_next(attributes, q, m, s, next),
+        Instruction::Iter(distance) => execute_iter(table, attributes, q, m, s, next, distance),
+        Instruction::Next => execute_next(table, attributes, q, m, s, next),
         Instruction::Switch(n) => {
             control::switch_effect(code, q, Table::Branches, n, peek(s, q, 1))
         }
@@ -147,9 +189,12 @@ pub fn execute(
         }
         Instruction::Leave => control::jump_to(q, 1, peek(s, q, 1)),
         Instruction::Call(p) => control::call_effect(code, q, m, next, p),
+        Instruction::CallExternal(l, p) => {
+            control::call_external_effect(table, copy, q, m, next, l, p)
+        }
         Instruction::Enter(parameters, words) => {
             control::enter_effect(q, m, next, parameters, words)
         }
-        Instruction::Rtn => control::rtn_effect(attributes, q, m),
+        Instruction::Rtn => control::rtn_effect(attributes.frames, q, m),
     }
 }

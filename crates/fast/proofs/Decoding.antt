@@ -1,5 +1,5 @@
 -- What is decoded, from the row of the code byte: an instruction that ends within the code.
-use mathlib.Core.Path.{_≡_, refl}
+use mathlib.Core.Path.{_≡_}
 use mathlib.Core.Bool.{true}
 use mathlib.Core.List.{List}
 use Prim.Native.Nat.{ℕ, _+_, _/_, _≤_, _<_}
@@ -8,7 +8,7 @@ use lib.ListN.{length}
 use borrow.Author.Tests.{ne-eqb, lt-ltb}
 use Rattle.words.specs.Bytes.{byteAt}
 use Rattle.operand.specs.Operand.{Operands, extent, operand, operand2}
-use Rattle.opcode.specs.Table.{Modes, allows, Row, row, find, shortTable, rowOf}
+use Rattle.opcode.specs.Table.{Modes, allows, row, find, shortTable, rowOf}
 use Rattle.opcode.specs.Length.{lengthIn}
 use Rattle.opcode.specs.Decode.{instructionAt, decodeAt}
 use Rattle.opcode.specs.declared.Decoded.the-variants.{At}

@@ -3,15 +3,13 @@ use mathlib.Core.Path.{_≡_}
 use mathlib.Core.Bool.{true}
 use Prim.Native.Nat.{ℕ, _+_, _%_, _<_}
 use native.Mathlib.Omega.{arith}
-use lib.ListN.{length}
 use Rattle.registers.specs.declared.Attributes.{Attributes}
 use Rattle.registers.specs.declared.Registers.{Registers}
-use Rattle.registers.specs.Memory.{read}
-use Rattle.state.specs.Fits.{fits}
+use Rattle.state.specs.Fits.{bounded}
 use Rattle.state.proofs.Fitting.{Fitting, fitting}
 use Rattle.fast.specs.Fast.{Spot, stateAt}
 
-module _ (A : Attributes) (q : Registers) (T : Spot) (f : fits A (stateAt q T) ≡ true) (n : ℕ) (small : n < 65536) where
+module _ (A : Attributes) (q : Registers) (T : Spot) (f : bounded A (stateAt q T) ≡ true) (n : ℕ) (small : n < 65536) where
   F : Fitting A (stateAt q T)
   F = fitting A (stateAt q T) f
 
@@ -19,15 +17,10 @@ module _ (A : Attributes) (q : Registers) (T : Spot) (f : fits A (stateAt q T) �
   small-local = omega (arith, F .frame, F .within, F .room, small)
 
   pub small-global : q .gp + n < 0x1_0000_0000
-  small-global = omega (arith, F .global, small)
+  small-global = omega (arith, F .global, F .first, F .second, F .attributes, F .room, small)
 
-  pub small-constant : read (T .memory) 2 + n < 0x1_0000_0000
-  small-constant = omega (arith, F .word2, F .attributes, F .room, small)
-
--- CONST_ADR is there.
-module _ (A : Attributes) (q : Registers) (T : Spot) (f : fits A (stateAt q T) ≡ true) where
-  pub base-live : 2 < length (T .memory)
-  base-live = omega (arith, fitting A (stateAt q T) f .attributes)
+  pub small-constant : A .constants + n < 0x1_0000_0000
+  small-constant = omega (arith, F .second, F .attributes, F .room, small)
 
 -- Operands are small.
 pub digit-small : (b : ℕ) → b % 16 < 65536

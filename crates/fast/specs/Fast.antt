@@ -1,7 +1,7 @@
 -- Steps that complete, as the fast loop holds them: place, height, memory and stack go on, the other registers stay. Each function
 -- answers whether it was done; where it was not, nothing was written. These are no rules: the general step has them.
 use mathlib.Core.Path.{_≡_}
-use mathlib.Core.Bool.{Bool, true, false, _&&_, _||_}
+use mathlib.Core.Bool.{Bool, true, false, not, _&&_, _||_}
 use mathlib.Core.List.{List}
 use Prim.Native.Nat.{ℕ, suc, _-_, _<_, _≤_}
 use lib.Dec.{leb, ltb}
@@ -11,14 +11,16 @@ use Rattle.opcode.specs.declared.Decoded.the-variants.{At}
 use Rattle.opcode.specs.declared.instruction.Instruction.{Instruction}
 use Rattle.registers.specs.declared.Attributes.{Attributes}
 use Rattle.registers.specs.declared.Registers.{Registers}
-use Rattle.registers.specs.Program.{Program, constantsStart}
+use Rattle.registers.specs.Modules.{Modules}
+use Rattle.registers.specs.Program.{Program}
+use Rattle.registers.specs.Memory.{isLink}
 use Rattle.registers.specs.State.{State, state}
 use Rattle.registers.specs.Changes.{moved, raised}
 use Rattle.operate.specs.declared.Value.{Value}
 use Rattle.operate.specs.declared.Value.the-variants.{Word, Trap}
-use Rattle.state.specs.Fits.{fits}
 use Rattle.step.specs.declared.Outcome.the-variants.{Went}
 use Rattle.step.specs.Step.{after, stepOf}
+use Rattle.step.specs.Ready.{Ready}
 
 -- What a fast step changes.
 pub record Spot : Type 0 where
@@ -47,24 +49,32 @@ abbrev pub Completed : Bool → Program → (S S' : State) → Type 0
 Completed true P S S' = (S' .registers .pc < length (P .code)) × (stepOf P S ≡ after Went S')
 Completed false P S S' = S' ≡ S
 
--- The same where only place, height, memory and stack change.
-abbrev pub Did : Bool → Program → Registers → (T T' : Spot) → Type 0
-Did b P q T T' = Completed b P (stateAt q T) (stateAt q T')
+-- The same in every set of modules where the program is ready: most steps look at no other module.
+abbrev pub Completes : Bool → (Modules → Program) → (S S' : State) → Type 0
+Completes b L S S' = (Ms : Modules) → Ready (L Ms) S → Completed b (L Ms) S S'
 
--- So many steps that all completed, one after the other.
+-- Where only place, height, memory and stack change.
+abbrev pub Did : Bool → (Modules → Program) → Registers → (T T' : Spot) → Type 0
+Did b L q T T' = Completes b L (stateAt q T) (stateAt q T')
+
+-- So many steps that all completed, one after the other, with the program ready after each.
 pub data Steps (P : Program) (S : State) : ℕ → State → Type 0 where
   none : Steps P S 0 S
-  more : {n : ℕ} {S' S'' : State} → Steps P S n S' → stepOf P S' ≡ after Went S'' → Steps P S (suc n) S''
+  more : {n : ℕ} {S' S'' : State} → Steps P S n S' → stepOf P S' ≡ after Went S'' → Ready P S'' → Steps P S (suc n) S''
 
--- What is reached with so much of a budget left: by steps that completed, in a state that fits.
+-- What is reached with so much of a budget left: by steps that completed, in a state where the program is ready.
 pub record Ahead (P : Program) (S : State) (budget left : ℕ) (S' : State) : Type 0 where
   pub most : left ≤ budget
-  pub fit : fits (P .attributes) S' ≡ true
+  pub ready : Ready P S'
   pub steps : Steps P S (budget - left) S'
 
--- A word of the running frame, or a global: never protected.
+-- A word of the running frame, or a global of the running module: never protected.
 abbrev pub plain : Attributes → (fp a : ℕ) → Bool
-plain A fp a = leb fp a || (leb 3 a && ltb a (constantsStart A))
+plain A fp a = leb fp a || (leb (A .globals) a && ltb a (A .constants))
+
+-- A word that is not protected, as far as the running module tells: such a word, or one of a frame that is no link.
+abbrev pub free : Attributes → Registers → List ℕ → ℕ → Bool
+free A q m a = plain A (q .fp) a || (leb (A .frames) a && not (isLink m (q .fp) (q .calls) a))
 
 -- What an operation gives: a word, and which.
 abbrev pub isWord : Value → Bool

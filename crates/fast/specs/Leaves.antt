@@ -1,13 +1,13 @@
 -- What each leaf does from T to T': done, its words being there, and then so; or nothing (Fast's `Became`).
 use mathlib.Core.Path.{_≡_}
-use mathlib.Core.Bool.{Bool, true, false}
+use mathlib.Core.Bool.{Bool, true}
 use Prim.Native.Nat.{ℕ, _+_, _-_, _<_, _≤_}
 use lib.ListN.{length, set}
 use Rattle.registers.specs.declared.Attributes.{Attributes}
 use Rattle.registers.specs.declared.Registers.{Registers}
-use Rattle.registers.specs.Memory.{read, protects}
+use Rattle.registers.specs.Memory.{read}
 use Rattle.operate.specs.declared.Value.{Value}
-use Rattle.fast.specs.Fast.{Spot, spot, Became, plain, isWord, wordOf}
+use Rattle.fast.specs.Fast.{Spot, spot, Became, plain, free, isWord, wordOf}
 
 -- The k-th word from the top of the stack, which is word 1.
 abbrev pub top : Spot → ℕ → ℕ
@@ -60,14 +60,14 @@ StoresTwo b A next fp mp a T T' =
 -- At an offset from the address below the words: to words that are not protected.
 abbrev pub StoresPopped : Bool → Attributes → Registers → (next n : ℕ) (T T' : Spot) → Type 0
 StoresPopped b A q next n T T' =
-    Became b ((2 ≤ T .height) × ((top T 2 + n < q .mp) × (protects A q (T .memory) (top T 2 + n) ≡ false))) T
+    Became b ((2 ≤ T .height) × ((top T 2 + n < q .mp) × (free A q (T .memory) (top T 2 + n) ≡ true))) T
     (spot next (T .height - 2) (set (T .memory) (top T 2 + n) (top T 1)) (T .stack)) T'
 
 abbrev pub StoresTwoPopped : Bool → Attributes → Registers → (next n : ℕ) (T T' : Spot) → Type 0
 StoresTwoPopped b A q next n T T' =
     Became b
     ((3 ≤ T .height) × ((top T 3 + n + 1 < q .mp)
-    × ((protects A q (T .memory) (top T 3 + n) ≡ false) × (protects A q (T .memory) (top T 3 + n + 1) ≡ false)))) T
+    × ((free A q (T .memory) (top T 3 + n) ≡ true) × (free A q (T .memory) (top T 3 + n + 1) ≡ true)))) T
     (spot next (T .height - 3) (set (set (T .memory) (top T 3 + n) (top T 2)) (top T 3 + n + 1) (top T 1)) (T .stack)) T'
 
 abbrev pub Drops : Bool → (next n : ℕ) (T T' : Spot) → Type 0

@@ -1,16 +1,17 @@
 // Completes a step, or writes nothing: each function sets place and height, and of memory or stack what the step changes.
 ghost use mathlib.Core.Path.{_≡_};
-ghost use mathlib.Core.Bool.{true, not};
+ghost use mathlib.Core.Bool.{true};
 ghost use mathlib.Core.List.{List};
 ghost use Prim.Native.Nat.{ℕ, _+_, _≤_, _<_};
+ghost use lib.Dec.{leb};
 ghost use lib.ListN.{length};
-ghost use Rattle.registers.specs.Program.{framesStart};
-ghost use Rattle.registers.specs.Memory.{isLink, chained, protects};
-ghost use Rattle.fast.specs.Fast.{spot, plain};
+ghost use Rattle.registers.specs.Memory.{linkWords, isLink, chained};
+ghost use Rattle.fast.specs.Fast.{spot, plain, free};
 ghost use Rattle.fast.specs.Leaves.{Pushes, Loads, LoadsPopped, LoadsTwo, LoadsTwoPopped, AddressPopped, Drops, Swaps};
 ghost use Rattle.fast.specs.Leaves.{Stores, StoresPopped, StoresTwo, StoresTwoPopped};
 use registers::Attributes;
 use registers::Registers;
+use registers::access;
 
 // Takes a word as an index.
 fn wide(x: u32) -> usize
@@ -120,13 +121,24 @@ pub fn is_plain(attributes: Attributes, fp: usize, a: usize) -> bool
     if fp <= a {
         return true;
     }
-    if a < 3 {
+    if a < (attributes.globals as usize) {
         return false;
     }
-    a < 3 + (attributes.globals as usize)
+    a < (attributes.constants as usize)
 }
 
-// Says whether `a`, past the data areas, is a link word. Each saved FP lies below its frame, and the last one at `start`.
+// Says whether `a` is one of the link words just below a frame.
+fn is_near(memory: &[u32], frame: usize, a: usize) -> bool
+    requires { ⌜ a < frame ⌝ }
+    ensures { λ b. ⌜ b ≡ leb frame (a + linkWords (now (memory .entry)) frame) ⌝ }
+{
+    if 3 < frame - a {
+        return false;
+    }
+    frame - a <= access::link_words(memory, frame)
+}
+
+// Says whether `a`, past the data frames, is a link word. Each saved FP lies below its frame, and the last one at `start`.
 fn is_link(memory: &[u32], start: usize, fp: usize, calls: usize, a: usize) -> bool
     requires { ⌜ chained (now memory) start fp calls ≡ true ⌝ }
     requires { ⌜ start ≤ a ⌝ }
@@ -135,7 +147,7 @@ fn is_link(memory: &[u32], start: usize, fp: usize, calls: usize, a: usize) -> b
 {
     let mut frame = fp;
     while a < frame {
-        if frame - a <= 2 {
+        if is_near(memory, frame, a) {
             return true;
         }
         frame = memory[frame - 2] as usize;
@@ -143,16 +155,16 @@ fn is_link(memory: &[u32], start: usize, fp: usize, calls: usize, a: usize) -> b
     false
 }
 
-// Says whether a word is not protected. Only a word of an outer frame takes a walk.
+// Says whether a word is not protected, as far as the running module tells. Only a word of an outer frame takes a walk.
 fn is_free(attributes: Attributes, q: Registers, memory: &[u32], a: usize) -> bool
-    requires { ⌜ chained (now memory) (framesStart attributes) (q .fp) (q .calls) ≡ true ⌝ }
+    requires { ⌜ chained (now memory) (attributes .frames) (q .fp) (q .calls) ≡ true ⌝ }
     requires { ⌜ q .fp ≤ length (now memory) ⌝ }
-    ensures { λ b. ⌜ b ≡ not (protects attributes q (now (memory .entry)) a) ⌝ }
+    ensures { λ b. ⌜ b ≡ free attributes q (now (memory .entry)) a ⌝ }
 {
     if is_plain(attributes, q.fp as usize, a) {
         return true;
     }
-    let start = 3 + (attributes.globals as usize) + (attributes.constants as usize);
+    let start = attributes.frames as usize;
     if a < start {
         return false;
     }
@@ -207,7 +219,7 @@ pub fn store_popped(
     requires { ⌜ q .mp ≤ length (now memory) ⌝ }
     requires { ⌜ now height ≤ length (now stack) ⌝ }
     requires { ⌜ offset < 65536 ⌝ }
-    requires { ⌜ chained (now memory) (framesStart attributes) (q .fp) (q .calls) ≡ true ⌝ }
+    requires { ⌜ chained (now memory) (attributes .frames) (q .fp) (q .calls) ≡ true ⌝ }
     requires { ⌜ q .fp ≤ length (now memory) ⌝ }
     ensures { λ b. ⌜ StoresPopped b attributes q next offset
         (spot (now (pc .entry)) (now (height .entry)) (now (memory .entry)) (now (stack .entry)))
@@ -384,7 +396,7 @@ pub fn store_two_popped(
     requires { ⌜ q .mp ≤ length (now memory) ⌝ }
     requires { ⌜ now height ≤ length (now stack) ⌝ }
     requires { ⌜ offset < 65536 ⌝ }
-    requires { ⌜ chained (now memory) (framesStart attributes) (q .fp) (q .calls) ≡ true ⌝ }
+    requires { ⌜ chained (now memory) (attributes .frames) (q .fp) (q .calls) ≡ true ⌝ }
     requires { ⌜ q .fp ≤ length (now memory) ⌝ }
     ensures { λ b. ⌜ StoresTwoPopped b attributes q next offset
         (spot (now (pc .entry)) (now (height .entry)) (now (memory .entry)) (now (stack .entry)))

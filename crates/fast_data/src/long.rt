@@ -6,12 +6,11 @@ ghost use Prim.Native.Nat.{_+_, _≤_, _<_};
 ghost use lib.ListN.{length};
 ghost use Rattle.words.specs.Bytes.{byteAt};
 ghost use Rattle.registers.specs.Program.{program};
-ghost use Rattle.state.specs.Fits.{fits};
+ghost use Rattle.state.specs.Fits.{bounded};
 ghost use Rattle.fast.specs.Fast.{spot, stateAt, Did};
 use fast::leaf;
 use registers::Attributes;
 use registers::Registers;
-use registers::access;
 
 // Serves LOAD_C.w, code 84: a word is behind it.
 fn word_step(
@@ -25,7 +24,7 @@ fn word_step(
 ) -> bool
     requires { ⌜ now pc + 1 < length (now code) ⌝ }
     requires { ⌜ byteAt (now code) (now pc) ≡ 0x84 ⌝ }
-    requires { ⌜ fits attributes (stateAt q (spot (now pc) (now height) (now memory) (now stack))) ≡ true ⌝ }
+    requires { ⌜ bounded attributes (stateAt q (spot (now pc) (now height) (now memory) (now stack))) ≡ true ⌝ }
     ensures { λ done. ⌜ Did done (program (now (code .entry)) attributes) q
         (spot (now (pc .entry)) (now (height .entry)) (now (memory .entry)) (now (stack .entry)))
         (spot (now (pc .exit)) (now (height .exit)) (now (memory .entry)) (now (stack .exit))) ⌝ }
@@ -54,7 +53,7 @@ fn byte_load(
 ) -> bool
     requires { ⌜ now pc + 1 < length (now code) ⌝ }
     requires { ⌜ b ≡ byteAt (now code) (now pc) ⌝ }
-    requires { ⌜ fits attributes (stateAt q (spot (now pc) (now height) (now memory) (now stack))) ≡ true ⌝ }
+    requires { ⌜ bounded attributes (stateAt q (spot (now pc) (now height) (now memory) (now stack))) ≡ true ⌝ }
     ensures { λ done. ⌜ Did done (program (now (code .entry)) attributes) q
         (spot (now (pc .entry)) (now (height .entry)) (now (memory .entry)) (now (stack .entry)))
         (spot (now (pc .exit)) (now (height .exit)) (now (memory .entry)) (now (stack .exit))) ⌝ }
@@ -74,7 +73,7 @@ fn byte_load(
             height,
             next,
             q.mp as usize,
-            (access::word_at(memory, 2) as usize) + n,
+            (attributes.constants as usize) + n,
         ),
         0x82 => leaf::push(stack, pc, height, next, operand::extend_byte(x)),
         0x85 => leaf::load(
@@ -113,7 +112,7 @@ fn byte_address(
 ) -> bool
     requires { ⌜ now pc + 1 < length (now code) ⌝ }
     requires { ⌜ b ≡ byteAt (now code) (now pc) ⌝ }
-    requires { ⌜ fits attributes (stateAt q (spot (now pc) (now height) (now memory) (now stack))) ≡ true ⌝ }
+    requires { ⌜ bounded attributes (stateAt q (spot (now pc) (now height) (now memory) (now stack))) ≡ true ⌝ }
     ensures { λ done. ⌜ Did done (program (now (code .entry)) attributes) q
         (spot (now (pc .entry)) (now (height .entry)) (now (memory .entry)) (now (stack .entry)))
         (spot (now (pc .exit)) (now (height .exit)) (now (memory .entry)) (now (stack .exit))) ⌝ }
@@ -133,7 +132,7 @@ fn byte_address(
             pc,
             height,
             next,
-            ((access::word_at(memory, 2) as usize) + n) as u32,
+            ((attributes.constants as usize) + n) as u32,
         ),
         _ => false,
     }
@@ -152,7 +151,7 @@ fn byte_store(
 ) -> bool
     requires { ⌜ now pc + 1 < length (now code) ⌝ }
     requires { ⌜ b ≡ byteAt (now code) (now pc) ⌝ }
-    requires { ⌜ fits attributes (stateAt q (spot (now pc) (now height) (now memory) (now stack))) ≡ true ⌝ }
+    requires { ⌜ bounded attributes (stateAt q (spot (now pc) (now height) (now memory) (now stack))) ≡ true ⌝ }
     ensures { λ done. ⌜ Did done (program (now (code .entry)) attributes) q
         (spot (now (pc .entry)) (now (height .entry)) (now (memory .entry)) (now (stack .entry)))
         (spot (now (pc .exit)) (now (height .exit)) (now (memory .exit)) (now (stack .entry))) ⌝ }
@@ -205,7 +204,7 @@ fn half_load(
 ) -> bool
     requires { ⌜ now pc + 1 < length (now code) ⌝ }
     requires { ⌜ b ≡ byteAt (now code) (now pc) ⌝ }
-    requires { ⌜ fits attributes (stateAt q (spot (now pc) (now height) (now memory) (now stack))) ≡ true ⌝ }
+    requires { ⌜ bounded attributes (stateAt q (spot (now pc) (now height) (now memory) (now stack))) ≡ true ⌝ }
     ensures { λ done. ⌜ Did done (program (now (code .entry)) attributes) q
         (spot (now (pc .entry)) (now (height .entry)) (now (memory .entry)) (now (stack .entry)))
         (spot (now (pc .exit)) (now (height .exit)) (now (memory .entry)) (now (stack .exit))) ⌝ }
@@ -226,7 +225,7 @@ fn half_load(
             height,
             next,
             q.mp as usize,
-            (access::word_at(memory, 2) as usize) + n,
+            (attributes.constants as usize) + n,
         ),
         0x83 => leaf::push(stack, pc, height, next, operand::extend_halfword(x)),
         0x88 => leaf::load_popped(memory, stack, pc, height, next, q.mp as usize, n),
@@ -236,7 +235,7 @@ fn half_load(
             pc,
             height,
             next,
-            ((access::word_at(memory, 2) as usize) + n) as u32,
+            ((attributes.constants as usize) + n) as u32,
         ),
         _ => false,
     }
@@ -254,7 +253,7 @@ fn half_store(
 ) -> bool
     requires { ⌜ now pc + 1 < length (now code) ⌝ }
     requires { ⌜ byteAt (now code) (now pc) ≡ 0x97 ⌝ }
-    requires { ⌜ fits attributes (stateAt q (spot (now pc) (now height) (now memory) (now stack))) ≡ true ⌝ }
+    requires { ⌜ bounded attributes (stateAt q (spot (now pc) (now height) (now memory) (now stack))) ≡ true ⌝ }
     ensures { λ done. ⌜ Did done (program (now (code .entry)) attributes) q
         (spot (now (pc .entry)) (now (height .entry)) (now (memory .entry)) (now (stack .entry)))
         (spot (now (pc .exit)) (now (height .exit)) (now (memory .exit)) (now (stack .entry))) ⌝ }
@@ -281,7 +280,7 @@ fn swap_step(
 ) -> bool
     requires { ⌜ now pc + 1 < length (now code) ⌝ }
     requires { ⌜ byteAt (now code) (now pc) ≡ 0x9F ⌝ }
-    requires { ⌜ fits attributes (stateAt q (spot (now pc) (now height) (now memory) (now stack))) ≡ true ⌝ }
+    requires { ⌜ bounded attributes (stateAt q (spot (now pc) (now height) (now memory) (now stack))) ≡ true ⌝ }
     ensures { λ done. ⌜ Did done (program (now (code .entry)) attributes) q
         (spot (now (pc .entry)) (now (height .entry)) (now (memory .entry)) (now (stack .entry)))
         (spot (now (pc .exit)) (now (height .exit)) (now (memory .entry)) (now (stack .exit))) ⌝ }
@@ -304,7 +303,7 @@ fn stack_step(
     requires { ⌜ length (now code) ≤ 65535 ⌝ }
     requires { ⌜ now pc + 1 < length (now code) ⌝ }
     requires { ⌜ b ≡ byteAt (now code) (now pc) ⌝ }
-    requires { ⌜ fits attributes (stateAt q (spot (now pc) (now height) (now memory) (now stack))) ≡ true ⌝ }
+    requires { ⌜ bounded attributes (stateAt q (spot (now pc) (now height) (now memory) (now stack))) ≡ true ⌝ }
     ensures { λ done. ⌜ Did done (program (now (code .entry)) attributes) q
         (spot (now (pc .entry)) (now (height .entry)) (now (memory .entry)) (now (stack .entry)))
         (spot (now (pc .exit)) (now (height .exit)) (now (memory .exit)) (now (stack .exit))) ⌝ }
@@ -331,7 +330,7 @@ fn store_step(
     requires { ⌜ length (now code) ≤ 65535 ⌝ }
     requires { ⌜ now pc + 1 < length (now code) ⌝ }
     requires { ⌜ b ≡ byteAt (now code) (now pc) ⌝ }
-    requires { ⌜ fits attributes (stateAt q (spot (now pc) (now height) (now memory) (now stack))) ≡ true ⌝ }
+    requires { ⌜ bounded attributes (stateAt q (spot (now pc) (now height) (now memory) (now stack))) ≡ true ⌝ }
     ensures { λ done. ⌜ Did done (program (now (code .entry)) attributes) q
         (spot (now (pc .entry)) (now (height .entry)) (now (memory .entry)) (now (stack .entry)))
         (spot (now (pc .exit)) (now (height .exit)) (now (memory .exit)) (now (stack .exit))) ⌝ }
@@ -359,7 +358,7 @@ fn address_step(
     requires { ⌜ length (now code) ≤ 65535 ⌝ }
     requires { ⌜ now pc + 1 < length (now code) ⌝ }
     requires { ⌜ b ≡ byteAt (now code) (now pc) ⌝ }
-    requires { ⌜ fits attributes (stateAt q (spot (now pc) (now height) (now memory) (now stack))) ≡ true ⌝ }
+    requires { ⌜ bounded attributes (stateAt q (spot (now pc) (now height) (now memory) (now stack))) ≡ true ⌝ }
     ensures { λ done. ⌜ Did done (program (now (code .entry)) attributes) q
         (spot (now (pc .entry)) (now (height .entry)) (now (memory .entry)) (now (stack .entry)))
         (spot (now (pc .exit)) (now (height .exit)) (now (memory .exit)) (now (stack .exit))) ⌝ }
@@ -389,7 +388,7 @@ pub fn long_step(
     requires { ⌜ length (now code) ≤ 65535 ⌝ }
     requires { ⌜ now pc + 1 < length (now code) ⌝ }
     requires { ⌜ b ≡ byteAt (now code) (now pc) ⌝ }
-    requires { ⌜ fits attributes (stateAt q (spot (now pc) (now height) (now memory) (now stack))) ≡ true ⌝ }
+    requires { ⌜ bounded attributes (stateAt q (spot (now pc) (now height) (now memory) (now stack))) ≡ true ⌝ }
     ensures { λ done. ⌜ Did done (program (now (code .entry)) attributes) q
         (spot (now (pc .entry)) (now (height .entry)) (now (memory .entry)) (now (stack .entry)))
         (spot (now (pc .exit)) (now (height .exit)) (now (memory .exit)) (now (stack .exit))) ⌝ }

@@ -5,7 +5,7 @@ ghost use Prim.Native.Nat.{_+_, _<_};
 ghost use lib.ListN.{length};
 ghost use Rattle.words.specs.Bytes.{byteAt};
 ghost use Rattle.registers.specs.Program.{program};
-ghost use Rattle.state.specs.Fits.{fits};
+ghost use Rattle.state.specs.Fits.{bounded};
 ghost use Rattle.fast.specs.Fast.{spot, stateAt, Did};
 use fast::leaf;
 use registers::Attributes;
@@ -25,7 +25,7 @@ pub fn short_step(
     requires { ⌜ now pc + 1 < length (now code) ⌝ }
     requires { ⌜ b ≡ byteAt (now code) (now pc) ⌝ }
     requires { ⌜ b < 0x70 ⌝ }
-    requires { ⌜ fits attributes (stateAt q (spot (now pc) (now height) (now memory) (now stack))) ≡ true ⌝ }
+    requires { ⌜ bounded attributes (stateAt q (spot (now pc) (now height) (now memory) (now stack))) ≡ true ⌝ }
     ensures { λ done. ⌜ Did done (program (now (code .entry)) attributes) q
         (spot (now (pc .entry)) (now (height .entry)) (now (memory .entry)) (now (stack .entry)))
         (spot (now (pc .exit)) (now (height .exit)) (now (memory .exit)) (now (stack .exit))) ⌝ }

@@ -5,12 +5,11 @@ ghost use Prim.Native.Nat.{_+_, _<_};
 ghost use lib.ListN.{length};
 ghost use Rattle.words.specs.Bytes.{byteAt};
 ghost use Rattle.registers.specs.Program.{program};
-ghost use Rattle.state.specs.Fits.{fits};
+ghost use Rattle.state.specs.Fits.{bounded};
 ghost use Rattle.fast.specs.Fast.{spot, stateAt, Did};
 use fast::leaf;
 use registers::Attributes;
 use registers::Registers;
-use registers::access;
 
 // Serves codes 10 to 6F behind DOUBLE.
 fn double_short(
@@ -27,7 +26,7 @@ fn double_short(
     requires { ⌜ byteAt (now code) (now pc) ≡ 0xF5 ⌝ }
     requires { ⌜ b ≡ byteAt (now code) (now pc + 1) ⌝ }
     requires { ⌜ b < 0x70 ⌝ }
-    requires { ⌜ fits attributes (stateAt q (spot (now pc) (now height) (now memory) (now stack))) ≡ true ⌝ }
+    requires { ⌜ bounded attributes (stateAt q (spot (now pc) (now height) (now memory) (now stack))) ≡ true ⌝ }
     ensures { λ done. ⌜ Did done (program (now (code .entry)) attributes) q
         (spot (now (pc .entry)) (now (height .entry)) (now (memory .entry)) (now (stack .entry)))
         (spot (now (pc .exit)) (now (height .exit)) (now (memory .exit)) (now (stack .exit))) ⌝ }
@@ -96,7 +95,7 @@ fn double_half(
     requires { ⌜ now pc + 1 + 2 < length (now code) ⌝ }
     requires { ⌜ byteAt (now code) (now pc) ≡ 0xF5 ⌝ }
     requires { ⌜ b ≡ byteAt (now code) (now pc + 1) ⌝ }
-    requires { ⌜ fits attributes (stateAt q (spot (now pc) (now height) (now memory) (now stack))) ≡ true ⌝ }
+    requires { ⌜ bounded attributes (stateAt q (spot (now pc) (now height) (now memory) (now stack))) ≡ true ⌝ }
     ensures { λ done. ⌜ Did done (program (now (code .entry)) attributes) q
         (spot (now (pc .entry)) (now (height .entry)) (now (memory .entry)) (now (stack .entry)))
         (spot (now (pc .exit)) (now (height .exit)) (now (memory .exit)) (now (stack .exit))) ⌝ }
@@ -116,7 +115,7 @@ fn double_half(
             height,
             next,
             q.mp as usize,
-            (access::word_at(memory, 2) as usize) + n,
+            (attributes.constants as usize) + n,
         ),
         0x88 => leaf::load_two_popped(memory, stack, pc, height, next, q.mp as usize, n),
         0x97 => leaf::store_two_popped(attributes, q, memory, stack, pc, height, next, n),
@@ -138,7 +137,7 @@ fn double_long(
     requires { ⌜ now pc + 1 + 1 < length (now code) ⌝ }
     requires { ⌜ byteAt (now code) (now pc) ≡ 0xF5 ⌝ }
     requires { ⌜ b ≡ byteAt (now code) (now pc + 1) ⌝ }
-    requires { ⌜ fits attributes (stateAt q (spot (now pc) (now height) (now memory) (now stack))) ≡ true ⌝ }
+    requires { ⌜ bounded attributes (stateAt q (spot (now pc) (now height) (now memory) (now stack))) ≡ true ⌝ }
     ensures { λ done. ⌜ Did done (program (now (code .entry)) attributes) q
         (spot (now (pc .entry)) (now (height .entry)) (now (memory .entry)) (now (stack .entry)))
         (spot (now (pc .exit)) (now (height .exit)) (now (memory .exit)) (now (stack .exit))) ⌝ }
@@ -157,7 +156,7 @@ fn double_long(
             height,
             next,
             q.mp as usize,
-            (access::word_at(memory, 2) as usize) + n,
+            (attributes.constants as usize) + n,
         ),
         0x85 => leaf::load_two(
             memory,
@@ -217,7 +216,7 @@ pub fn double_step(
 ) -> bool
     requires { ⌜ now pc + 1 < length (now code) ⌝ }
     requires { ⌜ byteAt (now code) (now pc) ≡ 0xF5 ⌝ }
-    requires { ⌜ fits attributes (stateAt q (spot (now pc) (now height) (now memory) (now stack))) ≡ true ⌝ }
+    requires { ⌜ bounded attributes (stateAt q (spot (now pc) (now height) (now memory) (now stack))) ≡ true ⌝ }
     ensures { λ done. ⌜ Did done (program (now (code .entry)) attributes) q
         (spot (now (pc .entry)) (now (height .entry)) (now (memory .entry)) (now (stack .entry)))
         (spot (now (pc .exit)) (now (height .exit)) (now (memory .exit)) (now (stack .exit))) ⌝ }

@@ -15,7 +15,6 @@ use Rattle.opcode.specs.declared.instruction.Instruction.{Instruction}
 use Rattle.opcode.specs.declared.instruction.Mode.{Mode}
 use Rattle.opcode.specs.declared.instruction.Mode.the-variants.{Normal}
 use Rattle.registers.specs.declared.Attributes.{Attributes}
-use Rattle.registers.specs.Program.{program}
 use Rattle.fast.proofs.Decoding.{decodes}
 use Rattle.fast.specs.Fast.{Decodes}
 

@@ -7,7 +7,7 @@ ghost use lib.ListN.{length};
 ghost use Rattle.words.specs.Bytes.{byteAt, halfwordAt};
 ghost use Rattle.operand.specs.Distance.{placeAt};
 ghost use Rattle.registers.specs.Program.{program};
-ghost use Rattle.state.specs.Fits.{fits};
+ghost use Rattle.state.specs.Fits.{bounded};
 ghost use Rattle.fast.specs.Fast.{spot, stateAt, Became, Did};
 ghost use Rattle.fast_flow.specs.Flow.{DoesIn, DoesCode};
 use fast_operations::operations;
@@ -106,7 +106,7 @@ fn unsigned_step(
     requires { ⌜ length (now code) ≤ 65535 ⌝ }
     requires { ⌜ now pc + 1 < length (now code) ⌝ }
     requires { ⌜ now height ≤ length (now stack) ⌝ }
-    ensures { λ done. ⌜ ((m : List ℕ) → DoesIn done (program (now (code .entry)) attributes) b
+    ensures { λ done. ⌜ ((m : List ℕ) → DoesIn done (now (code .entry)) attributes b
         (spot (now (pc .entry)) (now (height .entry)) m (now (stack .entry)))
         (spot (now (pc .exit)) (now (height .exit)) m (now (stack .exit)))) ⌝ }
 {
@@ -134,7 +134,7 @@ pub fn flow_step(
     requires { ⌜ length (now code) ≤ 65535 ⌝ }
     requires { ⌜ now pc + 1 < length (now code) ⌝ }
     requires { ⌜ b ≡ byteAt (now code) (now pc) ⌝ }
-    requires { ⌜ fits attributes (stateAt q (spot (now pc) (now height) (now memory) (now stack))) ≡ true ⌝ }
+    requires { ⌜ bounded attributes (stateAt q (spot (now pc) (now height) (now memory) (now stack))) ≡ true ⌝ }
     ensures { λ done. ⌜ Did done (program (now (code .entry)) attributes) q
         (spot (now (pc .entry)) (now (height .entry)) (now (memory .entry)) (now (stack .entry)))
         (spot (now (pc .exit)) (now (height .exit)) (now (memory .exit)) (now (stack .exit))) ⌝ }

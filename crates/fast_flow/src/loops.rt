@@ -6,7 +6,7 @@ ghost use Prim.Native.Nat.{ℕ, _+_, _-_, _≤_, _<_};
 ghost use lib.ListN.{length, set};
 ghost use Rattle.words.specs.Bytes.{byteAt};
 ghost use Rattle.registers.specs.Program.{program};
-ghost use Rattle.state.specs.Fits.{fits};
+ghost use Rattle.state.specs.Fits.{bounded};
 ghost use Rattle.fast.specs.Fast.{spot, stateAt, Became, Did};
 ghost use Rattle.fast_flow.specs.Flow.{DoesRound};
 use fast::leaf;
@@ -84,7 +84,7 @@ pub fn iter(
     requires { ⌜ now pc + 1 < length (now code) ⌝ }
     requires { ⌜ now height ≤ length (now stack) ⌝ }
     requires { ⌜ q .mp ≤ length (now memory) ⌝ }
-    requires { ⌜ fits attributes (stateAt q (spot (now pc) (now height) (now memory) (now stack))) ≡ true ⌝ }
+    requires { ⌜ bounded attributes (stateAt q (spot (now pc) (now height) (now memory) (now stack))) ≡ true ⌝ }
     ensures { λ b. ⌜ (byteAt (now (code .entry)) (now (pc .entry)) ≡ 0xE0 → Did b (program (now (code .entry)) attributes) q
         (spot (now (pc .entry)) (now (height .entry)) (now (memory .entry)) (now (stack .entry)))
         (spot (now (pc .exit)) (now (height .exit)) (now (memory .exit)) (now (stack .exit)))) ⌝ }
@@ -150,7 +150,7 @@ pub fn next(
     requires { ⌜ now pc + 1 < length (now code) ⌝ }
     requires { ⌜ now height ≤ length (now stack) ⌝ }
     requires { ⌜ q .mp ≤ length (now memory) ⌝ }
-    requires { ⌜ fits attributes (stateAt q (spot (now pc) (now height) (now memory) (now stack))) ≡ true ⌝ }
+    requires { ⌜ bounded attributes (stateAt q (spot (now pc) (now height) (now memory) (now stack))) ≡ true ⌝ }
     ensures { λ b. ⌜ (byteAt (now (code .entry)) (now (pc .entry)) ≡ 0xE1 → Did b (program (now (code .entry)) attributes) q
         (spot (now (pc .entry)) (now (height .entry)) (now (memory .entry)) (now (stack .entry)))
         (spot (now (pc .exit)) (now (height .exit)) (now (memory .exit)) (now (stack .entry)))) ⌝ }

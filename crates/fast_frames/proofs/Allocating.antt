@@ -1,5 +1,5 @@
 -- ALLOC and FREE complete where their tests pass: each by its effect, carried out on the registers.
-use mathlib.Core.Path.{_≡_, _∙_, refl}
+use mathlib.Core.Path.{_≡_, _∙_}
 use mathlib.Core.Bool.{true}
 use mathlib.Core.List.{List}
 use Prim.Native.Nat.{ℕ, _+_, _-_, _≤_, _<_}
@@ -34,7 +34,7 @@ module _ (P : Program) (pc fp mp gp h n : ℕ) (m s : List ℕ) (F : Fitting (P 
       let same : h - 1 + 1 ≡ h = omega arith in (
         inside,
         went P S Alloc next 1 (PushOne mp) NoWrite (sized (S .registers) next top) d one
-            (rw (top-found s h one, ← is, le-leb top (length m) room)) (omega (arith, F .height)) inside ∙ rw same,
+            (rw (top-found s h one, ← is, le-leb top (length m) room)) (omega (arith, F .height)) (F .global) inside ∙ rw same,
       )
 
   pub free-done : (next size : ℕ) → Decodes (P .code) pc Free next → 1 ≤ h → size ≡ read s (h - 1) → fp + size ≤ mp
@@ -44,5 +44,5 @@ module _ (P : Program) (pc fp mp gp h n : ℕ) (m s : List ℕ) (F : Fitting (P 
       let same : h - 1 + 0 ≡ h - 1 = omega arith in (
         inside,
         went P S Free next 1 NoPush NoWrite (sized (S .registers) next (mp - size)) d one
-            (rw (top-found s h one, ← is, le-leb (fp + size) mp room)) (omega (arith, F .height)) inside ∙ rw same,
+            (rw (top-found s h one, ← is, le-leb (fp + size) mp room)) (omega (arith, F .height)) (F .global) inside ∙ rw same,
       )

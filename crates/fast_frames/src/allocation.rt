@@ -5,8 +5,8 @@ ghost use Prim.Native.Nat.{_+_, _≤_, _<_};
 ghost use lib.ListN.{length};
 ghost use Rattle.opcode.specs.declared.instruction.Instruction.the-variants.{Alloc, Free};
 ghost use Rattle.registers.specs.Program.{program};
-ghost use Rattle.state.specs.Fits.{fits};
-ghost use Rattle.fast.specs.Fast.{Completed};
+ghost use Rattle.state.specs.Fits.{bounded};
+ghost use Rattle.fast.specs.Fast.{Completes};
 ghost use Rattle.fast_frames.specs.Frames.{framed};
 ghost use Rattle.fast.specs.Fast.{Decodes};
 use registers::Attributes;
@@ -28,8 +28,8 @@ pub fn alloc(
     requires { ⌜ length (now code) ≤ 4096 ⌝ }
     requires { ⌜ next < length (now code) ⌝ }
     requires { ⌜ Decodes (now code) (now pc) Alloc next ⌝ }
-    requires { ⌜ fits attributes (framed (now pc) fp (now mp) gp height calls (now memory) (now stack)) ≡ true ⌝ }
-    ensures { λ done. ⌜ Completed done (program (now (code .entry)) attributes)
+    requires { ⌜ bounded attributes (framed (now pc) fp (now mp) gp height calls (now memory) (now stack)) ≡ true ⌝ }
+    ensures { λ done. ⌜ Completes done (program (now (code .entry)) attributes)
         (framed (now (pc .entry)) fp (now (mp .entry)) gp
         height calls (now (memory .entry)) (now (stack .entry)))
         (framed (now (pc .exit)) fp (now (mp .exit)) gp
@@ -66,8 +66,8 @@ pub fn free(
     requires { ⌜ length (now code) ≤ 4096 ⌝ }
     requires { ⌜ next < length (now code) ⌝ }
     requires { ⌜ Decodes (now code) (now pc) Free next ⌝ }
-    requires { ⌜ fits attributes (framed (now pc) fp (now mp) gp (now height) calls (now memory) (now stack)) ≡ true ⌝ }
-    ensures { λ done. ⌜ Completed done (program (now (code .entry)) attributes)
+    requires { ⌜ bounded attributes (framed (now pc) fp (now mp) gp (now height) calls (now memory) (now stack)) ≡ true ⌝ }
+    ensures { λ done. ⌜ Completes done (program (now (code .entry)) attributes)
         (framed (now (pc .entry)) fp (now (mp .entry)) gp
         (now (height .entry)) calls (now (memory .entry)) (now (stack .entry)))
         (framed (now (pc .exit)) fp (now (mp .exit)) gp

@@ -8,8 +8,8 @@ ghost use lib.Seq.{sets};
 ghost use Rattle.entries.specs.Entries.{entryCount};
 ghost use Rattle.opcode.specs.declared.instruction.Instruction.the-variants.{Call, Enter, Rtn};
 ghost use Rattle.registers.specs.Program.{program};
-ghost use Rattle.state.specs.Fits.{fits};
-ghost use Rattle.fast.specs.Fast.{Completed};
+ghost use Rattle.state.specs.Fits.{bounded};
+ghost use Rattle.fast.specs.Fast.{Completes};
 ghost use Rattle.fast_frames.specs.Frames.{framed};
 ghost use Rattle.fast.specs.Fast.{Decodes};
 use registers::Attributes;
@@ -34,8 +34,8 @@ pub fn call(
     requires { ⌜ count ≡ entryCount (now code) ⌝ }
     requires { ⌜ next ≤ length (now code) ⌝ }
     requires { ⌜ Decodes (now code) (now pc) (Call p) next ⌝ }
-    requires { ⌜ fits attributes (framed (now pc) (now fp) (now mp) gp height (now calls) (now memory) (now stack)) ≡ true ⌝ }
-    ensures { λ done. ⌜ Completed done (program (now (code .entry)) attributes)
+    requires { ⌜ bounded attributes (framed (now pc) (now fp) (now mp) gp height (now calls) (now memory) (now stack)) ≡ true ⌝ }
+    ensures { λ done. ⌜ Completes done (program (now (code .entry)) attributes)
         (framed (now (pc .entry)) (now (fp .entry)) (now (mp .entry)) gp
         height (now (calls .entry)) (now (memory .entry)) (now (stack .entry)))
         (framed (now (pc .exit)) (now (fp .exit)) (now (mp .exit)) gp
@@ -111,8 +111,8 @@ pub fn enter(
     requires { ⌜ locals < 256 ⌝ }
     requires { ⌜ next < length (now code) ⌝ }
     requires { ⌜ Decodes (now code) (now pc) (Enter parameters locals) next ⌝ }
-    requires { ⌜ fits attributes (framed (now pc) fp (now mp) gp (now height) calls (now memory) (now stack)) ≡ true ⌝ }
-    ensures { λ done. ⌜ Completed done (program (now (code .entry)) attributes)
+    requires { ⌜ bounded attributes (framed (now pc) fp (now mp) gp (now height) calls (now memory) (now stack)) ≡ true ⌝ }
+    ensures { λ done. ⌜ Completes done (program (now (code .entry)) attributes)
         (framed (now (pc .entry)) fp (now (mp .entry)) gp
         (now (height .entry)) calls (now (memory .entry)) (now (stack .entry)))
         (framed (now (pc .exit)) fp (now (mp .exit)) gp
@@ -134,7 +134,7 @@ pub fn enter(
     true
 }
 
-// Serves RTN, where a call is active.
+// Serves RTN, where a local call is active: its return word is a place in the code, and not 0.
 pub fn rtn(
     code: &[u8],
     attributes: Attributes,
@@ -150,8 +150,8 @@ pub fn rtn(
 ) -> bool
     requires { ⌜ length (now code) ≤ 4096 ⌝ }
     requires { ⌜ Decodes (now code) (now pc) Rtn next ⌝ }
-    requires { ⌜ fits attributes (framed (now pc) (now fp) (now mp) gp height (now calls) (now memory) (now stack)) ≡ true ⌝ }
-    ensures { λ done. ⌜ Completed done (program (now (code .entry)) attributes)
+    requires { ⌜ bounded attributes (framed (now pc) (now fp) (now mp) gp height (now calls) (now memory) (now stack)) ≡ true ⌝ }
+    ensures { λ done. ⌜ Completes done (program (now (code .entry)) attributes)
         (framed (now (pc .entry)) (now (fp .entry)) (now (mp .entry)) gp
         height (now (calls .entry)) (now (memory .entry)) (now (stack .entry)))
         (framed (now (pc .exit)) (now (fp .exit)) (now (mp .exit)) gp
@@ -163,6 +163,9 @@ pub fn rtn(
     let frame = *fp;
     let place = memory[frame - 1] as usize;
     if code.len() <= place {
+        return false;
+    }
+    if place == 0 {
         return false;
     }
     *pc = place;

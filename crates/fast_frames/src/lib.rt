@@ -6,8 +6,8 @@ ghost use lib.ListN.{length};
 ghost use Rattle.words.specs.Bytes.{byteAt};
 ghost use Rattle.entries.specs.Entries.{entryCount};
 ghost use Rattle.registers.specs.Program.{program};
-ghost use Rattle.state.specs.Fits.{fits};
-ghost use Rattle.fast.specs.Fast.{Completed};
+ghost use Rattle.state.specs.Fits.{bounded};
+ghost use Rattle.fast.specs.Fast.{Completes};
 ghost use Rattle.fast_frames.specs.Frames.{framed};
 use registers::Attributes;
 
@@ -41,9 +41,9 @@ fn long_step(
     requires { ⌜ count ≡ entryCount (now code) ⌝ }
     requires { ⌜ now pc < length (now code) ⌝ }
     requires { ⌜ b ≡ byteAt (now code) (now pc) ⌝ }
-    requires { ⌜ fits attributes (framed (now pc) (now fp) (now mp) gp (now height) (now calls) (now memory) (now stack))
+    requires { ⌜ bounded attributes (framed (now pc) (now fp) (now mp) gp (now height) (now calls) (now memory) (now stack))
         ≡ true ⌝ }
-    ensures { λ done. ⌜ Completed done (program (now (code .entry)) attributes)
+    ensures { λ done. ⌜ Completes done (program (now (code .entry)) attributes)
         (framed (now (pc .entry)) (now (fp .entry)) (now (mp .entry)) gp
         (now (height .entry)) (now (calls .entry)) (now (memory .entry)) (now (stack .entry)))
         (framed (now (pc .exit)) (now (fp .exit)) (now (mp .exit)) gp
@@ -154,9 +154,9 @@ pub fn frame_step(
 ) -> bool
     requires { ⌜ length (now code) ≤ 4096 ⌝ }
     requires { ⌜ count ≡ entryCount (now code) ⌝ }
-    requires { ⌜ fits attributes (framed (now pc) (now fp) (now mp) gp (now height) (now calls) (now memory) (now stack))
+    requires { ⌜ bounded attributes (framed (now pc) (now fp) (now mp) gp (now height) (now calls) (now memory) (now stack))
         ≡ true ⌝ }
-    ensures { λ done. ⌜ Completed done (program (now (code .entry)) attributes)
+    ensures { λ done. ⌜ Completes done (program (now (code .entry)) attributes)
         (framed (now (pc .entry)) (now (fp .entry)) (now (mp .entry)) gp
         (now (height .entry)) (now (calls .entry)) (now (memory .entry)) (now (stack .entry)))
         (framed (now (pc .exit)) (now (fp .exit)) (now (mp .exit)) gp

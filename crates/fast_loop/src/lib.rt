@@ -3,9 +3,11 @@ ghost use mathlib.Core.Path.{_≡_};
 ghost use mathlib.Core.Bool.{true};
 ghost use Prim.Native.Nat.{_+_, _≤_, _<_};
 ghost use lib.ListN.{length};
+ghost use Rattle.registers.specs.Modules.{modulesIn};
 ghost use Rattle.registers.specs.Program.{program};
 ghost use Rattle.registers.specs.State.{state};
-ghost use Rattle.state.specs.Fits.{fits};
+ghost use Rattle.state.specs.Fits.{bounded};
+ghost use Rattle.step.specs.Ready.{Ready};
 ghost use Rattle.fast.specs.Fast.{spot, stateAt, Did, Ahead};
 ghost use Rattle.fast_frames.specs.Frames.{registersAt};
 use registers::Attributes;
@@ -24,7 +26,7 @@ fn data_step(
 ) -> bool
     requires { ⌜ length (now code) ≤ 4096 ⌝ }
     requires { ⌜ now pc + 1 < length (now code) ⌝ }
-    requires { ⌜ fits attributes (stateAt q (spot (now pc) (now height) (now memory) (now stack))) ≡ true ⌝ }
+    requires { ⌜ bounded attributes (stateAt q (spot (now pc) (now height) (now memory) (now stack))) ≡ true ⌝ }
     ensures { λ done. ⌜ Did done (program (now (code .entry)) attributes) q
         (spot (now (pc .entry)) (now (height .entry)) (now (memory .entry)) (now (stack .entry)))
         (spot (now (pc .exit)) (now (height .exit)) (now (memory .exit)) (now (stack .exit))) ⌝ }
@@ -38,7 +40,10 @@ fn data_step(
 }
 
 // Completes such steps short of the code's last byte; answers how many of the budget are left.
+// `table` and `copy` are not read: they stand for the set of modules that the promise speaks of.
 fn data_steps(
+    table: &[u32],
+    copy: &[u8],
     code: &[u8],
     attributes: Attributes,
     q: Registers,
@@ -50,8 +55,10 @@ fn data_steps(
 ) -> usize
     requires { ⌜ length (now code) ≤ 4096 ⌝ }
     requires { ⌜ now pc < 0x1_0000_0000 ⌝ }
-    requires { ⌜ fits attributes (stateAt q (spot (now pc) (now height) (now memory) (now stack))) ≡ true ⌝ }
-    ensures { λ left. ⌜ (now (pc .exit) < 0x1_0000_0000) × Ahead (program (now (code .entry)) attributes)
+    requires { ⌜ Ready (program (now code) attributes (modulesIn (now table) (now copy)))
+        (stateAt q (spot (now pc) (now height) (now memory) (now stack))) ⌝ }
+    ensures { λ left. ⌜ (now (pc .exit) < 0x1_0000_0000)
+        × Ahead (program (now (code .entry)) attributes (modulesIn (now (table .entry)) (now (copy .entry))))
         (stateAt q (spot (now (pc .entry)) (now (height .entry)) (now (memory .entry)) (now (stack .entry)))) budget left
         (stateAt q (spot (now (pc .exit)) (now (height .exit)) (now (memory .exit)) (now (stack .exit)))) ⌝ }
 {
@@ -110,8 +117,10 @@ fn reached_at(
     }
 }
 
-// Completes steps from a state, at most so many.
+// Completes steps from a state, at most so many. `table` and `copy` are as in data_steps.
 pub fn fast_steps(
+    table: &[u32],
+    copy: &[u8],
     code: &[u8],
     attributes: Attributes,
     q: Registers,
@@ -120,8 +129,9 @@ pub fn fast_steps(
     budget: u32,
 ) -> Reached
     requires { ⌜ length (now code) ≤ 4096 ⌝ }
-    requires { ⌜ fits attributes (state q (now memory) (now stack)) ≡ true ⌝ }
-    ensures { λ r. ⌜ Ahead (program (now (code .entry)) attributes) (state q (now (memory .entry)) (now (stack .entry))) budget
+    requires { ⌜ Ready (program (now code) attributes (modulesIn (now table) (now copy))) (state q (now memory) (now stack)) ⌝ }
+    ensures { λ r. ⌜ Ahead (program (now (code .entry)) attributes (modulesIn (now (table .entry)) (now (copy .entry))))
+        (state q (now (memory .entry)) (now (stack .entry))) budget
         (r .left) (state (r .registers) (now (memory .exit)) (now (stack .exit))) ⌝ }
 {
     let mut pc = q.pc as usize;
@@ -136,6 +146,8 @@ pub fn fast_steps(
         let here = reached_at(left, pc, fp, mp, gp, height, calls);
         let registers = here.registers;
         left = data_steps(
+            table,
+            copy,
             code,
             attributes,
             registers,

@@ -1,18 +1,17 @@
 // The numbers 12 to 14, from the marks that the workspace holds.
 ghost use mathlib.Core.Path.{_≡_};
-ghost use mathlib.Core.List.{[], _∷_};
-ghost use mathlib.Core.Bool.{not, _&&_, _||_};
-ghost use lib.Dec.{eqb};
-ghost use Prim.Native.Nat.{_≤_, _<_, _-_};
+ghost use mathlib.Core.List.{List, [], _∷_};
+ghost use Prim.Native.Nat.{ℕ, _≤_, _<_, _-_};
 ghost use lib.ListN.{length};
 ghost use Rattle.opcode.specs.Sheet.{Sheet};
-ghost use Rattle.entries.specs.Entries.{entryAt, entryCount};
+ghost use Rattle.entries.specs.Entries.{noCallee};
+ghost use Rattle.entries.specs.Libraries.{libraryIn, librariesIn};
 ghost use Rattle.successors.specs.Successors.{tableSize, tableFrom, switchTargets};
 ghost use Rattle.switch_table.specs.Switch.{exitLabel};
 ghost use Rattle.faults.specs.Faults.{allStart, bare, strays, misplacedBy, misplaced, uncallable, codeNumber};
 ghost use Rattle.shape.specs.Linkage.{entering};
 ghost use Rattle.layout.specs.Workspace.{marksIn};
-ghost use Rattle.faults.specs.OnePass.{faultOf, faultAt, lower};
+ghost use Rattle.faults.specs.OnePass.{faultOf, faultAt};
 use layout::marks;
 use opcode::Decoded;
 use shape::Shape;
@@ -109,6 +108,7 @@ fn is_stray(code: &[u8], w: &[u16], p: u32, at: usize, next: usize, shape: Shape
         Shape::Switch(table, n) => !switch_starts(code, w, p, at, table, n),
         Shape::Leave => false,
         Shape::Call(_) => !marks::starts_in(w, code.len(), p, next),
+        Shape::CallExternal(_, _) => !marks::starts_in(w, code.len(), p, next),
         Shape::Enter(_) => !marks::starts_in(w, code.len(), p, next),
         Shape::Rtn => false,
     }
@@ -151,14 +151,31 @@ fn is_misplaced(code: &[u8], p: u32, at: usize, next: usize, shape: Shape) -> bo
         Shape::Switch(_, _) => is_bare(code, p, at),
         Shape::Leave => is_bare(code, p, at),
         Shape::Call(_) => is_bare(code, p, at),
+        Shape::CallExternal(_, _) => is_bare(code, p, at),
         Shape::Enter(parameters) => enter_misplaced(code, p, at, parameters),
         Shape::Rtn => is_bare(code, p, at),
     }
 }
 
+// 14 for a library's procedure: its own module's entries.
+fn lacks_callee(libraries: &[u32], records: &[u8], l: u32, c: u32) -> bool
+    ensures { λ b. ⌜ ((lists : List ℕ) → b ≡ noCallee (libraryIn (librariesIn (now (libraries .entry)) (now (records .entry)) lists) l .code) c) ⌝ }
+{
+    entries::is_no_callee(entries::library_code(libraries, records, l), c)
+}
+
 // 14: callee 0 or not in the entries.
-fn is_uncallable(code: &[u8], p: u32, at: usize, next: usize, shape: Shape) -> bool
-    ensures { λ b. ⌜ b ≡ uncallable (now (code .entry)) p at next shape ⌝ }
+fn is_uncallable(
+    code: &[u8],
+    libraries: &[u32],
+    records: &[u8],
+    lists: &[u8],
+    p: u32,
+    at: usize,
+    next: usize,
+    shape: Shape,
+) -> bool
+    ensures { λ b. ⌜ b ≡ uncallable (now (code .entry)) (librariesIn (now (libraries .entry)) (now (records .entry)) (now (lists .entry))) p at next shape ⌝ }
 {
     match shape {
         Shape::Straight(_, _) => false,
@@ -171,16 +188,27 @@ fn is_uncallable(code: &[u8], p: u32, at: usize, next: usize, shape: Shape) -> b
         Shape::Switch(_, _) => false,
         Shape::Leave => false,
         Shape::Call(c) => entries::is_no_callee(code, c),
+        Shape::CallExternal(l, c) => lacks_callee(libraries, records, l, c),
         Shape::Enter(_) => false,
         Shape::Rtn => false,
     }
 }
 
-fn fault_of(code: &[u8], w: &[u16], p: u32, at: usize, next: usize, shape: Shape) -> u32
+fn fault_of(
+    code: &[u8],
+    libraries: &[u32],
+    records: &[u8],
+    lists: &[u8],
+    w: &[u16],
+    p: u32,
+    at: usize,
+    next: usize,
+    shape: Shape,
+) -> u32
     requires { ⌜ length (now code) ≤ 65535 ⌝ }
     requires { ⌜ p < 65535 ⌝ }
     requires { ⌜ at < 65536 ⌝ }
-    ensures { λ n. ⌜ n ≡ faultOf (now (code .entry)) (marksIn (now (w .entry)) (length (now (code .entry)))) p at next shape ⌝ }
+    ensures { λ n. ⌜ n ≡ faultOf (now (code .entry)) (librariesIn (now (libraries .entry)) (now (records .entry)) (now (lists .entry))) (marksIn (now (w .entry)) (length (now (code .entry)))) p at next shape ⌝ }
 {
     if is_stray(code, w, p, at, next, shape) {
         return 12;
@@ -188,51 +216,67 @@ fn fault_of(code: &[u8], w: &[u16], p: u32, at: usize, next: usize, shape: Shape
     if is_misplaced(code, p, at, next, shape) {
         return 13;
     }
-    if is_uncallable(code, p, at, next, shape) {
+    if is_uncallable(code, libraries, records, lists, p, at, next, shape) {
         return 14;
     }
     0
 }
 
 // The lowest number that the instruction of procedure `p` at an offset gives.
-fn fault_at(formats: &[u16], code: &[u8], w: &[u16], p: u32, at: usize) -> u32
+fn fault_at(
+    formats: &[u16],
+    code: &[u8],
+    libraries: &[u32],
+    records: &[u8],
+    lists: &[u8],
+    w: &[u16],
+    p: u32,
+    at: usize,
+) -> u32
     requires { ⌜ Sheet (now formats) ⌝ }
     requires { ⌜ length (now code) ≤ 65535 ⌝ }
     requires { ⌜ p < 65535 ⌝ }
     requires { ⌜ at < 65536 ⌝ }
-    ensures { λ n. ⌜ n ≡ faultAt (now (code .entry)) (marksIn (now (w .entry)) (length (now (code .entry)))) p at ⌝ }
+    ensures { λ n. ⌜ n ≡ faultAt (now (code .entry)) (librariesIn (now (libraries .entry)) (now (records .entry)) (now (lists .entry))) (marksIn (now (w .entry)) (length (now (code .entry)))) p at ⌝ }
 {
     let limit = entries::region_end(code, p);
     match opcode::decode(formats, code, limit, at) {
         Decoded::Unserved => 0,
         Decoded::Past => 0,
-        Decoded::At(i, next) => fault_of(code, w, p, at, next, shape::shape_of(i)),
+        Decoded::At(i, next) => fault_of(
+            code,
+            libraries,
+            records,
+            lists,
+            w,
+            p,
+            at,
+            next,
+            shape::shape_of(i),
+        ),
     }
-}
-
-fn lower_number(a: u32, b: u32) -> u32
-    ensures { λ n. ⌜ n ≡ lower a b ⌝ }
-{
-    if a == 0 {
-        return b;
-    }
-    if b == 0 {
-        return a;
-    }
-    if b < a { b } else { a }
 }
 
 // 0, or the lowest of 12 to 14 over every instruction cut.
-pub fn code_number(formats: &[u16], code: &[u8], w: &[u16]) -> u32
+pub fn code_number(
+    formats: &[u16],
+    code: &[u8],
+    libraries: &[u32],
+    records: &[u8],
+    lists: &[u8],
+    w: &[u16],
+) -> u32
     requires { ⌜ Sheet (now formats) ⌝ }
     requires { ⌜ length (now code) ≤ 65535 ⌝ }
-    ensures { λ n. ⌜ n ≡ codeNumber (now (code .entry)) (marksIn (now (w .entry)) (length (now (code .entry)))) ⌝ }
+    ensures { λ n. ⌜ n ≡ codeNumber (now (code .entry)) (librariesIn (now (libraries .entry)) (now (records .entry)) (now (lists .entry))) (marksIn (now (w .entry)) (length (now (code .entry)))) ⌝ }
 {
     let mut lowest = 0;
     for at in 0..code.len() {
         let mark = marks::mark_at(w, code.len(), at);
         if mark != 0 {
-            lowest = lower_number(lowest, fault_at(formats, code, w, (mark as u32) - 1, at));
+            let p = (mark as u32) - 1;
+            let fault = fault_at(formats, code, libraries, records, lists, w, p, at);
+            lowest = words::lower_number(lowest, fault);
         }
     }
     lowest

@@ -1,9 +1,10 @@
 -- Answers as numbers, for C.
 use mathlib.Core.Bool.{cond}
-use mathlib.Core.List.{List, [], _∷_, _++_}
+use mathlib.Core.List.{List, [], _∷_}
 use Prim.Native.Nat.{ℕ, _+_, _*_, _-_}
 use lib.Dec.{eqb, ltb}
-use lib.ListN.{length, drop, getD}
+use lib.ListN.{length, getD}
+use Rattle.words.specs.Lent.{over}
 use Rattle.record.specs.declared.Line.{Line}
 use Rattle.record.specs.Number.{lineNumber, lineValues}
 use Rattle.opcode.specs.Decode.{decodedNumber}
@@ -14,7 +15,7 @@ use Rattle.mnemonic.specs.Mnemonic.{partsOf}
 
 -- Values in the first elements of what is lent; those behind them stay.
 abbrev pub laid : List ℕ → List ℕ → List ℕ
-laid values out = values ++ drop (length values) out
+laid values out = over values out
 
 -- The number that refuses the record in the upper 32 bits; or 0 there, and the line, the last of the values, in the lower ones.
 abbrev pub lineCode : Line → ℕ

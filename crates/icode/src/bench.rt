@@ -1,49 +1,24 @@
-// Load and run for the bench: code that was not checked may be loaded and run.
+// Load and run of a record for the bench: code that was not checked may be loaded and run.
+ghost use mathlib.Core.Bool.{true};
+ghost use mathlib.Core.List.{[], _∷_};
 ghost use mathlib.Core.Path.{_≡_};
-ghost use lib.ListN.{length};
-ghost use Rattle.registers.specs.State.{stateWords, registersIn};
-ghost use Rattle.machine.specs.Run.{outcomeWords};
-ghost use Rattle.icode.specs.Interface.{laid};
-ghost use Rattle.icode.specs.Bench.{loadedAs, benchLoad, ranAs, benchRun};
+ghost use Rattle.words.specs.Refusal.{_when_};
+ghost use Rattle.module_set.specs.Members.{single};
+ghost use Rattle.relocation.specs.Relocation.{afterSet};
+ghost use Rattle.icode.specs.Bench.{recordLoad, ranAs, recordRun};
+use crate::state_words;
 use load::Loaded;
-use machine::run::Answer;
-use machine::run::Ended;
-use registers::Registers;
+use run::Answer;
 
-fn write_state(state: &mut [u32], q: Registers)
-    requires { ⌜ length (now state) ≡ 6 ⌝ }
-    ensures { λ _. ⌜ now (state .exit) ≡ laid (stateWords q) (now (state .entry)) ⌝ }
+// The record's number, or another where it has none. Where all lengths are taken, load and run answer it.
+fn number_or(bytes: &[u8], other: u32) -> u32
+    ensures { λ n. ⌜ n ≡ afterSet (single (now (bytes .entry)) []) (other when true ∷ []) ⌝ }
 {
-    state[0] = q.pc;
-    state[1] = q.fp;
-    state[2] = q.mp;
-    state[3] = q.gp;
-    state[4] = q.height;
-    state[5] = q.calls;
-}
-
-fn read_state(state: &[u32]) -> Registers
-    ensures { λ q. ⌜ q ≡ registersIn (now (state .entry)) ⌝ }
-{
-    Registers {
-        pc: registers::access::word_at(state, 0),
-        fp: registers::access::word_at(state, 1),
-        mp: registers::access::word_at(state, 2),
-        gp: registers::access::word_at(state, 3),
-        height: registers::access::word_at(state, 4),
-        calls: registers::access::word_at(state, 5),
+    let number = relocation::number::single_number(bytes);
+    if number != 0 {
+        return number;
     }
-}
-
-fn write_outcome(outcome: &mut [u32], e: Ended)
-    requires { ⌜ length (now outcome) ≡ 3 ⌝ }
-    ensures { λ _. ⌜ now (outcome .exit) ≡ laid (outcomeWords e) (now (outcome .entry)) ⌝ }
-{
-    let ending = e.ending;
-    let registers = e.registers;
-    outcome[0] = machine::run::end_number(ending);
-    outcome[1] = registers.pc;
-    outcome[2] = e.steps;
+    other
 }
 
 #[no_mangle]
@@ -54,20 +29,19 @@ pub extern "C" fn icode_bench_load(
     stack: &[u32],
     state: &mut [u32],
 ) -> u32
-    ensures { λ n. ⌜ loadedAs n (now (memory .exit)) (now (state .exit)) ≡ benchLoad (now (bytes .entry)) (now (parameters .entry)) (now (memory .entry)) (now (stack .entry)) (now (state .entry)) ⌝ }
+    ensures { λ n. ⌜
+        (let L =
+        recordLoad (now (bytes .entry)) (now (parameters .entry)) (now (memory .entry)) (now (stack .entry)) (now (state .entry)) in
+        (n ≡ L .answer) × (now (memory .exit) ≡ L .memory) × (now (state .exit) ≡ L .state)) ⌝ }
 {
-    let number = record::record_number(bytes);
-    if number != 0 {
-        return number;
-    }
     if state.len() != 6 {
-        return 8;
+        return number_or(bytes, 8);
     }
     let loaded = load::load(bytes, parameters, memory, stack);
     match loaded {
         Loaded::Refused(n) => n,
         Loaded::Ready(q) => {
-            write_state(state, q);
+            state_words::write_state(state, q);
             0
         }
     }
@@ -84,27 +58,23 @@ fn bench_run(
     outcome: &mut [u32],
 ) -> u32
     ensures { λ n. ⌜ ranAs n (now (memory .exit)) (now (stack .exit)) (now (state .exit)) (now (outcome .exit))
-        ≡ benchRun (now (bytes .entry)) budget (now (memory .entry)) (now (stack .entry))
+        ≡ recordRun (now (bytes .entry)) budget (now (memory .entry)) (now (stack .entry))
         (now (state .entry)) (now (outcome .entry)) ⌝ }
 {
-    let number = record::record_number(bytes);
-    if number != 0 {
-        return number;
-    }
     if state.len() != 6 {
-        return 24;
+        return number_or(bytes, 24);
     }
     if outcome.len() != 3 {
-        return 24;
+        return number_or(bytes, 24);
     }
-    let q = read_state(state);
-    let answer = machine::run::run_by(at_once, bytes, budget, q, memory, stack);
+    let q = state_words::read_state(state);
+    let answer = machine::run_by(at_once, bytes, budget, q, memory, stack);
     match answer {
         Answer::Refused(n) => n,
         Answer::Ended(e) => {
             let registers = e.registers;
-            write_outcome(outcome, e);
-            write_state(state, registers);
+            state_words::write_outcome(outcome, e);
+            state_words::write_state(state, registers);
             0
         }
     }
@@ -120,7 +90,7 @@ pub extern "C" fn icode_bench_run(
     outcome: &mut [u32],
 ) -> u32
     ensures { λ n. ⌜ ranAs n (now (memory .exit)) (now (stack .exit)) (now (state .exit)) (now (outcome .exit))
-        ≡ benchRun (now (bytes .entry)) budget (now (memory .entry)) (now (stack .entry))
+        ≡ recordRun (now (bytes .entry)) budget (now (memory .entry)) (now (stack .entry))
         (now (state .entry)) (now (outcome .entry)) ⌝ }
 {
     bench_run(0xFFFF_FFFF, bytes, budget, memory, stack, state, outcome)
@@ -137,7 +107,7 @@ pub extern "C" fn icode_bench_run_by(
     outcome: &mut [u32],
 ) -> u32
     ensures { λ n. ⌜ ranAs n (now (memory .exit)) (now (stack .exit)) (now (state .exit)) (now (outcome .exit))
-        ≡ benchRun (now (bytes .entry)) budget (now (memory .entry)) (now (stack .entry))
+        ≡ recordRun (now (bytes .entry)) budget (now (memory .entry)) (now (stack .entry))
         (now (state .entry)) (now (outcome .entry)) ⌝ }
 {
     bench_run(at_once, bytes, budget, memory, stack, state, outcome)

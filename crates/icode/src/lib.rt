@@ -13,6 +13,8 @@ ghost use Rattle.icode.specs.Interface.{lineCode, spanReply, decodeReply
 
 pub mod bench;
 pub mod mending;
+pub mod set;
+pub mod state_words;
 
 use opcode::Decoded;
 use record::Line;

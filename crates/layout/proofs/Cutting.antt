@@ -15,8 +15,9 @@ use Rattle.opcode.specs.declared.Decoded.the-variants.{Unserved, Past, At}
 use Rattle.opcode.specs.declared.instruction.Instruction.{Instruction}
 use Rattle.layout.specs.Cut.{Marks, updated, Cut, bad, cut, cutAt, cutFrom, thenCut, cutProcedures, cutOf, startsIn}
 use Rattle.opcode.proofs.Found.{ends}
-use Rattle.layout.proofs.Updates.{Change, changed, spared, change, updated-here, at-or-after}
-use Rattle.layout.proofs.Ordered.{firstOf, Rises, rises-first, rises-rest, Ordered, ordered}
+use Rattle.layout.proofs.Updates.{Change, changed, spared, change, updated-here}
+use Rattle.words.proofs.Left.{at-or-after}
+use Rattle.entries.proofs.Ordered.{firstOf, Rises, rises-first, rises-rest, Ordered, ordered}
 
 -- An instruction of procedure p stands at an offset of its region.
 pub record Placed (code : List ℕ) (p at : ℕ) : Type 0 where

@@ -18,7 +18,7 @@ use Rattle.layout.specs.Workspace.{marksIn, markAt, markFrom, markRegion
 use Rattle.workspace.specs.Checking.{Checking, checking}
 use Rattle.words.proofs.Tests.{by-test}
 use Rattle.layout.proofs.Updates.{Change, changed, spared, change, Spares, spares-self, spares-then, spares-set}
-use Rattle.layout.proofs.Ordered.{ordered}
+use Rattle.entries.proofs.Ordered.{ordered}
 
 -- A place is no mark of any region.
 abbrev Unmarked : List ℕ → ℕ → Type 0

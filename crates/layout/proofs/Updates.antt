@@ -1,11 +1,8 @@
--- A function changed at one place is itself at every other, and so is a list that spares some places. What holds at a place and past it
--- holds from it on.
+-- A function changed at one place is itself at every other, and so is a list that spares some places.
 use mathlib.Core.Bool.{Bool, true, false}
 use mathlib.Core.List.{List}
-use mathlib.Core.Logic.{⊎-elim}
-use mathlib.Core.Path.{_≡_, refl, _∙_, subst}
-use Prim.Native.Nat.{ℕ, _≤_, _<_}
-use native.Mathlib.Nat.{eq-or-lt-of-le}
+use mathlib.Core.Path.{_≡_, refl, _∙_}
+use Prim.Native.Nat.{ℕ}
 use lib.Dec.{eqb}
 use lib.ListN.{length, getD, set, length-set}
 use lib.Seq.{getD-set-other}
@@ -40,6 +37,3 @@ module _ {P : ℕ → Type 0} where
 
   pub spares-set : (w : List ℕ) (i x : ℕ) → ((j : ℕ) → P j → j ≡ i → ⊥) → Spares P w (set w i x)
   spares-set w i x other = record { long = length-set w i x; same = λ j p. getD-set-other w i j x 0 (other j p) }
-
-pub at-or-after : (P : ℕ → Type 0) (p q : ℕ) → p ≤ q → P p → (p < q → P q) → P q
-at-or-after P p q l now later = ⊎-elim (λ (e : p ≡ q). subst P e now) later (eq-or-lt-of-le l)

@@ -1,2 +1,5 @@
--- Laws about reading a record and the memory that load leaves.
+-- Laws about the modules of a set, the words of data frames, the rows of the machine's table, and what load answers.
+pub mod Modules
+pub mod Framing
+pub mod Tabling
 pub mod Loading

@@ -1,2 +1,3 @@
--- Load.
+-- The modules of a set, and load.
+pub mod Modules
 pub mod Load

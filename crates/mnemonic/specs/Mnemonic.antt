@@ -3,7 +3,7 @@ use Prim.Native.Nat.{ℕ, _+_}
 use Rattle.opcode.specs.declared.instruction.Mode.{Mode}
 use Rattle.opcode.specs.declared.instruction.Mode.the-variants.{Normal, Double}
 use Rattle.opcode.specs.declared.instruction.Base.{Base}
-use Rattle.opcode.specs.declared.instruction.Base.the-variants.{Local, Global, Constant, Popped}
+use Rattle.opcode.specs.declared.instruction.Base.the-variants.{Local, Global, Constant, Popped, External}
 use Rattle.opcode.specs.declared.instruction.Arithmetic.{Arithmetic}
 use Rattle.opcode.specs.declared.instruction.Arithmetic.the-variants.{Add, Subtract, Multiply, Divide, Modulus}
 use Rattle.opcode.specs.declared.instruction.Order.{Order}
@@ -18,15 +18,10 @@ use Rattle.opcode.specs.declared.instruction.Instruction.{Instruction}
 use Rattle.opcode.specs.declared.instruction.Instruction.the-variants.{LoadConstant, Load, LoadAddress, Store, Pop, Swap, Nop}
 use Rattle.opcode.specs.declared.instruction.Instruction.the-variants.{Operate, Alloc, Free, Jump, JumpC, JumpT, JumpF, Iter}
 use Rattle.opcode.specs.declared.instruction.Instruction.the-variants.{Next, Switch, SwitchX, Leave, Call, Enter, Rtn}
+use Rattle.opcode.specs.declared.instruction.Instruction.the-variants.{CallExternal}
 use Rattle.mnemonic.specs.declared.Parts.{Parts}
 
 -- The places of mnemonics that stand in a row.
-abbrev pub basePlace : Base → ℕ
-basePlace Local = 0  -- _L
-basePlace Global = 1  -- _G
-basePlace Constant = 2  -- _T
-basePlace Popped = 3  -- _F
-
 abbrev pub arithmeticPlace : Arithmetic → ℕ
 arithmeticPlace Add = 0  -- ADD
 arithmeticPlace Subtract = 1  -- SUB
@@ -68,11 +63,19 @@ modePlace Double = 1
 abbrev pub parts : ℕ → ℕ → ℕ → ℕ → Parts
 parts number mode operand second = record { number = number; mode = mode; operand = operand; second = second }
 
+-- What goes by a base: the mnemonics of four stand in a row; that of a library has a number of its own, and two operands.
+abbrev pub based : ℕ → ℕ → Base → ℕ → ℕ → Parts
+based first external Local mode n = parts first mode n 0  -- _L
+based first external Global mode n = parts (first + 1) mode n 0  -- _G
+based first external Constant mode n = parts (first + 2) mode n 0  -- _T
+based first external Popped mode n = parts (first + 3) mode n 0  -- _F
+based first external (External l) mode n = parts external mode l n  -- _E
+
 unfoldable pub partsOf : Instruction → Parts
 partsOf (LoadConstant n) = parts 0 0 n 0  -- LOAD_C
-partsOf (Load base mode n) = parts (1 + basePlace base) (modePlace mode) n 0  -- 1 .. 4 LOAD_L, LOAD_G, LOAD_T, LOAD_F
-partsOf (LoadAddress base n) = parts (5 + basePlace base) 0 n 0  -- 5 .. 8 LOAD_A_L, LOAD_A_G, LOAD_A_T, LOAD_A_F
-partsOf (Store base mode n) = parts (9 + basePlace base) (modePlace mode) n 0  -- 9 .. 12 STOR_L, STOR_G, (11: there is no STOR_T), STOR_F
+partsOf (Load base mode n) = based 1 58 base (modePlace mode) n  -- 1 .. 4 LOAD_L, LOAD_G, LOAD_T, LOAD_F; 58 LOAD_E
+partsOf (LoadAddress base n) = based 5 59 base 0 n  -- 5 .. 8 LOAD_A_L, LOAD_A_G, LOAD_A_T, LOAD_A_F; 59 LOAD_A_E
+partsOf (Store base mode n) = based 9 60 base (modePlace mode) n  -- 9 .. 12 STOR_L, STOR_G, (11: no STOR_T), STOR_F; 60 STOR_E
 partsOf (Jump n) = parts 13 0 n 0  -- JUMP
 partsOf (JumpC n) = parts 14 0 n 0  -- JUMP_C
 partsOf (JumpT n) = parts 15 0 n 0  -- JUMP_T
@@ -91,3 +94,4 @@ partsOf (SwitchX n) = parts 54 0 n 0  -- SWITCH_X
 partsOf Leave = parts 55 0 0 0  -- LEAVE
 partsOf (Enter n k) = parts 56 0 n k  -- ENTER
 partsOf Rtn = parts 57 0 0 0  -- RTN
+partsOf (CallExternal l n) = parts 61 0 l n  -- CALL_E

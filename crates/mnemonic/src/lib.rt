@@ -1,8 +1,8 @@
 // What a listing shows of an instruction, as numbers.
 ghost use mathlib.Core.Path.{_≡_};
 ghost use Prim.Native.Nat.{_+_, _<_};
-ghost use Rattle.mnemonic.specs.Mnemonic.{basePlace, arithmeticPlace, orderPlace, setPlace, operationNumber, modePlace};
-ghost use Rattle.mnemonic.specs.Mnemonic.{parts, partsOf};
+ghost use Rattle.mnemonic.specs.Mnemonic.{arithmeticPlace, orderPlace, setPlace, operationNumber, modePlace};
+ghost use Rattle.mnemonic.specs.Mnemonic.{parts, based, partsOf};
 use opcode::instruction::Arithmetic;
 use opcode::instruction::Base;
 use opcode::instruction::Instruction;
@@ -17,18 +17,6 @@ pub struct Parts {
     pub mode: u32,
     pub operand: u32,
     pub second: u32,
-}
-
-fn base_place(base: Base) -> u32
-    ensures { λ n. ⌜ n ≡ basePlace base ⌝ }
-    ensures { λ n. ⌜ n < 4 ⌝ }
-{
-    match base {
-        Base::Local => 0,
-        Base::Global => 1,
-        Base::Constant => 2,
-        Base::Popped => 3,
-    }
 }
 
 fn arithmetic_place(op: Arithmetic) -> u32
@@ -95,28 +83,35 @@ fn mode_place(mode: Mode) -> u32
     }
 }
 
+fn listed(number: u32, mode: u32, operand: u32, second: u32) -> Parts
+    ensures { λ p. ⌜ p ≡ parts number mode operand second ⌝ }
+{
+    Parts {
+        number,
+        mode,
+        operand,
+        second,
+    }
+}
+
 // An instruction that has no modes and at most one operand.
 fn plain(number: u32, operand: u32) -> Parts
     ensures { λ p. ⌜ p ≡ parts number 0 operand 0 ⌝ }
 {
-    Parts {
-        number,
-        mode: 0,
-        operand,
-        second: 0,
-    }
+    listed(number, 0, operand, 0)
 }
 
-// A load or a store.
-fn load_or_store(first: u32, base: Base, mode: Mode, operand: u32) -> Parts
+// A load or a store, or a load of an address.
+fn based(first: u32, external: u32, base: Base, mode: u32, operand: u32) -> Parts
     requires { ⌜ first < 10 ⌝ }
-    ensures { λ p. ⌜ p ≡ parts (first + basePlace base) (modePlace mode) operand 0 ⌝ }
+    ensures { λ p. ⌜ p ≡ based first external base mode operand ⌝ }
 {
-    Parts {
-        number: first + base_place(base),
-        mode: mode_place(mode),
-        operand,
-        second: 0,
+    match base {
+        Base::Local => listed(first, mode, operand, 0),
+        Base::Global => listed(first + 1, mode, operand, 0),
+        Base::Constant => listed(first + 2, mode, operand, 0),
+        Base::Popped => listed(first + 3, mode, operand, 0),
+        Base::External(library) => listed(external, mode, library, operand),
     }
 }
 
@@ -125,9 +120,9 @@ pub fn parts_of(i: Instruction) -> Parts
 {
     match i {
         Instruction::LoadConstant(n) => plain(0, n),
-        Instruction::Load(base, mode, n) => load_or_store(1, base, mode, n),
-        Instruction::LoadAddress(base, n) => plain(5 + base_place(base), n),
-        Instruction::Store(base, mode, n) => load_or_store(9, base, mode, n),
+        Instruction::Load(base, mode, n) => based(1, 58, base, mode_place(mode), n),
+        Instruction::LoadAddress(base, n) => based(5, 59, base, 0, n),
+        Instruction::Store(base, mode, n) => based(9, 60, base, mode_place(mode), n),
         Instruction::Jump(n) => plain(13, n),
         Instruction::JumpC(n) => plain(14, n),
         Instruction::JumpT(n) => plain(15, n),
@@ -144,12 +139,8 @@ pub fn parts_of(i: Instruction) -> Parts
         Instruction::Switch(n) => plain(53, n),
         Instruction::SwitchX(n) => plain(54, n),
         Instruction::Leave => plain(55, 0),
-        Instruction::Enter(n, k) => Parts {
-            number: 56,
-            mode: 0,
-            operand: n,
-            second: k,
-        },
+        Instruction::Enter(n, k) => listed(56, 0, n, k),
         Instruction::Rtn => plain(57, 0),
+        Instruction::CallExternal(library, n) => listed(61, 0, library, n),
     }
 }

@@ -62,7 +62,7 @@ marked :
     (r : Row) (code : List ℕ) (at : ℕ) → Short r → (formatOf r / 16 % 2 ≡ 0 → ⊥) → lengthOf r Double code at ≡ formatOf r % 16
 marked unserved code at s k = absurd (k refl)
 marked (row operands normal make) code at s k = absurd (k (omega arith))
-marked (row operands both make) code at s k = rw (s .1) (omega arith)
+marked (row operands both make) code at s k = let z : eachOf operands ≡ 0 = omega arith in rw z (omega arith)
 
 parts :
     (fixed mark each n : ℕ) →
@@ -78,14 +78,14 @@ whole :
     Short r → lengthOf r Normal code at ≡ formatOf r % 16 + formatOf r / 32 * halfwordAt code (at + 1)
 whole unserved code at s = omega arith
 whole (row operands both make) code at s =
-    parts (fixedOf operands) 16 (eachOf operands) (halfwordAt code (at + 1)) (s .0) (omega arith) refl
+    parts (fixedOf operands) 16 (eachOf operands) (halfwordAt code (at + 1)) (omega arith) (omega arith) refl
 whole (row operands normal make) code at s =
     parts (fixedOf operands) 0 (eachOf operands) (halfwordAt code (at + 1)) s (omega arith) refl
 
 doubled : (r : Row) (code : List ℕ) (at : ℕ) → Short r → lengthOf r Double code at < 16
 doubled unserved code at s = omega arith
 doubled (row operands normal make) code at s = omega arith
-doubled (row operands both make) code at s = rw (s .1) (omega arith)
+doubled (row operands both make) code at s = let z : eachOf operands ≡ 0 = omega arith in rw z (omega arith)
 
 summed : (fixed each n : ℕ) → fixed < 16 → each ≤ 10 → fixed + each * n ≤ 15 + 10 * n
 summed fixed each n f e = let p : each * n ≤ 10 * n = mul-le-mul {n₂ = 10} {m₂ = n} e (omega arith) in omega arith
@@ -94,7 +94,7 @@ bounded :
     (r : Row) (m : Mode) (code : List ℕ) (at : ℕ) →
     Short r → formatOf r < 32 * 11 → lengthOf r m code at ≤ 15 + 10 * halfwordAt code (at + 1)
 bounded unserved m code at s f = omega arith
-bounded (row operands both make) m code at s f = summed (fixedOf operands) (eachOf operands) _ (s .0) (omega arith)
+bounded (row operands both make) m code at s f = summed (fixedOf operands) (eachOf operands) _ (omega arith) (omega arith)
 bounded (row operands normal make) Normal code at s f = summed (fixedOf operands) (eachOf operands) _ s (omega arith)
 bounded (row operands normal make) Double code at s f = omega arith
 

@@ -1,8 +1,8 @@
 -- Looking a key up in a table of rows.
-use mathlib.Core.Bool.{Bool, true, false, cond}
+use mathlib.Core.Bool.{Bool, true, false, cond, _&&_, and-eq-true-iff}
 use mathlib.Core.Path.{_≡_, refl}
 use mathlib.Core.List.{List, [], _∷_, _++_}
-use Prim.Native.Nat.{ℕ, _+_, _/_, _<_, _≤_}
+use Prim.Native.Nat.{ℕ, _+_, _*_, _/_, _<_, _≤_}
 use native.Mathlib.Omega.{arith}
 use borrow.Author.Tests.{ne-eqb, eqb-true}
 use lib.Dec.{eqb, ltb}
@@ -68,11 +68,35 @@ row-every P code u s d o c =
     (either (P code) (ltb code 0xA0) _ _ (find-every P dataTable code u d)
     (either (P code) (ltb code 0xDA) _ _ (find-every P operationTable code u o) (find-every P controlTable code u c))))
 
+-- A test of every row of a table, with its key, by computing.
+abbrev every : (ℕ → Row → Bool) → List Entry → Bool
+every f [] = true
+every f (entry k r ∷ rest) = f k r && every f rest
+
+abbrev Passes : (ℕ → Row → Bool) → ℕ → Row → Type 0
+Passes f k r = f k r ≡ true
+
+all-pass : (f : ℕ → Row → Bool) (t : List Entry) → every f t ≡ true → Every (Passes f) t
+all-pass f [] e = tt
+all-pass f (entry k r ∷ rest) e =
+    let p = and-eq-true-iff (f k r) (every f rest) .0 e in
+    (p .0, all-pass f rest (p .1))
+
+pub row-passes :
+    (f : ℕ → Row → Bool) (code : ℕ) →
+    f code unserved ≡ true →
+    every (λ k. f code) shortTable ≡ true → every f dataTable ≡ true → every f operationTable ≡ true
+    → every f controlTable ≡ true →
+    f code (rowOf code) ≡ true
+row-passes f code u s d o c =
+    row-every (Passes f) code u (all-pass (λ k. f code) shortTable s) (all-pass f dataTable d) (all-pass f operationTable o)
+    (all-pass f controlTable c)
+
 -- The fixed length of a served code is a digit, and no table stands behind one that DOUBLE may stand before.
 abbrev pub Short : Row → Type 0
 Short unserved = Unit {0}
 Short (row operands normal make) = fixedOf operands < 16
-Short (row operands both make) = (fixedOf operands < 16) × (eachOf operands ≡ 0)
+Short (row operands both make) = fixedOf operands + 16 * eachOf operands < 16
 
 pub row-short : (code : ℕ) → Short (rowOf code)
 row-short code = row-every (λ k. Short) code tt (omega arith) (omega arith) (omega arith) (omega arith)

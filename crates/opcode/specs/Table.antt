@@ -1,14 +1,14 @@
--- The served codes, as 5.2.4 lists them and 01 ("What the machine serves at first") picks them; what stands in no table is
--- unserved. Misprints of the manual: docs/DECISIONS.md.
+-- The served codes, as 5.2.4 lists them and 01 ("What the machine serves at first") picks them, and 02 (K1: "Serve LOAD_E, STOR_E,
+-- LOAD_A_E and CALL_E"); what stands in no table is unserved. Misprints of the manual: docs/DECISIONS.md.
 use mathlib.Core.Bool.{Bool, true, false, cond}
 use mathlib.Core.List.{List, [], _∷_}
 use Prim.Native.Nat.{ℕ, _/_}
 use lib.Dec.{eqb, ltb}
-use Rattle.operand.specs.Operand.{Operands, none, digit, unsigned, signed, table, b, h, w}
+use Rattle.operand.specs.Operand.{Operands, none, digit, unsigned, signed, bytes, table, b, h, w}
 use Rattle.opcode.specs.Codes.{iterCode, switchCode, switchXCode, iterOperands, enterOperands}
 use Rattle.opcode.specs.declared.instruction.Mode.{Mode}
 use Rattle.opcode.specs.declared.instruction.Mode.the-variants.{Normal, Double}
-use Rattle.opcode.specs.declared.instruction.Base.the-variants.{Local, Global, Constant, Popped}
+use Rattle.opcode.specs.declared.instruction.Base.the-variants.{Local, Global, Constant, Popped, External}
 use Rattle.opcode.specs.declared.instruction.Arithmetic.the-variants.{Add, Subtract, Multiply, Divide, Modulus}
 use Rattle.opcode.specs.declared.instruction.Order.the-variants.{Less, Greater, LessEqual, GreaterEqual}
 use Rattle.opcode.specs.declared.instruction.SetOperation.the-variants.{Union, Difference, Intersection}
@@ -19,7 +19,7 @@ use Rattle.opcode.specs.declared.instruction.Instruction.{Instruction}
 use Rattle.opcode.specs.declared.instruction.Instruction.the-variants.{LoadConstant, Load, LoadAddress, Store, Pop, Swap}
 use Rattle.opcode.specs.declared.instruction.Instruction.the-variants.{Nop, Operate, Alloc, Free, Jump, JumpC}
 use Rattle.opcode.specs.declared.instruction.Instruction.the-variants.{JumpT, JumpF, Iter, Next, Switch, SwitchX}
-use Rattle.opcode.specs.declared.instruction.Instruction.the-variants.{Leave, Call, Enter, Rtn}
+use Rattle.opcode.specs.declared.instruction.Instruction.the-variants.{Leave, Call, CallExternal, Enter, Rtn}
 
 -- The modes that a code is served in. 01: "DOUBLE stands only before LOAD_L, _G, _F, _T, STOR_L, _G, _F".
 pub data Modes : Type 0 where
@@ -63,16 +63,19 @@ dataTable =
     entry 0x86 (row (unsigned b) both (λ m n k. Load Global m n)) ∷  -- LOAD_G.b adr
     entry 0x87 (row (unsigned b) both (λ m n k. Load Popped m n)) ∷  -- LOAD_F.b offs
     entry 0x88 (row (unsigned h) both (λ m n k. Load Popped m n)) ∷  -- LOAD_F.h offs
+    entry 0x89 (row bytes normal (λ m n k. Load (External n) m k)) ∷  -- LOAD_E lib, adr
     entry 0x8D (row (unsigned b) normal (λ m n k. LoadAddress Local n)) ∷  -- LOAD_A_L.b adr
     entry 0x8E (row (unsigned b) normal (λ m n k. LoadAddress Global n)) ∷  -- LOAD_A_G.b adr
     entry 0x8F (row (unsigned b) normal (λ m n k. LoadAddress Popped n)) ∷  -- LOAD_A_F.b offs
     entry 0x90 (row (unsigned h) normal (λ m n k. LoadAddress Popped n)) ∷  -- LOAD_A_F.h offs
+    entry 0x91 (row bytes normal (λ m n k. LoadAddress (External n) k)) ∷  -- LOAD_A_E lib, adr
     entry 0x92 (row (unsigned b) normal (λ m n k. LoadAddress Constant n)) ∷  -- LOAD_A_T.b offs
     entry 0x93 (row (unsigned h) normal (λ m n k. LoadAddress Constant n)) ∷  -- LOAD_A_T.h offs
     entry 0x94 (row (unsigned b) both (λ m n k. Store Local m n)) ∷  -- STOR_L.b adr
     entry 0x95 (row (unsigned b) both (λ m n k. Store Global m n)) ∷  -- STOR_G.b adr
     entry 0x96 (row (unsigned b) both (λ m n k. Store Popped m n)) ∷  -- STOR_F.b offs
     entry 0x97 (row (unsigned h) both (λ m n k. Store Popped m n)) ∷  -- STOR_F.h offs
+    entry 0x98 (row bytes normal (λ m n k. Store (External n) m k)) ∷  -- STOR_E lib, adr
     entry 0x9E (row (unsigned b) normal (λ m n k. Pop n)) ∷  -- POP n
     entry 0x9F (row none normal (λ m n k. Swap)) ∷  -- SWAP
     []
@@ -127,6 +130,7 @@ controlTable =
     entry switchXCode (row (table 7 10) normal (λ m n k. SwitchX n)) ∷  -- E3 SWITCH_X n
     entry 0xE4 (row none normal (λ m n k. Leave)) ∷  -- LEAVE
     entry 0xE5 (row (unsigned b) normal (λ m n k. Call n)) ∷  -- CALL.b proc
+    entry 0xE6 (row bytes normal (λ m n k. CallExternal n k)) ∷  -- CALL_E lib, proc
     entry 0xE8 (row enterOperands normal (λ m n k. Enter n k)) ∷  -- ENTER par, dat
     entry 0xE9 (row none normal (λ m n k. Rtn)) ∷  -- RTN
     entry 0xFF (row none normal (λ m n k. Nop)) ∷  -- NOP

@@ -142,7 +142,7 @@ const FORMATS: [u16; 256] = [
     0x12, // 86 LOAD_G.b
     0x12, // 87 LOAD_F.b
     0x13, // 88 LOAD_F.h
-    0x00, // 89 LOAD_E
+    0x03, // 89 LOAD_E
     0x00, // 8A LOAD_X_C
     0x00, // 8B LOAD_X_V
     0x00, // 8C
@@ -150,14 +150,14 @@ const FORMATS: [u16; 256] = [
     0x02, // 8E LOAD_A_G.b
     0x02, // 8F LOAD_A_F.b
     0x03, // 90 LOAD_A_F.h
-    0x00, // 91 LOAD_A_E
+    0x03, // 91 LOAD_A_E
     0x02, // 92 LOAD_A_T.b
     0x03, // 93 LOAD_A_T.h
     0x12, // 94 STOR_L.b
     0x12, // 95 STOR_G.b
     0x12, // 96 STOR_F.b
     0x13, // 97 STOR_F.h
-    0x00, // 98 STOR_E
+    0x03, // 98 STOR_E
     0x00, // 99 STOR_X_C
     0x00, // 9A STOR_X_V
     0x00, // 9B MOVE
@@ -235,7 +235,7 @@ const FORMATS: [u16; 256] = [
     0x147, // E3 SWITCH_X
     0x01, // E4 LEAVE
     0x02, // E5 CALL.b
-    0x00, // E6 CALL_E
+    0x03, // E6 CALL_E
     0x00, // E7 INIT
     0x03, // E8 ENTER
     0x01, // E9 RTN

@@ -6,12 +6,14 @@ pub enum Mode {
     Double,
 }
 
-// What an address is counted from: FP, GP, the constants, or an address that is popped.
+// What an address is counted from: FP, GP, the constants, an address that is popped, or the globals of a library.
 pub enum Base {
     Local,
     Global,
     Constant,
     Popped,
+    // the globals of a library
+    External(u32),
 }
 
 pub enum Arithmetic {
@@ -74,6 +76,7 @@ pub enum Instruction {
     SwitchX(u32),
     Leave,
     Call(u32),
+    CallExternal(u32, u32),
     Enter(u32, u32),
     Rtn,
 }

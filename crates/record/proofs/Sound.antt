@@ -64,8 +64,8 @@ numberless r e =
     let c = cleared (recordTests r) refl e in
     record {
       sizes = not-false (sizesFit (headerOf r)) (c .1 .0);
-      sources = not-false (sourceSound r (headerOf r)) (c .1 .1 .1 .1 .1 .0);
-      entries = not-false (entriesSound (codeOf r)) (c .1 .1 .1 .1 .1 .1 .0);
+      sources = not-false (sourceSound r (headerOf r)) (c .1 .1 .1 .1 .0);
+      entries = not-false (entriesSound (codeOf r)) (c .1 .1 .1 .1 .1 .0);
     }
 
 pub sources-sound : SourcesSound

@@ -1,5 +1,5 @@
 -- The numbers 1 to 7, what reading a record answers, and the line lookup.
-use mathlib.Core.Bool.{cond, not, _&&_}
+use mathlib.Core.Bool.{cond, not}
 use mathlib.Core.List.{List, [], _∷_, _++_}
 use Prim.Native.Nat.{ℕ}
 use lib.Dec.{ltb, eqb}
@@ -27,12 +27,12 @@ sizeTests r =
 unfoldable pub sizeNumber : List ℕ → ℕ
 sizeNumber r = refusal (sizeTests r)
 
--- Imports or relocation present; version word malformed; source table odd or not as above; entries not as above.
+-- 5, 6 and 7 of 01's table: version word malformed; source table odd or not as above; entries not as above. Refusal 4 is withdrawn
+-- (02, K1).
 abbrev pub partTests : List ℕ → List Test
 partTests r =
     let h = headerOf r in
-    4 when not (eqb (h .imports) 0 && eqb (h .relocation) 0)
-    ∷ 5 when not (versionSound r h)
+    5 when not (versionSound r h)
     ∷ 6 when not (sourceSound r h)
     ∷ 7 when not (entriesSound (codeOf r))
     ∷ []

@@ -33,7 +33,7 @@ pub fn size_number(r: &[u8]) -> u32
     0
 }
 
-// 0, or the lowest of the numbers 1 to 7 that refuses the record.
+// 0, or the lowest of the numbers 1 to 7 that refuses the record; 4 is withdrawn.
 pub fn record_number(r: &[u8]) -> u32
     ensures { λ n. ⌜ n ≡ recordNumber (now (r .entry)) ⌝ }
 {
@@ -42,12 +42,6 @@ pub fn record_number(r: &[u8]) -> u32
         return number;
     }
     let h = header::header_of(r);
-    if h.imports != 0 {
-        return 4;
-    }
-    if h.relocation != 0 {
-        return 4;
-    }
     if !version::version_sound(r, h) {
         return 5;
     }

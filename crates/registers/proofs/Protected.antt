@@ -1,42 +1,87 @@
--- When an address is protected, by where it lies: at or above FP never, among header and globals only the header, among the
--- constants always, and among the frames by the links.
-use Prim.Native.Nat.{ℕ, _+_, _-_, _<_, _≤_}
+-- When an address is protected, by where it lies: at or above FP never, below the frames of calls by the data frames, and among the
+-- frames of calls by the links.
+use Prim.Native.Nat.{ℕ, zero, suc, _+_, _-_, _<_, _≤_}
 use mathlib.Core.Path.{_≡_, refl, sym, _∙_}
-use mathlib.Core.Bool.{Bool, true, false, or-false}
-use mathlib.Core.List.{List}
+use mathlib.Core.Bool.{Bool, true, false}
+use mathlib.Core.List.{List, [], _∷_}
 use native.Mathlib.Omega.{arith}
-use lib.Dec.{ltb, leb}
-use borrow.Author.Tests.{lt-ltb, le-ltb, le-leb, lt-leb, leb-true, leb-false}
-use Rattle.registers.specs.declared.Attributes.{Attributes}
+use lib.Dec.{leb}
+use lib.ListN.{length}
+use borrow.Author.Tests.{le-ltb, le-leb, lt-leb, leb-true, leb-false}
 use Rattle.registers.specs.declared.Registers.{Registers}
+use Rattle.registers.specs.Modules.{Modules, moduleAt, dataSize, dataStart, dataEnd, framesStart, globalsStart, isFixed}
 use Rattle.registers.specs.Memory.{live, isLink, chained, protects}
-use Rattle.registers.specs.Program.{constantsStart, framesStart}
 use Rattle.registers.proofs.Links.{chain-start, link-above, link-under}
 
-module _ (A : Attributes) (q : Registers) (m : List ℕ) (a : ℕ) (h : chained m (framesStart A) (q .fp) (q .calls) ≡ true) where
-  pub free-above : q .fp ≤ a → protects A q m a ≡ false
+-- Data frames lie one behind the other.
+pub data-rises : (start : ℕ) (Ms : Modules) → start ≤ dataEnd start Ms
+data-rises start [] = omega arith
+data-rises start (M ∷ Ms) = omega (arith, data-rises (start + dataSize M) Ms)
+
+pub data-within : (start : ℕ) (Ms : Modules) (k : ℕ) → k < length Ms
+    → (start ≤ dataStart start Ms k) × (dataStart start Ms k + dataSize (moduleAt Ms k) ≤ dataEnd start Ms)
+data-within start [] k h = absurd (omega arith)
+data-within start (M ∷ Ms) zero h = (omega arith, data-rises (start + dataSize M) Ms)
+data-within start (M ∷ Ms) (suc k) h =
+    let rest = data-within (start + dataSize M) Ms k (omega arith) in
+    (omega (arith, rest .0), rest .1)
+
+-- Nothing is fixed before the first data frame, nor behind the last, nor among globals.
+pub fixed-before : (start : ℕ) (Ms : Modules) (a : ℕ) → a < start → isFixed start Ms a ≡ false
+fixed-before start [] a h = refl
+fixed-before start (M ∷ Ms) a h =
+    rw (
+      lt-leb start a h,
+      lt-leb (start + 3 + M .globals) a (omega arith),
+    ) (fixed-before (start + dataSize M) Ms a (omega arith))
+
+pub fixed-behind : (start : ℕ) (Ms : Modules) (a : ℕ) → dataEnd start Ms ≤ a → isFixed start Ms a ≡ false
+fixed-behind start [] a h = refl
+fixed-behind start (M ∷ Ms) a h =
+    let rises : start + dataSize M ≤ dataEnd (start + dataSize M) Ms = data-rises (start + dataSize M) Ms in
+    rw (
+      le-leb start a (omega arith),
+      le-ltb a (start + 3) (omega arith),
+      le-leb (start + 3 + M .globals) a (omega arith),
+      le-ltb a (start + dataSize M) (omega arith),
+    ) (fixed-behind (start + dataSize M) Ms a h)
+
+pub globals-free : (start : ℕ) (Ms : Modules) (k a : ℕ) → k < length Ms → dataStart start Ms k + 3 ≤ a
+    → a < dataStart start Ms k + 3 + moduleAt Ms k .globals → isFixed start Ms a ≡ false
+globals-free start [] k a h l r = absurd (omega arith)
+globals-free start (M ∷ Ms) zero a h l r =
+    rw (
+      le-leb start a (omega arith),
+      le-ltb a (start + 3) l,
+      lt-leb (start + 3 + M .globals) a r,
+    ) (fixed-before (start + dataSize M) Ms a (omega arith))
+globals-free start (M ∷ Ms) (suc k) a h l r =
+    let rest = data-within (start + dataSize M) Ms k (omega arith) in
+    rw (
+      le-leb start a (omega (arith, rest .0)),
+      le-ltb a (start + 3) (omega (arith, rest .0)),
+      le-leb (start + 3 + M .globals) a (omega (arith, rest .0)),
+      le-ltb a (start + dataSize M) (omega (arith, rest .0)),
+    ) (globals-free (start + dataSize M) Ms k a (omega arith) l r)
+
+module _ (Ms : Modules) (q : Registers) (m : List ℕ) (a : ℕ) (h : chained m (framesStart Ms) (q .fp) (q .calls) ≡ true) where
+  pub free-above : q .fp ≤ a → protects Ms q m a ≡ false
   unfolding protects
   free-above l =
-      let f : framesStart A ≤ q .fp = chain-start m (framesStart A) (q .fp) (q .calls) h in
-      rw (
-        le-ltb a 3 (omega arith),
-        le-leb (constantsStart A) a (omega arith),
-        le-ltb a (framesStart A) (omega arith),
-        link-above m (framesStart A) (q .fp) (q .calls) a h l,
-      )
+      let f : framesStart Ms ≤ q .fp = chain-start m (framesStart Ms) (q .fp) (q .calls) h in
+      rw (fixed-behind 0 Ms a (omega arith)) (link-above m (framesStart Ms) (q .fp) (q .calls) a h l)
 
-  pub header-only : a < constantsStart A → protects A q m a ≡ ltb a 3
+  pub global-free : (k : ℕ) → k < length Ms → globalsStart Ms k ≤ a → a < globalsStart Ms k + moduleAt Ms k .globals
+      → protects Ms q m a ≡ false
   unfolding protects
-  header-only l =
-      rw (lt-leb (constantsStart A) a l, link-under m (framesStart A) (q .fp) (q .calls) a h (omega arith), or-false)
+  global-free k below l r =
+      let within = data-within 0 Ms k below in
+      rw (globals-free 0 Ms k a below l r)
+      (link-under m (framesStart Ms) (q .fp) (q .calls) a h (omega (arith, within .1)))
 
-  pub constant : constantsStart A ≤ a → a < framesStart A → protects A q m a ≡ true
+  pub framed : framesStart Ms ≤ a → protects Ms q m a ≡ isLink m (q .fp) (q .calls) a
   unfolding protects
-  constant l r = rw (le-ltb a 3 (omega arith), le-leb (constantsStart A) a l, lt-ltb a (framesStart A) r)
-
-  pub framed : framesStart A ≤ a → protects A q m a ≡ isLink m (q .fp) (q .calls) a
-  unfolding protects
-  framed l = rw (le-ltb a 3 (omega arith), le-leb (constantsStart A) a (omega arith), le-ltb a (framesStart A) l)
+  framed l = rw (fixed-behind 0 Ms a l)
 
 -- a is at most the rest of mp above n exactly where a + n is at most mp.
 pub at-most-less : (a n mp : ℕ) → n ≤ mp → leb a (mp - n) ≡ leb (a + n) mp

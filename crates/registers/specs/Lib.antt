@@ -1,4 +1,5 @@
--- Program and data areas, the state, live and protected addresses, and the registers as instructions change them.
+-- Modules and data frames, program, the state, live and protected addresses, and the registers as instructions change them.
+pub mod Modules
 pub mod Program
 pub mod State
 pub mod Memory

@@ -1,36 +1,44 @@
--- What the machine reads of a record, and where its data areas lie in memory.
+-- What runs: the running module, within its set.
 use mathlib.Core.List.{List}
 use Prim.Native.Nat.{ℕ, _+_}
-use Rattle.header.specs.Header.{headerOf, codeOf}
-use Rattle.header.specs.declared.Header.{Header}
+use Rattle.header.specs.Header.{headerOf}
 use Rattle.version.specs.Issue.{wraps}
 use Rattle.registers.specs.declared.Attributes.{Attributes}
+use Rattle.registers.specs.Modules.{Module, Modules, moduleAt, globalsStart, framesStart, numberAt}
 
--- What runs: the code of a module, and its attributes, which are the sizes of its data areas, and whether its unsigned results
--- wrap.
+-- The code and the attributes of the running module, and all modules.
 pub record Program : Type 0 where
   pub code : List ℕ
   pub attributes : Attributes
+  pub modules : Modules
 
-abbrev pub program : List ℕ → Attributes → Program
-program code A = record { code = code; attributes = A }
+abbrev pub program : List ℕ → Attributes → Modules → Program
+program code A Ms = record { code = code; attributes = A; modules = Ms }
 
-abbrev pub attributesIn : List ℕ → Header → Attributes
-attributesIn r h = record { globals = h .globals; constants = h .constants; wraps = wraps r h }
+-- Where its globals and its constants begin, where the frames of calls begin, and whether its unsigned results wrap.
+abbrev pub attributesAt : Modules → ℕ → Attributes
+attributesAt Ms k =
+    record {
+      globals = globalsStart Ms k;
+      constants = globalsStart Ms k + moduleAt Ms k .globals;
+      frames = framesStart Ms;
+      wraps = moduleAt Ms k .wraps;
+    }
 
-abbrev pub attributesOf : List ℕ → Attributes
-attributesOf r = attributesIn r (headerOf r)
+-- Module k runs.
+abbrev pub programAt : Modules → ℕ → Program
+programAt Ms k = program (moduleAt Ms k .code) (attributesAt Ms k) Ms
 
-abbrev pub programOf : List ℕ → Program
-programOf r = program (codeOf r) (attributesOf r)
+-- The module runs whose globals GP points at.
+abbrev pub running : Modules → (gp : ℕ) → Program
+running Ms gp = programAt Ms (numberAt Ms gp)
 
--- 01: "Header words 0, 1, 2 hold 0, 0 and 3+g; GP is 3; parameters fill the first globals ..; constants follow".
-abbrev pub globalsStart : ℕ
-globalsStart = 3
-
-abbrev pub constantsStart : Attributes → ℕ
-constantsStart A = globalsStart + A .globals
-
--- Where frames begin: "FP and MP start at 3+g+c".
-abbrev pub framesStart : Attributes → ℕ
-framesStart A = constantsStart A + A .constants
+-- The module of a record, with this code.
+abbrev pub moduleOf : (r code : List ℕ) → Module
+moduleOf r code =
+    record {
+      code = code;
+      globals = headerOf r .globals;
+      constants = headerOf r .constants;
+      wraps = wraps r (headerOf r);
+    }

@@ -1,10 +1,11 @@
 // The registers, by value.
 ghost use mathlib.Core.Path.{_≡_};
 ghost use Prim.Native.Nat.{_≤_, _<_, _+_};
-ghost use Rattle.registers.specs.Program.{framesStart};
+ghost use Rattle.registers.specs.Memory.{linkWords};
 ghost use Rattle.registers.specs.Changes.{moved, sized, raised, called, returned};
 
 pub mod access;
+pub mod table;
 
 pub struct Registers {
     pub pc: u32,
@@ -15,20 +16,13 @@ pub struct Registers {
     pub calls: u32,
 }
 
-// What a run knows of a module besides its code: the sizes of its data areas, in words, and whether unsigned results wrap.
+// What a run knows of the running module besides its code: where its globals and its constants begin, where the frames of calls
+// begin, and whether unsigned results wrap.
 pub struct Attributes {
     pub globals: u32,
     pub constants: u32,
+    pub frames: u32,
     pub wraps: bool,
-}
-
-impl Attributes {
-    // Where frames begin: behind header words, globals and constants.
-    pub fn frames_start(self) -> usize
-        ensures { λ n. ⌜ n ≡ framesStart self ⌝ }
-    {
-        3 + (self.globals as usize) + (self.constants as usize)
-    }
 }
 
 impl Registers {
@@ -53,30 +47,38 @@ impl Registers {
         self
     }
 
-    // The registers in a callee.
-    pub fn called(mut self, entry: u32) -> Registers
-        requires { ⌜ self .mp + 2 ≤ 16384 ⌝ }
+    // The registers in a callee, behind so many link words.
+    pub fn called(mut self, links: u32, gp: u32, entry: u32) -> Registers
+        requires { ⌜ self .mp + links ≤ 16384 ⌝ }
         requires { ⌜ self .calls < 64 ⌝ }
-        ensures { λ q. ⌜ q ≡ called self entry ⌝ }
+        ensures { λ q. ⌜ q ≡ called self links gp entry ⌝ }
     {
         self.pc = entry;
-        self.mp = self.mp + 2;
+        self.mp = self.mp + links;
         self.fp = self.mp;
+        self.gp = gp;
         self.calls = self.calls + 1;
         self
     }
 
     // The registers back in a caller.
     pub fn returned(mut self, m: &[u32]) -> Registers
-        requires { ⌜ 2 ≤ self .fp ⌝ }
+        requires { ⌜ linkWords (now m) (self .fp) ≤ self .fp ⌝ }
         requires { ⌜ 1 ≤ self .calls ⌝ }
         ensures { λ q. ⌜ q ≡ returned self (now (m .entry)) ⌝ }
     {
         let fp = self.fp;
-        self.pc = crate::access::word_at(m, (fp - 1) as usize);
-        self.mp = fp - 2;
+        let back = crate::access::word_at(m, (fp - 1) as usize);
         self.fp = crate::access::word_at(m, (fp - 2) as usize);
         self.calls = self.calls - 1;
+        if crate::access::is_above_zero(back) {
+            self.pc = back;
+            self.mp = fp - 2;
+            return self;
+        }
+        self.pc = crate::access::negated(back);
+        self.mp = fp - 3;
+        self.gp = crate::access::word_at(m, (fp - 3) as usize);
         self
     }
 }

@@ -1,21 +1,26 @@
 -- Over zeros, what the code prints is what the definition does: the part of a larger memory is as many zeros, and a stack of over 1,024
 -- words, which the code does not have, is the load's 8 once the check has accepted.
-use mathlib.Core.Bool.{Bool, true, false, _&&_}
-use mathlib.Core.List.{List, _∷_}
-use mathlib.Core.Path.{_≡_, refl, _∙_, ap}
+use mathlib.Core.Bool.{Bool, true, false, _&&_, and-false}
+use mathlib.Core.List.{List, [], _∷_}
+use mathlib.Core.Path.{_≡_, refl, sym, _∙_, ap}
 use Prim.Native.Nat.{ℕ, zero, suc, _≤_, _<_}
 use native.Mathlib.Omega.{arith}
 use borrow.Author.Tests.{leb-true, leb-false, lt-leb}
 use lib.Dec.{leb, eqb·suc-zero}
 use lib.ListN.{length, take, length-replicate}
-use Rattle.record.specs.Number.{recordNumber}
-use Rattle.registers.specs.Program.{attributesOf, framesStart}
+use Rattle.header.specs.Header.{codeOf}
+use Rattle.module_set.specs.Members.{single}
+use Rattle.relocation.specs.Relocation.{setNumber, copyOf}
+use Rattle.registers.specs.Modules.{moduleAt, framesStart}
 use Rattle.state.specs.Fits.{sizesTaken}
-use Rattle.load.specs.Load.{loadNumber, loadOf}
+use Rattle.load.specs.Modules.{modulesOf}
+use Rattle.load.specs.Load.{Loading, loadOf}
+use Rattle.load.proofs.Loading.{room, load-short}
 use Rattle.load.specs.declared.Loaded.the-variants.{Refused as NotLoaded}
 use Rattle.verifier.specs.Check.{checkOf}
 use Rattle.verifier.proofs.Accepting.{Answers, early, late, answers}
-use Rattle.safety.specs.Joined.{Joined, joinedOf}
+use Rattle.joined.specs.Joined.{Joined, joinedOf}
+use Rattle.joined.proofs.Alone.{number-same}
 use Rattle.text.specs.Text.{checkLine}
 use Rattle.run_file.specs.RunFile.{resultsOf, parametersOf, budgetOf, memoryWords, stackWords, recordOf, wellFormed}
 use Rattle.report.specs.Report.{answerText, output, printed, zeros, textOf}
@@ -27,29 +32,29 @@ take-zeros zero n h = refl
 take-zeros (suc k) zero h = absurd (omega arith)
 take-zeros (suc k) (suc n) h = ap (λ (l : List ℕ). 0 ∷ l) (take-zeros k n (omega arith))
 
-accepted-sound : (r results w : List ℕ) → checkOf r results w .number ≡ 0 → recordNumber r ≡ 0
-accepted-sound r results w e = by (answers r results w)
+accepted-sound : (r results w : List ℕ) → checkOf r results w .number ≡ 0 → setNumber (single r []) ≡ 0
+accepted-sound r results w e = sym (number-same r results) ∙ by (answers (single r results) 0 w)
   where
-    by : Answers r results w → recordNumber r ≡ 0
+    by : Answers (single r results) 0 w → setNumber (single r results) ≡ 0
     by (early n f g) = let z : suc n ≡ 0 = rw g at e in absurd (omega arith)
-    by (late l g) = l .numberless
+    by (late l g) = l .linkable .numberless
 
-none-holds : (a b c : Bool) → (a && (b && (c && false))) ≡ false
-none-holds true true true = refl
-none-holds true true false = refl
-none-holds true false c = refl
-none-holds false b c = refl
+none-holds : (a b c d : Bool) → (a && (b && (c && (d && false)))) ≡ false
+none-holds true true true d = and-false d
+none-holds true true false d = refl
+none-holds true false c d = refl
+none-holds false b c d = refl
 
 -- 8: "stack over 1,024".
-too-deep : (r ps m s : List ℕ) → recordNumber r ≡ 0 → 1024 < length s → loadOf r ps m s .answer ≡ NotLoaded 8
-unfolding loadOf loadNumber sizesTaken
+too-deep : (r ps m s : List ℕ) → setNumber (single r []) ≡ 0 → 1024 < length s → loadOf r ps m s .answer ≡ NotLoaded 8
+unfolding sizesTaken
 too-deep r ps m s e h =
-    let A = attributesOf r in
-    rw (
-      e,
-      lt-leb (length s) 1024 h,
-      none-holds (leb (length ps) (A .globals)) (leb (framesStart A) (length m)) (leb (length m) 16384),
-    )
+    let S = single r [] in
+    let a = leb (length ps) (moduleAt (modulesOf S) 0 .globals) in
+    let b = leb (length (copyOf S)) (length (codeOf r)) in
+    let short : room S ps (codeOf r) m s ≡ false =
+    rw (lt-leb (length s) 1024 h) (none-holds a b (leb (framesStart (modulesOf S)) (length m)) (leb (length m) 16384)) in
+    ap (λ (l : Loading). l .answer) (sym (load-short S ps (codeOf r) m s e short))
 
 module _ (r results ps w m s : List ℕ) (budget : ℕ) where
   abbrev answered : Joined → List ℕ

@@ -1,35 +1,39 @@
 -- A page is its lines, one after the other, and is not long: no number has more than ten digits, a run ends only on a record of
 -- at most 1,024 globals with a stack of at most 1,024 words, and it leaves the stack as long as it was.
-use mathlib.Core.List.{List, _++_}
+use mathlib.Core.List.{List, [], _++_}
 use mathlib.Core.Path.{_≡_, refl, _∙_}
-use Prim.Native.Nat.{ℕ, zero, suc, _+_, _-_, _*_, _≤_}
+use Prim.Native.Nat.{ℕ, zero, suc, _+_, _*_, _≤_}
 use native.Mathlib.Omega.{arith}
-use borrow.Author.Tests.{eqb-true, not-false}
+use borrow.Author.Tests.{eqb-true}
 use lib.Dec.{eqb}
 use lib.ListN.{length, take, drop, length-append, length-take, length-drop}
-use lib.Seq.{length-sets}
 use Rattle.words.proofs.Tests.{either, by-test}
 use Rattle.header.specs.Header.{headerOf}
 use Rattle.source.specs.Source.{lineAt}
 use Rattle.header.specs.declared.Header.{Header}
-use Rattle.record.proofs.Sound.{after-cleared, sound-sizes}
-use Rattle.registers.specs.Program.{Program, programOf, attributesOf, globalsStart}
+use Rattle.header.specs.Header.{codeOf}
+use Rattle.record.proofs.Sound.{sound-sizes}
+use Rattle.module_set.specs.Members.{single}
+use Rattle.relocation.proofs.Sound.{set-sound}
+use Rattle.registers.specs.Modules.{Modules, headerWords}
+use Rattle.registers.specs.Program.{programAt, running}
 use Rattle.registers.specs.State.{State, state}
-use Rattle.state.specs.Fits.{fits}
-use Rattle.state.proofs.Fitting.{fitting}
+use Rattle.state.proofs.Fitting.{fit-parts}
 use Rattle.load.specs.declared.Loaded.{Loaded}
 use Rattle.load.specs.declared.Loaded.the-variants.{Refused as NotLoaded, Ready}
+use Rattle.load.specs.Modules.{modulesOf}
 use Rattle.load.specs.Load.{loadOf}
 use Rattle.step.specs.declared.Outcome.{Outcome}
 use Rattle.step.specs.declared.Outcome.the-variants.{Went, Finished, Trapped}
-use Rattle.step.specs.Step.{pushed, stepOf}
-use Rattle.step.proofs.Outcomes.{step-leaves}
-use Rattle.machine.specs.declared.run.Answer.{Answer}
-use Rattle.machine.specs.declared.run.Answer.the-variants.{Refused, Ended}
-use Rattle.machine.specs.declared.run.Ended.{Ended as Ending}
-use Rattle.machine.specs.Run.{Result, endNumber, proceed, runFrom, runTests, runNumber, runOf}
+use Rattle.step.specs.Step.{stepIn}
+use Rattle.invariant.proofs.Sizes.{stack-kept}
+use Rattle.run.specs.declared.Answer.{Answer}
+use Rattle.run.specs.declared.Answer.the-variants.{Refused, Ended}
+use Rattle.run.specs.declared.Ended.{Ended as Ending}
+use Rattle.run.specs.Run.{Result, endNumber, proceed, runFrom, setRun, runNumber, runOf}
+use Rattle.run.proofs.Taking.{taken-parts}
 use Rattle.verifier.specs.Check.{checkOf}
-use Rattle.safety.specs.Joined.{Joined, thenLoad, joinedOf}
+use Rattle.joined.specs.Joined.{Joined, thenLoad, joinedOf}
 use Rattle.run_file.specs.RunFile.{resultsOf, parametersOf, budgetOf, memoryWords, stackWords, recordOf, wellFormed}
 use Rattle.text.specs.Text.{decimal, checkText, endText, atText, lineText, stepsText, newline, wordsText, listLine, numbered}
 use Rattle.text.specs.Text.{checkLine, endLine, Wrote}
@@ -100,14 +104,14 @@ ended-fits : (r : List ℕ) (e : Ending) (m s : List ℕ) → headerOf r .global
 unfolding endedText
 ended-fits r e m s g d =
     let stack = take (e .registers .height) s in
-    let globals = take (headerOf r .globals) (drop globalsStart m) in
+    let globals = take (headerOf r .globals) (drop headerWords m) in
     let line = lineAt r (headerOf r) (e .registers .pc) in
     let end = endLine (endNumber (e .ending)) (e .registers .pc) line (e .steps) in
     let a = length-append (checkLine 0) (end ++ (listLine 115 stack ++ listLine 103 globals)) in
     let b = length-append end (listLine 115 stack ++ listLine 103 globals) in
     let c = length-append (listLine 115 stack) (listLine 103 globals) in
     let f = length-take (e .registers .height) s in
-    let h = length-take (headerOf r .globals) (drop globalsStart m) in (
+    let h = length-take (headerOf r .globals) (drop headerWords m) in (
       omega (arith, a, check-fits 0 .0),
       omega (
         arith,
@@ -123,18 +127,14 @@ ended-fits r e m s g d =
       ),
     )
 
-step-keeps : (P : Program) (S : State) → length (stepOf P S .state .stack) ≡ length (S .stack)
-step-keeps P S =
-    step-leaves P S (λ a. length (a .state .stack) ≡ length (S .stack)) (λ e. Unit {0}) (λ o n. refl)
-    (λ pops push write q e room. length-sets (S .stack) (S .registers .height - pops) (pushed push)) (λ i next. tt)
-
-run-keeps : (P : Program) (left count : ℕ) (S : State) → length (runFrom P left count S .state .stack) ≡ length (S .stack)
-run-keeps P zero count S = refl
-run-keeps P (suc left) count S =
-    by (stepOf P S .outcome) (stepOf P S .state) (run-keeps P left (count + 1) (stepOf P S .state)) ∙ step-keeps P S
+run-keeps : (Ms : Modules) (left count : ℕ) (S : State) → length (runFrom Ms left count S .state .stack) ≡ length (S .stack)
+run-keeps Ms zero count S = refl
+run-keeps Ms (suc left) count S =
+    by (stepIn Ms S .outcome) (stepIn Ms S .state) (run-keeps Ms left (count + 1) (stepIn Ms S .state))
+    ∙ stack-kept (running Ms (S .registers .gp)) S
   where
-    by : (o : Outcome) (T : State) → length (runFrom P left (count + 1) T .state .stack) ≡ length (T .stack)
-        → length (proceed (runFrom P left (count + 1)) count o T .state .stack) ≡ length (T .stack)
+    by : (o : Outcome) (T : State) → length (runFrom Ms left (count + 1) T .state .stack) ≡ length (T .stack)
+        → length (proceed Ms (runFrom Ms left (count + 1)) count o T .state .stack) ≡ length (T .stack)
     by Went T e = e
     by Finished T e = refl
     by (Trapped n) T e = refl
@@ -143,17 +143,25 @@ answer-fits : (r : List ℕ) (a : Answer) (m s : List ℕ) → headerOf r .globa
 answer-fits r (Refused n) m s g d = check-fits n
 answer-fits r (Ended e) m s g d = ended-fits r e m s g d
 
+-- What a run that is not refused says of the page's lists.
+page-bounds : (r : List ℕ) (S : State) → runNumber r S ≡ 0 → (headerOf r .globals ≤ 1024) × (length (S .stack) ≤ 1024)
+page-bounds r S e =
+    let One = single r [] in
+    let t = taken-parts One (codeOf r) 0 S e in (
+      sound-sizes r (set-sound One (t .sound) .sound 0 (omega arith)) .globals,
+      fit-parts (programAt (modulesOf One) 0) S (t .fit) .own .deep,
+    )
+
 run-fits : (r : List ℕ) (budget : ℕ) (S : State)
     → Fits (answerText r (runOf r budget S .answer) (runOf r budget S .state .memory) (runOf r budget S .state .stack))
-unfolding runOf runNumber
+unfolding setRun
 run-fits r budget S =
     by-test (λ (a : Result). Fits (answerText r (a .answer) (a .state .memory) (a .state .stack))) (eqb (runNumber r S) 0) _ _
     (λ t.
-    let k = after-cleared r (runTests r S) refl (eqb-true (runNumber r S) 0 t) in
-    let F = fitting (attributesOf r) S (not-false (fits (attributesOf r) S) (k .1 .0)) in
-    let a = runFrom (programOf r) budget 0 S in
-    answer-fits r (a .answer) (a .state .memory) (a .state .stack) (sound-sizes r (k .0) .globals)
-    (rw (run-keeps (programOf r) budget 0 S) (F .deep)))
+    let k = page-bounds r S (eqb-true (runNumber r S) 0 t) in
+    let Ms = modulesOf (single r []) in
+    let a = runFrom Ms budget 0 S in
+    answer-fits r (a .answer) (a .state .memory) (a .state .stack) (k .0) (rw (run-keeps Ms budget 0 S) (k .1)))
     (λ t. check-fits (runNumber r S))
 
 joined-fits : (r results w ps : List ℕ) (budget : ℕ) (m s : List ℕ)

@@ -9,8 +9,8 @@ use borrow.Author.Tests.{le-leb, lt-leb, leb-true}
 use lib.Dec.{eqb, leb}
 use lib.ListN.{length, take, drop}
 use Rattle.words.specs.Bytes.{Bytes, wordAt, halfwordAt, wordsFrom}
-use Rattle.machine.specs.declared.run.Answer.{Answer}
-use Rattle.safety.specs.Joined.{joined, joinedOf}
+use Rattle.run.specs.declared.Answer.{Answer}
+use Rattle.joined.specs.Joined.{joined, joinedOf}
 use Rattle.verifier.specs.Check.{checkOf}
 use Rattle.workspace.specs.Checking.{checking}
 use Rattle.text.specs.Text.{checkLine}

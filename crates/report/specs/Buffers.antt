@@ -7,7 +7,7 @@ use lib.Dec.{eqb, leb}
 use lib.ListN.{take, drop}
 use Rattle.verifier.specs.Check.{checkOf}
 use Rattle.workspace.specs.Checking.{Checking}
-use Rattle.safety.specs.Joined.{joinedOf}
+use Rattle.joined.specs.Joined.{joinedOf}
 use Rattle.run_file.specs.RunFile.{resultsOf, parametersOf, budgetOf, memoryWords, stackWords, recordOf, wellFormed}
 use Rattle.text.specs.Text.{checkLine}
 use Rattle.report.specs.Report.{answerText, printed}

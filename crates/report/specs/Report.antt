@@ -7,12 +7,12 @@ use lib.Dec.{leb}
 use lib.ListN.{length, take, drop, replicate}
 use Rattle.header.specs.Header.{headerOf}
 use Rattle.source.specs.Source.{lineAt}
-use Rattle.registers.specs.Program.{globalsStart}
-use Rattle.machine.specs.declared.run.Answer.{Answer}
-use Rattle.machine.specs.declared.run.Answer.the-variants.{Refused, Ended}
-use Rattle.machine.specs.declared.run.Ended.{Ended as Ending}
-use Rattle.machine.specs.Run.{endNumber}
-use Rattle.safety.specs.Joined.{joinedOf}
+use Rattle.registers.specs.Modules.{headerWords}
+use Rattle.run.specs.declared.Answer.{Answer}
+use Rattle.run.specs.declared.Answer.the-variants.{Refused, Ended}
+use Rattle.run.specs.declared.Ended.{Ended as Ending}
+use Rattle.run.specs.Run.{endNumber}
+use Rattle.joined.specs.Joined.{joinedOf}
 use Rattle.run_file.specs.RunFile.{resultsOf, parametersOf, budgetOf, memoryWords, stackWords, recordOf, wellFormed}
 use Rattle.text.specs.Text.{checkLine, endLine, listLine}
 
@@ -21,7 +21,7 @@ unfoldable pub endedText : List ℕ → Ending → List ℕ → List ℕ → Lis
 endedText r e m s =
     checkLine 0
     ++ (endLine (endNumber (e .ending)) (e .registers .pc) (lineAt r (headerOf r) (e .registers .pc)) (e .steps)
-    ++ (listLine 115 (take (e .registers .height) s) ++ listLine 103 (take (headerOf r .globals) (drop globalsStart m))))
+    ++ (listLine 115 (take (e .registers .height) s) ++ listLine 103 (take (headerOf r .globals) (drop headerWords m))))
 
 abbrev pub answerText : List ℕ → Answer → List ℕ → List ℕ → List ℕ
 answerText r (Refused n) m s = checkLine n

@@ -8,8 +8,8 @@ ghost use Rattle.run_file.specs.RunFile.{memoryWords, stackWords};
 ghost use Rattle.report.specs.Report.{endedText, answerText, output, printed};
 ghost use Rattle.report.specs.Buffers.{orEight, ranPage, partPage, leaving, delivered, reportOf};
 use header::Header;
-use machine::run::Answer;
-use machine::run::Ended;
+use run::Answer;
+use run::Ended;
 use source::Lookup;
 
 // At most `n` words from `at` on: those that there are.
@@ -45,7 +45,7 @@ fn put_ended(out: &mut [u8], r: &[u8], e: Ended, memory: &[u32], stack: &[u32]) 
     let h = header::header_of(r);
     let registers = e.registers;
     let how = e.ending;
-    let ending = machine::run::end_number(how);
+    let ending = run::end_number(how);
     let line = line_at(r, h, registers.pc);
     let end_at = text::put_check(out, 0, 0);
     let stack_at = text::put_end(out, end_at, ending, registers.pc, line, e.steps);
@@ -114,7 +114,7 @@ fn run_and_print(
     let r = run_file::record_of(f);
     let results = run_file::results_of(f);
     let budget = run_file::budget_of(f);
-    let answer = safety::check_load_run(r, results, workspace, parameters, budget, memory, stack);
+    let answer = joined::check_load_run(r, results, workspace, parameters, budget, memory, stack);
     print_answer(out, r, answer, memory, stack)
 }
 

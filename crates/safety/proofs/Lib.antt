@@ -1,23 +1,7 @@
--- Demand 3 from its parts: memory and frames, the stack below the share, slots and labels.
-pub mod Invariant
-pub mod FoundWords
-pub mod Sizes
-pub mod Framing
-pub mod BelowShare
-pub mod ProtectedWords
-pub mod Frames
-pub mod Shares
-pub mod Application
-pub mod Movement
-pub mod Jumps
-pub mod Tables
-pub mod LabelWords
-pub mod Labels
-pub mod Slots
-pub mod Places
+-- Demand 3 from the invariant of a run over the copies, carried over to the records.
+pub mod Lent
+pub mod Copies
+pub mod Carrying
 pub mod LoadedState
-pub mod Callers
-pub mod Advance
 pub mod Safety
 pub mod Ends
-pub mod JoinedCall

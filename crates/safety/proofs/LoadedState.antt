@@ -1,101 +1,82 @@
--- The invariant holds of a record that is freshly loaded: no call is active, the stack is empty, and procedure 0's entry is
--- where its stack picture begins.
-use mathlib.Core.Bool.{Bool, true, not, _&&_, and-eq-true-iff}
-use mathlib.Core.List.{List, [], _∷_}
-use mathlib.Core.Path.{_≡_, _∙_, refl}
-use Prim.Native.Nat.{ℕ, _≤_, _<_}
+-- The invariant holds of a set that is freshly loaded: no call is active, the stack is empty, and the entry of the main module's
+-- procedure 0 is where its stack map begins.
+use mathlib.Core.List.{List, []}
+use mathlib.Core.Path.{_≡_}
+use Prim.Native.Nat.{ℕ, _<_}
 use native.Mathlib.Omega.{arith}
-use lib.Dec.{eqb, leb}
 use lib.ListN.{length}
-use borrow.Author.Tests.{eqb-true, leb-true, not-false, eq-eqb}
-use Rattle.words.specs.Refusal.{_when_}
-use Rattle.words.proofs.Refusal.{cleared}
-use Rattle.words.proofs.Tests.{by-test}
-use Rattle.header.specs.Header.{headerOf, codeOf}
-use Rattle.entries.specs.Entries.{entryCount}
-use Rattle.record.specs.Number.{recordNumber}
+use Rattle.module_set.specs.Members.{Members}
+use Rattle.relocation.specs.Relocation.{copyOf}
+use Rattle.words.specs.Lent.{over}
 use Rattle.registers.specs.declared.Registers.{Registers}
-use Rattle.registers.specs.Program.{attributesOf, programOf, framesStart}
-use Rattle.registers.specs.State.{state}
-use Rattle.load.specs.declared.Loaded.the-variants.{Refused, Ready}
-use Rattle.state.specs.Fits.{sizesTaken}
-use Rattle.load.specs.Load.{Loading, loadedMemory, startOf, loadNumber, loadOf}
-use Rattle.state.proofs.Fitting.{Fitting, sizes-taken, fitted}
-use Rattle.load.proofs.Loading.{loaded-word, loaded-length, word-low, word-third}
-use Rattle.stackmap.specs.Ways.{Subject}
+use Rattle.registers.specs.Modules.{Modules}
+use Rattle.registers.specs.Program.{programAt}
+use Rattle.registers.specs.State.{State, state}
+use Rattle.load.specs.declared.Loaded.the-variants.{Ready}
+use Rattle.load.specs.Modules.{modulesOf}
+use Rattle.load.specs.Load.{Loading, loading, loadedMemory, startOf, setLoadNumber, setLoad}
+use Rattle.load.proofs.Modules.{modules-length, set-some}
+use Rattle.load.proofs.Loading.{loads, ready-number, ready-parts, begins-over, start-fits}
+use Rattle.run.specs.Run.{setRunNumber}
+use Rattle.run.proofs.Taking.{taken-whole, taken-ready}
 use Rattle.stackmap.specs.StackMap.{entered}
-use Rattle.safety.specs.Demand3.{loadedConfiguration, holds-none}
-use Rattle.safety.proofs.Invariant.{no-frame, no-caller, Inv}
+use Rattle.invariant.specs.Active.{Subjects}
+use Rattle.invariant.specs.Shares.{holds-none}
+use Rattle.invariant.proofs.Invariant.{no-frame, no-caller, Inv}
+use Rattle.invariant.proofs.Places.{Together}
+use Rattle.safety.specs.Demand3.{loadedConfiguration}
 
--- What load took, and what it left.
-pub record Taken (r parameters m s : List ℕ) (q : Registers) : Type 0 where
-  pub few : length parameters ≤ attributesOf r .globals
-  pub sizes : sizesTaken (attributesOf r) m s ≡ true
-  pub start : q ≡ startOf (programOf r)
-  pub memory : loadOf r parameters m s .memory ≡ loadedMemory r parameters (length m)
+module _ (S : Members) (parameters copy m s : List ℕ) (q : Registers)
+    (ready : setLoad S parameters copy m s .answer ≡ Ready q) where
+  abbrev pub L : Loading
+  L = setLoad S parameters copy m s
 
-pub refused-not : {A : Type 0} (n : ℕ) (q : Registers) → Refused n ≡ Ready q → A
-refused-not n q e = let z : _≡_ {A = ℕ} 0 1 = cc in absurd (omega arith)
+  abbrev Ms : Modules
+  Ms = modulesOf S
 
-module _ (r parameters m s : List ℕ) (q : Registers) (sound : recordNumber r ≡ 0) where
-  no-number : loadNumber r parameters m s ≡ 0 → (leb (length parameters) (attributesOf r .globals) ≡ true) ×
-      (sizesTaken (attributesOf r) m s ≡ true)
-  unfolding loadNumber
-  no-number e =
-      let few : Bool = leb (length parameters) (attributesOf r .globals) in
-      let sizes : Bool = sizesTaken (attributesOf r) m s in
-      and-eq-true-iff few sizes .0 (not-false (few && sizes) (cleared (8 when not (few && sizes) ∷ []) refl
-      (rw (eq-eqb (recordNumber r) 0 sound) at e) .0))
+  abbrev pub T : State
+  T = state q (L .memory) s
 
-  load-taken : loadOf r parameters m s .answer ≡ Ready q → Taken r parameters m s q
-  unfolding loadOf
-  load-taken =
-      by-test (λ (l : Loading). l .answer ≡ Ready q → Taken r parameters m s q) (eqb (loadNumber r parameters m s) 0) _ _
-      (λ e ready.
-      let (few, sizes) = no-number (eqb-true (loadNumber r parameters m s) 0 e) in
-      record { few = leb-true (length parameters) (attributesOf r .globals) few; sizes = sizes; start = cc; memory = rw e })
-      (λ e. refused-not (loadNumber r parameters m s) q)
+  taken : setLoadNumber S parameters copy m s ≡ 0
+  taken = ready-number S parameters copy m s q ready .0
 
-  module _ (ready : loadOf r parameters m s .answer ≡ Ready q) where
-    loaded-fits : Fitting (attributesOf r) (state q (loadOf r parameters m s .memory) s)
-    unfolding startOf
-    loaded-fits =
-        let T = load-taken ready in
-        let A = attributesOf r in
-        let (attributes, room, deep) = sizes-taken A m s (T .sizes) in
-        let size : length (loadedMemory r parameters (length m)) ≡ length m = loaded-length r parameters (length m) (T .few)
-        attributes in
-        rw (T .start, T .memory) (record {
-          attributes = rw size attributes;
-          room = rw size room;
-          deep = deep;
-          word0 = loaded-word r parameters (length m) 0 ∙ word-low r parameters (headerOf r) refl 0 (omega arith);
-          word1 = loaded-word r parameters (length m) 1 ∙ word-low r parameters (headerOf r) refl 1 (omega arith);
-          word2 = loaded-word r parameters (length m) 2 ∙ word-third r parameters (headerOf r) refl 2 refl;
-          global = refl;
-          frame = omega arith;
-          within = rw size attributes;
-          height = omega arith;
-          depth = omega arith;
-          links = eq-eqb (framesStart A) (framesStart A) refl;
-        })
+  start : q ≡ startOf (programAt Ms 0)
+  start = ready-number S parameters copy m s q ready .1
 
-    pub loaded-holds : (U : Subject) → U .code ≡ codeOf r → 0 < entryCount (U .code)
-        → Inv U (attributesOf r) (loadedConfiguration (state q (loadOf r parameters m s .memory) s))
-    unfolding startOf
-    loaded-holds U same some =
-        let T = load-taken ready in
-        let F = fitted (attributesOf r) (state q (loadOf r parameters m s .memory) s) loaded-fits in
-        record {
-          fitted = F;
-          framed = no-frame {fp = q .fp} (rw (T .start));
-          counted = rw (T .start);
-          placed = record {
-            procedure = some;
-            slots = [];
-            reached = rw (T .start, ← same) entered;
-            height = rw (T .start);
-            holds = holds-none;
-            suspended = no-caller;
-          };
-        }
+  left : loading (Ready (startOf (programAt Ms 0))) (over (copyOf S) copy) (loadedMemory S parameters (length m)) ≡ L
+  left = loads S parameters copy m s taken
+
+  first : 0 < length Ms
+  first = omega (arith, modules-length S, set-some S (ready-parts S parameters copy m s taken .0))
+
+  fit-state : T ≡ state (startOf (programAt Ms 0)) (loadedMemory S parameters (length m)) s
+  fit-state = rw (start, ← left)
+
+  -- A run of it is not refused.
+  pub run-taken : setRunNumber S (L .copy) 0 T ≡ 0
+  run-taken =
+      taken-whole S (L .copy) 0 T (record {
+        sound = ready-parts S parameters copy m s taken .0;
+        copied = rw (← left) (begins-over (copyOf S) copy);
+        there = first;
+        fit = rw fit-state (start-fits S parameters copy m s taken);
+      })
+
+  pub loaded-holds : (Us : Subjects) → Together Ms Us → Inv Ms Us (loadedConfiguration T)
+  unfolding startOf
+  loaded-holds Us together =
+      record {
+        ready = taken-ready S (L .copy) 0 T run-taken;
+        framed = no-frame {fp = q .fp} (rw start);
+        counted = rw start;
+        placed = record {
+          member = first;
+          global = rw start;
+          procedure = together .checked 0 first .cutted .some;
+          slots = [];
+          reached = rw (start, ← together .codes 0 first) entered;
+          height = rw start;
+          holds = holds-none;
+          suspended = no-caller;
+        };
+      }

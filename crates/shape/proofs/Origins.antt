@@ -1,20 +1,19 @@
 -- Where decoded shapes come from. A loop, a switch and a procedure's beginning are made by rows of their own in the tables of
 -- codes, none of which DOUBLE (F5) may stand before: the shape tells the first byte, and the first byte the row.
-use mathlib.Core.Bool.{Bool, true, false, cond, false≢true, _&&_, _||_, and-eq-true-iff}
+use mathlib.Core.Bool.{Bool, true, false, cond, false≢true, _||_}
 use mathlib.Core.Path.{_≡_, refl, ap}
-use mathlib.Core.List.{List, [], _∷_}
+use mathlib.Core.List.{List}
 use Prim.Native.Nat.{ℕ, _+_, _≤_}
 use native.Mathlib.Omega.{arith}
 use borrow.Author.Tests.{ne-eqb, eqb-true}
 use lib.Dec.{eqb}
 use Rattle.words.specs.Bytes.{byteAt}
 use Rattle.operand.specs.Operand.{operand, operand2}
-use Rattle.opcode.specs.Table.{Row, row, unserved, allows, Entry, entry, rowOf}
+use Rattle.opcode.specs.Table.{Row, row, unserved, allows, rowOf}
 use Rattle.opcode.specs.Codes.{iterCode, switchCode, switchXCode, enterOperands}
-use Rattle.opcode.specs.Table.{shortTable, dataTable, operationTable, controlTable}
 use Rattle.opcode.specs.Length.{lengthOf, lengthIn}
 use Rattle.opcode.specs.Decode.{made, instructionAt, decodeAt}
-use Rattle.opcode.proofs.Rows.{Every, row-every}
+use Rattle.opcode.proofs.Rows.{row-passes}
 use Rattle.opcode.proofs.Found.{Found, Origin, single, double, origin, decoded, unprefixed}
 use Rattle.opcode.specs.declared.Decoded.the-variants.{At}
 use Rattle.opcode.specs.declared.instruction.Mode.{Mode}
@@ -22,7 +21,7 @@ use Rattle.opcode.specs.declared.instruction.Mode.the-variants.{Normal, Double}
 use Rattle.opcode.specs.declared.instruction.Instruction.{Instruction}
 use Rattle.shape.specs.declared.Shape.{Shape}
 use Rattle.shape.specs.declared.Shape.the-variants.{Straight, Pop, Jump, JumpC, JumpTF, Iter}
-use Rattle.shape.specs.declared.Shape.the-variants.{Next, Switch, Leave, Call, Enter, Rtn}
+use Rattle.shape.specs.declared.Shape.the-variants.{Next, Switch, Leave, Call, CallExternal, Enter, Rtn}
 use Rattle.shape.specs.declared.Table.{Table}
 use Rattle.shape.specs.Shape.{shapeOf}
 
@@ -39,31 +38,8 @@ begins (JumpTF d) first = true
 begins Next first = true
 begins Leave first = true
 begins (Call p) first = true
+begins (CallExternal l p) first = true
 begins Rtn first = true
-
--- A test of every row of a table, with its key, by computing.
-abbrev every : (ℕ → Row → Bool) → List Entry → Bool
-every f [] = true
-every f (entry k r ∷ rest) = f k r && every f rest
-
-abbrev Passes : (ℕ → Row → Bool) → ℕ → Row → Type 0
-Passes f k r = f k r ≡ true
-
-all-pass : (f : ℕ → Row → Bool) (t : List Entry) → every f t ≡ true → Every (Passes f) t
-all-pass f [] e = tt
-all-pass f (entry k r ∷ rest) e =
-    let p = and-eq-true-iff (f k r) (every f rest) .0 e in
-    (p .0, all-pass f rest (p .1))
-
-row-passes :
-    (f : ℕ → Row → Bool) (code : ℕ) →
-    f code unserved ≡ true →
-    every (λ k. f code) shortTable ≡ true → every f dataTable ≡ true → every f operationTable ≡ true
-    → every f controlTable ≡ true →
-    f code (rowOf code) ≡ true
-row-passes f code u s d o c =
-    row-every (Passes f) code u (all-pass (λ k. f code) shortTable s) (all-pass f dataTable d) (all-pass f operationTable o)
-    (all-pass f controlTable c)
 
 module _ (m : Mode) (code : List ℕ) (at : ℕ) where
   -- The test: what a row makes in a mode that it serves may begin with the byte.

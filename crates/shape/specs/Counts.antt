@@ -3,7 +3,7 @@ use Prim.Native.Nat.{ℕ}
 use Rattle.opcode.specs.declared.instruction.Mode.{Mode}
 use Rattle.opcode.specs.declared.instruction.Mode.the-variants.{Normal, Double}
 use Rattle.opcode.specs.declared.instruction.Base.{Base}
-use Rattle.opcode.specs.declared.instruction.Base.the-variants.{Local, Global, Constant, Popped}
+use Rattle.opcode.specs.declared.instruction.Base.the-variants.{Local, Global, Constant, Popped, External}
 use Rattle.opcode.specs.declared.instruction.Operation.{Operation}
 use Rattle.opcode.specs.declared.instruction.Operation.the-variants.{Signed, Unsigned, Negate, Equal, NotEqual}
 use Rattle.opcode.specs.declared.instruction.Operation.the-variants.{CompareSigned, CompareUnsigned, Set, Not}
@@ -19,6 +19,7 @@ popped Local = 0
 popped Global = 0
 popped Constant = 0
 popped Popped = 1
+popped (External l) = 0
 
 -- The words that an operation takes, of which one comes in their place.
 abbrev pub operands : Operation → ℕ

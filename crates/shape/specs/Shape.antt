@@ -5,6 +5,7 @@ use Rattle.opcode.specs.declared.instruction.Instruction.{Instruction}
 use Rattle.opcode.specs.declared.instruction.Instruction.the-variants.{LoadConstant, Load, LoadAddress, Store, Pop, Swap, Nop}
 use Rattle.opcode.specs.declared.instruction.Instruction.the-variants.{Operate, Alloc, Free, Jump, JumpC, JumpT, JumpF, Iter}
 use Rattle.opcode.specs.declared.instruction.Instruction.the-variants.{Next, Switch, SwitchX, Leave, Call, Enter, Rtn}
+use Rattle.opcode.specs.declared.instruction.Instruction.the-variants.{CallExternal}
 use Rattle.shape.specs.declared.Shape.{Shape}
 use Rattle.shape.specs.declared.Shape.the-variants as shape
 use Rattle.shape.specs.declared.Shape.the-variants.{Straight}
@@ -33,6 +34,7 @@ shapeOf (Switch n) = shape.Switch Branches n  -- [ val => label ]
 shapeOf (SwitchX n) = shape.Switch Ranges n  -- [ val => label ]
 shapeOf Leave = shape.Leave  -- [ label => ]
 shapeOf (Call p) = shape.Call p  -- [ ]
+shapeOf (CallExternal l p) = shape.CallExternal l p  -- [ ]
 shapeOf (Enter par dat) = shape.Enter par  -- [ val, ..., val => ]
 shapeOf Rtn = shape.Rtn  -- [ ]
 
@@ -48,6 +50,7 @@ finds shape.Next = 5
 finds (shape.Switch t n) = 1
 finds shape.Leave = 1
 finds (shape.Call p) = 0
+finds (shape.CallExternal l p) = 0
 finds (shape.Enter par) = par
 finds shape.Rtn = 0
 

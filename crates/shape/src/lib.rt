@@ -35,6 +35,8 @@ pub enum Shape {
     Leave,
     // CALL
     Call(u32),
+    // CALL_E: library and procedure
+    CallExternal(u32, u32),
     // ENTER
     Enter(u32),
     // RTN
@@ -49,6 +51,7 @@ pub fn popped_words(base: Base) -> u32
         Base::Global => 0,
         Base::Constant => 0,
         Base::Popped => 1,
+        Base::External(_) => 0,
     }
 }
 
@@ -104,6 +107,7 @@ pub fn shape_of(i: Instruction) -> Shape
         Instruction::SwitchX(n) => Shape::Switch(Table::Ranges, n),
         Instruction::Leave => Shape::Leave,
         Instruction::Call(p) => Shape::Call(p),
+        Instruction::CallExternal(l, p) => Shape::CallExternal(l, p),
         Instruction::Enter(parameters, _) => Shape::Enter(parameters),
         Instruction::Rtn => Shape::Rtn,
     }
@@ -124,6 +128,7 @@ pub fn words_found(shape: Shape) -> u32
         Shape::Switch(_, _) => 1,
         Shape::Leave => 1,
         Shape::Call(_) => 0,
+        Shape::CallExternal(_, _) => 0,
         Shape::Enter(parameters) => parameters,
         Shape::Rtn => 0,
     }

@@ -7,7 +7,8 @@ use native.Mathlib.Omega.{arith}
 use Rattle.layout.specs.Cut.{updated}
 use Rattle.stackmap.specs.Slots.{Slot}
 use Rattle.stackmap.specs.Walk.{State, blank, waiting, done, States, Found, nowhere, found, orLater, waitingFrom}
-use Rattle.layout.proofs.Updates.{Change, changed, spared, change, updated-here, at-or-after}
+use Rattle.layout.proofs.Updates.{Change, changed, spared, change, updated-here}
+use Rattle.words.proofs.Left.{at-or-after}
 
 abbrev pub undoneIn : State → ℕ
 undoneIn blank = 1

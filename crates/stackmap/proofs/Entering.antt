@@ -17,7 +17,8 @@ use Rattle.stackmap.specs.Walk.{blank, waiting, done, States, mapOf, ent
 use Rattle.stackmap.specs.Theorems.{WellCut}
 use Rattle.words.proofs.Tests.{either}
 use Rattle.stackmap.proofs.Pushing.{words-height}
-use Rattle.layout.proofs.Updates.{Change, changed, spared, change, updated-here, at-or-after}
+use Rattle.layout.proofs.Updates.{Change, changed, spared, change, updated-here}
+use Rattle.words.proofs.Left.{at-or-after}
 use Rattle.stackmap.proofs.Placing.{owned, Placed, AllPlaced, placed, placed-update, waiting-early}
 
 -- The parameter words of an entry are a byte.

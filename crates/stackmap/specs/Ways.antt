@@ -9,20 +9,22 @@ use lib.Dec.{eqb, leb}
 use lib.ListN.{getD}
 use Rattle.words.specs.Bytes.{byteAt}
 use Rattle.entries.specs.Entries.{entryAt}
+use Rattle.entries.specs.Libraries.{Library, libraryIn}
 use Rattle.operand.specs.Operand.{fixedOf, operand}
 use Rattle.operand.specs.Distance.{placeAt}
 use Rattle.opcode.specs.Codes.{iterCode, switchCode, switchXCode, iterOperands, enterOperands}
 use Rattle.shape.specs.declared.Shape.{Shape}
 use Rattle.shape.specs.declared.Shape.the-variants.{Straight, Pop, Jump, JumpC, JumpTF, Iter}
-use Rattle.shape.specs.declared.Shape.the-variants.{Next, Switch, Leave, Call, Enter, Rtn}
+use Rattle.shape.specs.declared.Shape.the-variants.{Next, Switch, Leave, Call, CallExternal, Enter, Rtn}
 use Rattle.layout.specs.Cut.{Marks}
 use Rattle.successors.specs.Successors.{switchTargets}
 use Rattle.switch_table.specs.Switch.{exitLabel}
 use Rattle.stackmap.specs.Slots.{Slot, word, label, pushWords, popWords, popSlots, isWords}
 
--- The code under check, its results list, and its starts.
+-- The code under check, the libraries of its module in the order of its import list, its results list, and its starts.
 pub record Subject : Type 0 where
   pub code : List ℕ
+  pub libraries : List Library
   pub results : List ℕ
   pub marks : Marks
 
@@ -92,7 +94,8 @@ leaveOut code (label origin ∷ l) = cond (isSwitch code origin) (some (labelWor
 
 -- The ways out of the instruction at an offset of procedure p, of a shape, before `next`, from a list; none where the list is not
 -- as it must be. "JUMP_T and JUMP_F keep the boolean when they jump. CALL takes the callee's parameter words and leaves its result
--- words. RTN finds exactly its own procedure's result words."
+-- words. RTN finds exactly its own procedure's result words." CALL_E (02, K1): "a callee's entry (14), parameters and results taken
+-- from its own module".
 unfoldable pub ways : Subject → ℕ → ℕ → ℕ → Shape → List Slot → Option (List Way)
 ways U p at next (Straight pops pushes) l = straight next pops pushes l
 ways U p at next (Pop n) l = after (popSlots n l) (λ rest. next gets rest ∷ [])
@@ -104,5 +107,7 @@ ways U p at next Next l = nextOut (U .code) next l
 ways U p at next (Switch t n) l = after (popWords 1 l) (λ rest. toAll (switchTargets (U .code) at t n) (label at ∷ rest))
 ways U p at next Leave l = leaveOut (U .code) l
 ways U p at next (Call c) l = straight next (parametersIn (U .code) c) (resultsIn (U .results) c) l
+ways U p at next (CallExternal l c) k =
+    straight next (parametersIn (libraryIn (U .libraries) l .code) c) (resultsIn (libraryIn (U .libraries) l .results) c) k
 ways U p at next (Enter par) l = straight next par 0 l
 ways U p at next Rtn l = cond (isWords (resultsIn (U .results) p) l) (some []) none

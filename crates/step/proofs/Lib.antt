@@ -4,3 +4,4 @@ pub mod Outcomes
 pub mod Intact
 pub mod Steady
 pub mod Preservation
+pub mod Running

@@ -1,2 +1,3 @@
 -- A step.
 pub mod Step
+pub mod Ready

@@ -4,7 +4,7 @@
 use mathlib.Core.Bool.{cond}
 use mathlib.Core.List.{List, [], _∷_}
 use Prim.Native.Nat.{ℕ, _+_, _-_}
-use lib.Dec.{ltb}
+use lib.Dec.{eqb, ltb}
 use lib.ListN.{length}
 use lib.Seq.{sets}
 use Rattle.opcode.specs.Decode.{decodeAt}
@@ -14,12 +14,13 @@ use Rattle.shape.specs.Shape.{needed}
 use Rattle.effect.specs.declared.effect.Push.{Push}
 use Rattle.effect.specs.declared.effect.Push.the-variants.{NoPush, PushOne, PushTwo}
 use Rattle.effect.specs.declared.effect.Write.{Write}
-use Rattle.effect.specs.declared.effect.Write.the-variants.{NoWrite, WriteOne, WriteTwo, WritePopped}
+use Rattle.effect.specs.declared.effect.Write.the-variants.{NoWrite, WriteOne, WriteTwo, WriteThree, WritePopped}
 use Rattle.effect.specs.declared.effect.Effect.{Effect}
 use Rattle.effect.specs.declared.effect.Effect.the-variants.{Trap, Finish, Go}
 use Rattle.effect.specs.Data.{pushes}
 use Rattle.registers.specs.declared.Registers.{Registers}
-use Rattle.registers.specs.Program.{Program}
+use Rattle.registers.specs.Modules.{Modules}
+use Rattle.registers.specs.Program.{Program, running}
 use Rattle.registers.specs.State.{State, state}
 use Rattle.registers.specs.Changes.{raised}
 use Rattle.execute.specs.Execute.{topWords, executed}
@@ -53,6 +54,7 @@ abbrev pub written : List ℕ → List ℕ → Write → List ℕ
 written m popped NoWrite = m
 written m popped (WriteOne a x) = sets m a (x ∷ [])
 written m popped (WriteTwo a x y) = sets m a (x ∷ y ∷ [])
+written m popped (WriteThree a x y z) = sets m a (x ∷ y ∷ z ∷ [])
 written m popped (WritePopped a) = sets m a popped
 
 -- So many words go from the stack, these come in their place, these are written, and the registers are q but for the height.
@@ -62,13 +64,17 @@ applied S pops push write q =
     state (raised q (height - pops + pushes push)) (written (S .memory) (topWords pops height (S .stack)) write)
     (sets (S .stack) (height - pops) (pushed push))
 
+-- The code that is gone to: that of the module whose globals GP then points at, which is the running one where GP stays.
+abbrev pub codeAfter : Program → (gp : ℕ) → List ℕ
+codeAfter P gp = cond (eqb gp (P .attributes .globals)) (P .code) (running (P .modules) gp .code)
+
 -- The effect is carried out: room for the pushed words (36 is "stack full"), then the next place (21).
 unfoldable pub apply : Program → State → Effect → After
 apply P S (Trap n) = after (Trapped n) S
 apply P S Finish = after Finished S
 apply P S (Go pops push write q) =
     cond (ltb (length (S .stack)) (S .registers .height - pops + pushes push)) (after (Trapped 36) S)
-    (cond (ltb (q .pc) (length (P .code))) (after Went (applied S pops push write q)) (after (Trapped 21) S))
+    (cond (ltb (q .pc) (length (codeAfter P (q .gp)))) (after Went (applied S pops push write q)) (after (Trapped 21) S))
 
 -- Code traps: 20 is "unserved", 21 "offset or bytes outside the code", 22 "too few stack words".
 unfoldable pub perform : Program → State → Decoded → After
@@ -79,3 +85,7 @@ perform P S (At i next) =
 
 unfoldable pub stepOf : Program → State → After
 stepOf P S = perform P S (decodeAt (P .code) (length (P .code)) (S .registers .pc))
+
+-- A step of the module that runs: the one whose globals GP points at.
+abbrev pub stepIn : Modules → State → After
+stepIn Ms S = stepOf (running Ms (S .registers .gp)) S

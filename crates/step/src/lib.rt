@@ -6,16 +6,18 @@ ghost use lib.ListN.{length, take, drop};
 ghost use lib.Seq.{sets};
 ghost use Rattle.opcode.specs.Sheet.{Sheet};
 ghost use Rattle.effect.specs.Data.{pushes};
+ghost use Rattle.registers.specs.Modules.{modulesIn, framesStart};
 ghost use Rattle.registers.specs.Program.{program};
 ghost use Rattle.registers.specs.State.{state};
-ghost use Rattle.state.specs.Fits.{fits};
-ghost use Rattle.step.specs.Step.{left, trapping, pushed, written, apply, stepOf};
+ghost use Rattle.state.specs.Fits.{bounded};
+ghost use Rattle.step.specs.Step.{left, trapping, pushed, written, codeAfter, apply, stepOf};
 use effect::effect::Effect;
 use effect::effect::Push;
 use effect::effect::Write;
 use opcode::Decoded;
 use registers::Attributes;
 use registers::Registers;
+use registers::table;
 
 // The words of `src` copied to the front of `dst`, as many as it has room for.
 fn copy_words(dst: &mut [u32], src: &[u32])
@@ -56,6 +58,11 @@ fn write_words(memory: &mut [u32], stack: &[u32], low: usize, pops: u32, write: 
         Write::WriteTwo(a, x, y) => {
             words::set_word(memory, a as usize, x);
             words::set_word(memory, (a as usize) + 1, y);
+        }
+        Write::WriteThree(a, x, y, z) => {
+            words::set_word(memory, a as usize, x);
+            words::set_word(memory, (a as usize) + 1, y);
+            words::set_word(memory, (a as usize) + 2, z);
         }
         Write::WritePopped(a) => {
             move_words(memory, a, stack, low, pops);
@@ -100,6 +107,26 @@ fn push_count(push: Push) -> usize
     }
 }
 
+// How many bytes the code has that is gone to with another GP, or stays.
+fn code_size(table: &[u32], copy: &[u8], code: &[u8], attributes: Attributes, gp: u32) -> usize
+    requires { ⌜ length (now table) ≤ 80 ⌝ }
+    ensures { λ n. ⌜ n
+        ≡ length (codeAfter (program (now (code .entry)) attributes (modulesIn (now (table .entry)) (now (copy .entry)))) gp) ⌝ }
+{
+    if gp == attributes.globals {
+        return code.len();
+    }
+    let k = table::number_at(table, gp as usize);
+    if table::count(table) <= k {
+        return 0;
+    }
+    words::part(
+        copy,
+        table::row_word(table, k, 0),
+        table::row_word(table, k, 1),
+    ).len()
+}
+
 // The machine: its registers. A step is a method here, since a method stands in the crate of its type.
 pub struct Machine {
     pub registers: Registers,
@@ -131,15 +158,18 @@ impl Machine {
     // Carries an effect out.
     fn apply(
         mut self,
+        table: &[u32],
+        copy: &[u8],
         code: &[u8],
         attributes: Attributes,
         memory: &mut [u32],
         stack: &mut [u32],
         e: Effect,
     ) -> Stepped
+        requires { ⌜ length (now table) ≤ 80 ⌝ }
         requires { ⌜ length (now stack) ≤ 1024 ⌝ }
         ensures { λ r. ⌜ left r (now (memory .exit)) (now (stack .exit))
-            ≡ apply (program (now (code .entry)) attributes)
+            ≡ apply (program (now (code .entry)) attributes (modulesIn (now (table .entry)) (now (copy .entry))))
             (state (self .registers) (now (memory .entry)) (now (stack .entry))) e ⌝ }
     {
         match e {
@@ -154,7 +184,7 @@ impl Machine {
                 if stack.len() < height {
                     return self.trapped(36);
                 }
-                if code.len() <= (next.pc as usize) {
+                if code_size(table, copy, code, attributes, next.gp) <= (next.pc as usize) {
                     return self.trapped(21);
                 }
                 write_words(memory, stack, low, pops, write);
@@ -172,6 +202,8 @@ impl Machine {
     pub fn step(
         mut self,
         formats: &[u16],
+        table: &[u32],
+        copy: &[u8],
         code: &[u8],
         attributes: Attributes,
         memory: &mut [u32],
@@ -179,9 +211,11 @@ impl Machine {
     ) -> Stepped
         requires { ⌜ Sheet (now formats) ⌝ }
         requires { ⌜ length (now code) ≤ 4096 ⌝ }
-        requires { ⌜ fits attributes (state (self .registers) (now memory) (now stack)) ≡ true ⌝ }
+        requires { ⌜ length (now table) ≤ 80 ⌝ }
+        requires { ⌜ framesStart (modulesIn (now table) (now copy)) ≤ 16384 ⌝ }
+        requires { ⌜ bounded attributes (state (self .registers) (now memory) (now stack)) ≡ true ⌝ }
         ensures { λ r. ⌜ left r (now (memory .exit)) (now (stack .exit))
-            ≡ stepOf (program (now (code .entry)) attributes)
+            ≡ stepOf (program (now (code .entry)) attributes (modulesIn (now (table .entry)) (now (copy .entry))))
             (state (self .registers) (now (memory .entry)) (now (stack .entry))) ⌝ }
     {
         let q = self.registers;
@@ -193,8 +227,18 @@ impl Machine {
                 if q.height < shape::needed_words(i) {
                     return self.trapped(22);
                 }
-                let e = execute::execute(code, attributes, q, memory, stack, next as u32, i);
-                self.apply(code, attributes, memory, stack, e)
+                let e = execute::execute(
+                    table,
+                    copy,
+                    code,
+                    attributes,
+                    q,
+                    memory,
+                    stack,
+                    next as u32,
+                    i,
+                );
+                self.apply(table, copy, code, attributes, memory, stack, e)
             }
         }
     }

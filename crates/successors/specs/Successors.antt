@@ -6,7 +6,7 @@ use Rattle.operand.specs.Distance.{placeAt}
 use Rattle.switch_table.specs.Switch.{exitLabel, elseDistance, branchDistance, rangeDistance, orElse}
 use Rattle.shape.specs.declared.Shape.{Shape}
 use Rattle.shape.specs.declared.Shape.the-variants.{Straight, Pop, Jump, JumpC, JumpTF, Iter}
-use Rattle.shape.specs.declared.Shape.the-variants.{Next, Switch, Leave, Call, Enter, Rtn}
+use Rattle.shape.specs.declared.Shape.the-variants.{Next, Switch, Leave, Call, CallExternal, Enter, Rtn}
 use Rattle.shape.specs.declared.Table.{Table}
 use Rattle.shape.specs.declared.Table.the-variants.{Branches, Ranges}
 
@@ -43,5 +43,6 @@ targets code at next Next = next ∷ []
 targets code at next (Switch t n) = exitLabel code at ∷ switchTargets code at t n
 targets code at next Leave = []
 targets code at next (Call p) = next ∷ []
+targets code at next (CallExternal l p) = next ∷ []
 targets code at next (Enter par) = next ∷ []
 targets code at next Rtn = []

@@ -10,10 +10,11 @@ use native.Mathlib.Numerals.{add-one}
 use lib.Dec.{eqb, leb, leb·suc-suc}
 use lib.ListN.{length}
 use borrow.Author.Tests.{le-leb, lt-leb}
+use Rattle.entries.specs.Libraries.{libraryIn}
 use Rattle.operand.specs.Distance.{placeAt}
 use Rattle.shape.specs.declared.Shape.{Shape}
 use Rattle.shape.specs.declared.Shape.the-variants.{Straight, Pop, Jump, JumpC, JumpTF, Iter}
-use Rattle.shape.specs.declared.Shape.the-variants.{Next, Switch, Leave, Call, Enter, Rtn}
+use Rattle.shape.specs.declared.Shape.the-variants.{Next, Switch, Leave, Call, CallExternal, Enter, Rtn}
 use Rattle.shape.specs.declared.Table.{Table}
 use Rattle.successors.specs.Successors.{switchTargets}
 use Rattle.switch_table.specs.Switch.{exitLabel}
@@ -27,7 +28,7 @@ use Rattle.compact_ways.specs.declared.Ways.{Ways}
 use Rattle.compact_ways.specs.declared.Ways.the-variants.{Broken, Ended, One, Two}
 use Rattle.compact.specs.Tops.{originUnder, poppable, labelled, lowered, loweredBy}
 use Rattle.compact_ways.specs.Ways.{way, toward, inOrder, straightWays, popWays, jumpCWays, jumpTFWays, iterWays}
-use Rattle.compact_ways.specs.Ways.{nextFrom, nextWays, leaveFrom, leaveWays, switchWays, rtnWays, waysTop}
+use Rattle.compact_ways.specs.Ways.{nextFrom, nextWays, leaveFrom, leaveWays, switchWays, rtnWays, externalWays, waysTop}
 use Rattle.verifier.proofs.Coherence.{Lies, on-iter, on-switch, Coherent, on-nothing, on-word, on-label, ShowsMap}
 use Rattle.verifier.proofs.Coherence.{topOf, compactOf, Stands, broken, ended, one, two, many}
 use Rattle.stackmap.proofs.Pushing.{pushed-height, pushed-origin}
@@ -184,8 +185,8 @@ module _ {code w : List ℕ} {π : Map} (S : ShowsMap w π) where
 
 pub ways-stand : (U : Subject) (p at next : ℕ) (s : Shape) (w : List ℕ) (π : Map) (l : List Slot) → Coherent (U .code) π l
     → ShowsMap w π
-    → Stands (U .code) at (waysTop (U .code) (U .results) w p at next s (topOf l)) (ways U p at next s l)
-unfolding ways waysTop
+    → Stands (U .code) at (waysTop (U .code) (U .libraries) (U .results) w p at next s (topOf l)) (ways U p at next s l)
+unfolding ways waysTop externalWays
 ways-stand U p at next (Straight pops pushes) w π l c S = straight-stands S at next pops pushes l c
 ways-stand U p at next (Pop n) w π l c S = pop-stands S at next n l c
 ways-stand U p at next (Jump d) w π l c S = one (placeAt at d gets l)
@@ -196,5 +197,8 @@ ways-stand U p at next Next w π l c S = next-stands S at next l c
 ways-stand U p at next (Switch t n) w π l c S = switch-stands S at n t l c
 ways-stand U p at next Leave w π l c S = leave-stands S at l c
 ways-stand U p at next (Call q) w π l c S = straight-stands S at next (parametersIn (U .code) q) (resultsIn (U .results) q) l c
+ways-stand U p at next (CallExternal b q) w π l c S =
+    let library = libraryIn (U .libraries) b in
+    straight-stands S at next (parametersIn (library .code) q) (resultsIn (library .results) q) l c
 ways-stand U p at next (Enter par) w π l c S = straight-stands S at next par 0 l c
 ways-stand U p at next Rtn w π l c S = rtn-stands (U .code) at (resultsIn (U .results) p) l

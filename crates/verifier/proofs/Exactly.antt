@@ -1,5 +1,6 @@
--- The check accepts exactly the records that meet the rules and whose regions all have maps, gives 15 exactly where one has none, and
--- shows what is reached: where the rules are met the walk decides, and any number but 1 to 14 says that they are.
+-- The check accepts exactly the sets that meet the rules, the own module's regions all having maps, gives 15 exactly where
+-- one has none, and shows what is reached: where the rules are met the walk decides, and the numbers 0 and 15 say that they
+-- are.
 use mathlib.Core.List.{List}
 use mathlib.Core.Logic.{_⊎_, inl, inr, ⊎-elim}
 use mathlib.Core.Option.{Option, none, some}
@@ -8,24 +9,24 @@ use Prim.Native.Nat.{ℕ, suc, _+_, _*_, _<_, _≤_}
 use native.Mathlib.Nat.{zero-add}
 use native.Mathlib.Omega.{arith}
 use lib.ListN.{length, getD, drop, List·getD-append}
-use borrow.Author.Tests.{le-ltb}
-use Rattle.header.specs.Header.{codeOf}
+use borrow.Author.Tests.{lt-leb, le-ltb}
+use Rattle.module_set.specs.Members.{Members, memberAt}
 use Rattle.stackmap.specs.Slots.{Slot}
 use Rattle.stackmap.specs.Theorems.{WellCut, mapIn}
 use Rattle.stackmap.specs.Walk.{State, States, slotsIn, blank, waiting, done, walkOf}
 use Rattle.stackmap.proofs.Placing.{in-told}
 use Rattle.stackmap.proofs.Exact.{finds-maps, refutes-maps, finds-reached, has-reached}
-use Rattle.verifier.specs.Check.{listNumber, accepted, walked, verdictOf, concluded, shownState, shownFrom, checkOf}
-use Rattle.words.specs.Bytes.{Bytes}
-use Rattle.verifier.specs.Exact.{Ruled, subject, Mapped, Unmapped, Room, Met}
+use Rattle.verifier.specs.Check.{librariesOf, listNumber, accepted, walked, verdictOf, concluded}
+use Rattle.verifier.specs.Check.{shownState, shownFrom, setCheck}
+use Rattle.verifier.specs.Exact.{codeAt, Ruled, subject, Mapped, Unmapped, Room, Met, AllBytes}
 use Rattle.verifier.specs.Exact.{AcceptsExactly, RefusesExactly, ShowsReached, ShowsNoMore}
-use Rattle.record.proofs.Sound.{numberless}
-use Rattle.verifier.proofs.Records.{Listed, code-bytes}
+use Rattle.verifier.proofs.Records.{Listed, a-module, code-bytes}
 use Rattle.verifier.proofs.Keeping.{state-shows}
 use Rattle.verifier.proofs.Concluding.{sound}
 use Rattle.verifier.proofs.Showing.{shown-at, shown-length}
-use Rattle.verifier.proofs.Ranges.{list-range, code-range, cut-range}
-use Rattle.verifier.proofs.Accepting.{Answers, early, late, answers, Judged, miscut, faulty, sound-code, judged}
+use Rattle.verifier.proofs.Ranges.{list-no-15, codes-range}
+use Rattle.verifier.proofs.Ruling.{codes-ruled, ruled-walks}
+use Rattle.verifier.proofs.Accepting.{Answers, early, late, answers, Judged, faulty, sound-codes, judgement}
 
 -- A state has a list or is blank.
 listed-or-blank : (s : State) → ((l : List Slot) × (slotsIn s ≡ some l)) ⊎ (s ≡ blank)
@@ -33,134 +34,141 @@ listed-or-blank blank = inr refl
 listed-or-blank (waiting l) = inl (l, refl)
 listed-or-blank (done l) = inl (l, refl)
 
-module _ (r results w : List ℕ) where
+module _ (S : Members) (own : ℕ) (w : List ℕ) where
   abbrev code : List ℕ
-  code = codeOf r
+  code = codeAt S own
 
-  ruled-sound : Bytes r → (R : Ruled r results) → WellCut (subject r results R)
-  ruled-sound b R = sound code results (R .marks) (numberless r (R .record-sound) .entries) (code-bytes r b) (R .is-cut)
+  ruled-sound : AllBytes S → own < length S → (R : Ruled S) → WellCut (subject S R own)
+  ruled-sound b h R =
+      sound code (librariesOf S (memberAt S own .bytes)) (memberAt S own .results) (R .marks own)
+      (a-module S own (R .set-sound) h .entries) (code-bytes (memberAt S own .bytes) (b own)) (R .are-cut own h)
 
-  no-number : Room r w → Ruled r results → listNumber r results (length w) ≡ 0
+  no-number : Room S own w → Ruled S → listNumber S own (length w) ≡ 0
   unfolding listNumber
-  no-number room R = rw (R .record-sound, le-ltb (length w) (4 * length code) room, R .list-sound)
+  no-number room R =
+      rw (R .set-sound, lt-leb (length S) own (room .0), le-ltb (length w) (4 * length code) (room .1), R .lists-sound)
 
   -- Where the rules are met, the walk decides.
-  ruled-leaves : Room r w → (R : Ruled r results) → checkOf r results w ≡ concluded (length code) w (walked (walkOf (subject r results R)))
-  unfolding checkOf verdictOf
-  ruled-leaves room R = rw (no-number room R, R .is-cut, R .in-order)
+  ruled-leaves : Room S own w → (R : Ruled S) → setCheck S own w ≡ concluded (length code) w (walked (walkOf (subject S R own)))
+  unfolding setCheck
+  ruled-leaves room R = rw (no-number room R, ruled-walks S R own (room .0))
 
-  -- They are met, unless the number is one of 1 to 14.
-  ruled : (checkOf r results w .number ≤ 14 → checkOf r results w .number ≡ 0) → Room r w × Ruled r results
-  ruled other = by (answers r results w)
+  -- They are met, if the number is 0 or 15.
+  ruled : (setCheck S own w .number ≡ 0) ⊎ (setCheck S own w .number ≡ 15) → Room S own w × Ruled S
+  ruled either = by (answers S own w)
     where
-      late-by : Listed r results (length w) → checkOf r results w ≡ concluded (length code) w (verdictOf code results)
-          → Judged code results → Room r w × Ruled r results
-      late-by L g (miscut n c v) =
-          let z : n ≤ 14 → n ≡ 0 = rw (g, v) at other in
-          absurd (omega (arith, cut-range code n c, z (omega (arith, cut-range code n c))))
-      late-by L g (faulty marks n c f v) =
-          let z : suc n ≤ 14 → suc n ≡ 0 = rw (g, v) at other in
-          absurd (omega (arith, z (omega (arith, f, code-range code marks))))
-      late-by L g (sound-code marks c f v) =
-          (L .enough, record { record-sound = L .numberless; list-sound = L .fitting; marks = marks; is-cut = c; in-order = f })
+      late-by : Listed S own (length w) → setCheck S own w ≡ concluded (length code) w (verdictOf S own)
+          → Judged S own → Room S own w × Ruled S
+      late-by L g (faulty n e v) =
+          let z : (suc n ≡ 0) ⊎ (suc n ≡ 15) = rw (g, v) at either in
+          let r : suc n ≤ 14 = omega (arith, e, codes-range S) in
+          absurd (⊎-elim (λ (q : suc n ≡ 0). omega arith) (λ (q : suc n ≡ 15). omega arith) z)
+      late-by L g (sound-codes e v) = ((L .inside, L .enough), codes-ruled S (L .linkable) e)
 
-      by : Answers r results w → Room r w × Ruled r results
+      by : Answers S own w → Room S own w × Ruled S
       by (early n f g) =
-          let z : suc n ≤ 14 → suc n ≡ 0 = rw g at other in
-          absurd (omega (arith, z (omega (arith, f, list-range r results (length w)))))
-      by (late L g) = late-by L g (judged code results)
+          let z : (suc n ≡ 0) ⊎ (suc n ≡ 15) = rw g at either in
+          absurd (⊎-elim (λ (q : suc n ≡ 0). omega arith) (λ (q : suc n ≡ 15). list-no-15 S own (length w) (f ∙ q)) z)
+      by (late L g) = late-by L g (judgement S own)
 
   -- What a number of 0 says.
-  record Passed (R : Ruled r results) : Type 0 where
+  record Passed (R : Ruled S) : Type 0 where
     states : States
-    walks : walkOf (subject r results R) ≡ some states
-    leaves : checkOf r results w ≡ concluded (length code) w (accepted states)
+    walks : walkOf (subject S R own) ≡ some states
+    leaves : setCheck S own w ≡ concluded (length code) w (accepted states)
 
-  passed : checkOf r results w .number ≡ 0 → (R : Ruled r results) → Passed R
-  passed e R = by (walkOf (subject r results R)) refl (ruled-leaves (ruled (λ l. e) .0) R)
+  passed : setCheck S own w .number ≡ 0 → (R : Ruled S) → Passed R
+  passed e R = by (walkOf (subject S R own)) refl (ruled-leaves (ruled (inl e) .0) R)
     where
-      by : (o : Option States) → walkOf (subject r results R) ≡ o → checkOf r results w ≡ concluded (length code) w (walked o) → Passed R
+      by : (o : Option States) → walkOf (subject S R own) ≡ o → setCheck S own w ≡ concluded (length code) w (walked o) → Passed R
       by none f g = let z : _≡_ {A = ℕ} 15 0 = rw g at e in absurd (omega arith)
       by (some σ) f g = record { states = σ; walks = f; leaves = g }
 
   -- The workspace shows the states found.
-  index : {R : Ruled r results} (P : Passed R) (i at k : ℕ) → i ≡ 4 * at + k → at < length code → k < 4
-      → getD (checkOf r results w .workspace) i 0 ≡ getD (shownState (P .states at)) k 0
+  index : {R : Ruled S} (P : Passed R) (i at k : ℕ) → i ≡ 4 * at + k → at < length code → k < 4
+      → getD (setCheck S own w .workspace) i 0 ≡ getD (shownState (P .states at)) k 0
   index P i at k e a b =
       let shown = shownFrom (P .states) 0 (length code) in
       let near : 4 * at + k < length shown = omega (arith, shown-length (P .states) 0 (length code)) in
-      rw (e, P .leaves, List·getD-append shown (drop (4 * length code) w) 0 (4 * at + k) near, shown-at (P .states) 0 (length code) at k a b, zero-add at)
+      rw (
+        e,
+        P .leaves,
+        List·getD-append shown (drop (4 * length code) w) 0 (4 * at + k) near,
+        shown-at (P .states) 0 (length code) at k a b,
+        zero-add at,
+      )
 
-module _ (r results w : List ℕ) (b : Bytes r) where
-  accepts-only : checkOf r results w .number ≡ 0 → Met Mapped r results w
+module _ (S : Members) (own : ℕ) (w : List ℕ) (b : AllBytes S) where
+  accepts-only : setCheck S own w .number ≡ 0 → Met Mapped S own w
   accepts-only e =
-      let met = ruled r results w (λ l. e) in
-      let U = subject r results (met .1) in
-      let P = passed r results w e (met .1) in
-      let sound = ruled-sound r results w b (met .1) in
+      let met = ruled S own w (inl e) in
+      let U = subject S (met .1) own in
+      let P = passed S own w e (met .1) in
+      let sound = ruled-sound S own w b (met .0 .0) (met .1) in
       (met .0, met .1, λ p h. (mapIn U p (P .states), finds-maps U sound (P .states) (P .walks) p h))
 
-  accepts-all : Met Mapped r results w → checkOf r results w .number ≡ 0
-  accepts-all (room, R, maps) = rw (ruled-leaves r results w room R) (by (walkOf (subject r results R)) refl)
+  accepts-all : Met Mapped S own w → setCheck S own w .number ≡ 0
+  accepts-all (room, R, maps) = rw (ruled-leaves S own w room R) (by (walkOf (subject S R own)) refl)
     where
-      by : (o : Option States) → walkOf (subject r results R) ≡ o → concluded (length (codeOf r)) w (walked o) .number ≡ 0
+      by : (o : Option States) → walkOf (subject S R own) ≡ o → concluded (length (codeAt S own)) w (walked o) .number ≡ 0
       by none f =
-          let x = refutes-maps (subject r results R) (ruled-sound r results w b R) f in
+          let x = refutes-maps (subject S R own) (ruled-sound S own w b (room .0) R) f in
           let m = maps (x .0) (x .1) in
           absurd (x .2 (m .0) (m .1))
       by (some σ) f = refl
 
-  refuses-only : checkOf r results w .number ≡ 15 → Met Unmapped r results w
+  refuses-only : setCheck S own w .number ≡ 15 → Met Unmapped S own w
   refuses-only e =
-      let met = ruled r results w (λ l. absurd (omega arith)) in
-      (met .0, met .1, by (met .1) (walkOf (subject r results (met .1))) refl (ruled-leaves r results w (met .0) (met .1)))
+      let met = ruled S own w (inr e) in
+      (met .0, met .1, by (met .0 .0) (met .1) (walkOf (subject S (met .1) own)) refl (ruled-leaves S own w (met .0) (met .1)))
     where
-      by : (R : Ruled r results) (o : Option States) → walkOf (subject r results R) ≡ o
-          → checkOf r results w ≡ concluded (length (codeOf r)) w (walked o) → Unmapped r results R
-      by R none f g = refutes-maps (subject r results R) (ruled-sound r results w b R) f
-      by R (some σ) f g = let z : _≡_ {A = ℕ} 0 15 = rw g at e in absurd (omega arith)
+      by : own < length S → (R : Ruled S) (o : Option States) → walkOf (subject S R own) ≡ o
+          → setCheck S own w ≡ concluded (length (codeAt S own)) w (walked o) → Unmapped S R own
+      by h R none f g = refutes-maps (subject S R own) (ruled-sound S own w b h R) f
+      by h R (some σ) f g = let z : _≡_ {A = ℕ} 0 15 = rw g at e in absurd (omega arith)
 
-  refuses-all : Met Unmapped r results w → checkOf r results w .number ≡ 15
-  refuses-all (room, R, N) = rw (ruled-leaves r results w room R) (by (walkOf (subject r results R)) refl)
+  refuses-all : Met Unmapped S own w → setCheck S own w .number ≡ 15
+  refuses-all (room, R, N) = rw (ruled-leaves S own w room R) (by (walkOf (subject S R own)) refl)
     where
-      by : (o : Option States) → walkOf (subject r results R) ≡ o → concluded (length (codeOf r)) w (walked o) .number ≡ 15
+      by : (o : Option States) → walkOf (subject S R own) ≡ o → concluded (length (codeAt S own)) w (walked o) .number ≡ 15
       by none f = refl
       by (some σ) f =
-          let U = subject r results R in
-          absurd (N .2 (mapIn U (N .0) σ) (finds-maps U (ruled-sound r results w b R) σ f (N .0) (N .1)))
+          let U = subject S R own in
+          absurd (N .2 (mapIn U (N .0) σ) (finds-maps U (ruled-sound S own w b (room .0) R) σ f (N .0) (N .1)))
 
 pub accepts-exactly : AcceptsExactly
-accepts-exactly r results w b = (accepts-only r results w b, accepts-all r results w b)
+accepts-exactly S own w b = (accepts-only S own w b, accepts-all S own w b)
 
 pub refuses-exactly : RefusesExactly
-refuses-exactly r results w b = (refuses-only r results w b, refuses-all r results w b)
+refuses-exactly S own w b = (refuses-only S own w b, refuses-all S own w b)
 
 -- What is reached has its list in the states found.
 pub shows-reached : ShowsReached
-shows-reached r results w b e R p h at l reached =
-    let U = subject r results R in
-    let S = ruled-sound r results w b R in
-    let P = passed r results w e R in
-    let has = has-reached U p (mapIn U p (P .states)) (finds-maps U S (P .states) (P .walks) p h) at l reached in
+shows-reached S own w b e R p h at l reached =
+    let U = subject S R own in
+    let W = ruled-sound S own w b (ruled S own w (inl e) .0 .0) R in
+    let P = passed S own w e R in
+    let has = has-reached U p (mapIn U p (P .states)) (finds-maps U W (P .states) (P .walks) p h) at l reached in
     let told = in-told U p (P .states) at l has in
-    let near = S .within p at (told .0) in
+    let near = W .within p at (told .0) in
     let s = state-shows (P .states at) l (told .1) in
     record {
-      height = index r results w P (4 * at) at 0 (omega arith) near (omega arith) ∙ s .height;
-      origin = index r results w P (4 * at + 1) at 1 refl near (omega arith) ∙ s .origin;
+      height = index S own w P (4 * at) at 0 (omega arith) near (omega arith) ∙ s .height;
+      origin = index S own w P (4 * at + 1) at 1 refl near (omega arith) ∙ s .origin;
     }
 
 -- An offset that the states found have no list for shows 0 and 0; what they have is reached.
 pub shows-no-more : ShowsNoMore
-shows-no-more r results w b e R at h =
-    let P = passed r results w e R in
+shows-no-more S own w b e R at h =
+    let P = passed S own w e R in
+    let W = ruled-sound S own w b (ruled S own w (inl e) .0 .0) R in
     ⊎-elim
     (λ (x : (l : List Slot) × (slotsIn (P .states at) ≡ some l)).
-    let y = finds-reached (subject r results R) (ruled-sound r results w b R) (P .states) (P .walks) at (x .0) (x .1) in
+    let y = finds-reached (subject S R own) W (P .states) (P .walks) at (x .0) (x .1) in
     inl (y .0, x .0, y .1, y .2))
     (λ (x : P .states at ≡ blank).
     inr (
-      index r results w P (4 * at) at 0 (omega arith) h (omega arith) ∙ rw x,
-      index r results w P (4 * at + 1) at 1 refl h (omega arith) ∙ rw x,
+      index S own w P (4 * at) at 0 (omega arith) h (omega arith) ∙ rw x,
+      index S own w P (4 * at + 1) at 1 refl h (omega arith) ∙ rw x,
     ))
     (listed-or-blank (P .states at))

@@ -13,10 +13,15 @@ pub mod Starting
 pub mod Simulation
 pub mod Showing
 pub mod Concluding
+pub mod Firsts
 pub mod Records
-pub mod Accepting
 pub mod Ranges
+pub mod Ruling
+pub mod Accepting
 pub mod Exactly
 pub mod Steps
 pub mod Turning
 pub mod Borrowing
+pub mod Tables
+pub mod Rowing
+pub mod Scratch

@@ -7,6 +7,7 @@ use mathlib.Core.Path.{_≡_, refl, subst}
 use Prim.Native.Nat.{ℕ, zero, suc}
 use lib.Dec.{leb}
 use borrow.Author.Tests.{eq-eqb}
+use Rattle.entries.specs.Libraries.{libraryIn}
 use Rattle.words.specs.Bytes.{byteAt}
 use Rattle.words.proofs.Tests.{either}
 use Rattle.opcode.specs.Decode.{decodeAt}
@@ -16,7 +17,7 @@ use Rattle.opcode.specs.declared.instruction.Instruction.{Instruction}
 use Rattle.shape.specs.Shape.{shapeOf}
 use Rattle.shape.specs.declared.Shape.{Shape}
 use Rattle.shape.specs.declared.Shape.the-variants.{Straight, Pop, Jump, JumpC, JumpTF, Iter}
-use Rattle.shape.specs.declared.Shape.the-variants.{Next, Switch, Leave, Call, Enter, Rtn}
+use Rattle.shape.specs.declared.Shape.the-variants.{Next, Switch, Leave, Call, CallExternal, Enter, Rtn}
 use Rattle.shape.proofs.Origins.{iter-origin, switch-origin}
 use Rattle.successors.specs.Successors.{switchTargets}
 use Rattle.stackmap.specs.Slots.{Slot, word, label, pushWords, popWords, popSlots, isWords}
@@ -120,6 +121,9 @@ shape-passes U p at next limit i (Switch t n) π l q d c e =
 shape-passes U p at next limit i Leave π l q d c e = leave-passes l c
 shape-passes U p at next limit i (Call f) π l q d c e =
     straight-passes next (parametersIn (U .code) f) (resultsIn (U .results) f) l c
+shape-passes U p at next limit i (CallExternal b f) π l q d c e =
+    let library = libraryIn (U .libraries) b in
+    straight-passes next (parametersIn (library .code) f) (resultsIn (library .results) f) l c
 shape-passes U p at next limit i (Enter par) π l q d c e = straight-passes next par 0 l c
 shape-passes U p at next limit i Rtn π l q d c e =
     either (Passes (U .code) π) (isWords (resultsIn (U .results) p) l) (some []) none (passing no-way) nothing

@@ -9,13 +9,13 @@ use lib.Dec.{ltb}
 use lib.ListN.{length, getD, set, length-set, length-append, List·getD-append}
 use lib.Seq.{ext-getD, getD-set-same, getD-set-other}
 use borrow.Author.Tests.{ltb-true, ltb-false}
-use Rattle.layout.proofs.Updates.{at-or-after}
+use Rattle.words.proofs.Left.{at-or-after}
 use Rattle.stackmap.specs.Walk.{State, States, blank, waiting, done}
 use Rattle.verifier.specs.Check.{shownState, shownFrom}
 use Rattle.verifier.specs.Examine.{unmarked}
 use Rattle.verifier.proofs.Coherence.{Shown}
 
-unmarked-length : (at n : ℕ) (w : List ℕ) → length (unmarked at n w) ≡ length w
+pub unmarked-length : (at n : ℕ) (w : List ℕ) → length (unmarked at n w) ≡ length w
 unmarked-length at zero w = refl
 unmarked-length at (suc n) w = unmarked-length (at + 1) n (set w (4 * at + 3) 0) ∙ length-set w (4 * at + 3) 0
 
@@ -27,7 +27,7 @@ unmarked-other at (suc n) w j h =
     unmarked-other (at + 1) n (set w (4 * at + 3) 0) j (λ b l m e. h b (omega arith) (omega arith) e)
     ∙ getD-set-other w (4 * at + 3) j 0 0 (λ e. h at (omega arith) (omega arith) (omega arith))
 
-unmarked-mark : (at n : ℕ) (w : List ℕ) (a : ℕ) → at ≤ a → a < at + n → 4 * a + 3 < length w → getD (unmarked at n w) (4 * a + 3) 0 ≡ 0
+pub unmarked-mark : (at n : ℕ) (w : List ℕ) (a : ℕ) → at ≤ a → a < at + n → 4 * a + 3 < length w → getD (unmarked at n w) (4 * a + 3) 0 ≡ 0
 unmarked-mark at zero w a l m r = absurd (omega arith)
 unmarked-mark at (suc n) w a l m r =
     at-or-after (λ (j : ℕ). getD (unmarked (at + 1) n (set w (4 * at + 3) 0)) (4 * j + 3) 0 ≡ 0) at a l

@@ -7,6 +7,7 @@ use mathlib.Core.Path.{_≡_, refl, sym, _∙_}
 use Prim.Native.Nat.{ℕ, zero, suc, _+_, _*_, _<_, _≤_}
 use lib.ListN.{length, getD}
 use borrow.Author.Tests.{lt-ltb, le-ltb}
+use Rattle.entries.specs.Libraries.{Library}
 use Rattle.layout.specs.Cut.{Marks}
 use Rattle.layout.specs.Workspace.{marksIn}
 use Rattle.stackmap.specs.Slots.{Slot}
@@ -75,27 +76,29 @@ ending-alike U w S (some τ) e (both-accept {v} k H) =
     }
 
 walk-alike : (U : Subject) → WellCut U → (n : ℕ) (w : List ℕ) (σ : States) (from : ℕ) → Sim U w σ from
-    → Ending U w (walkTop (U .code) (U .results) n from w) (walk U n σ)
+    → Ending U w (walkTop (U .code) (U .libraries) (U .results) n from w) (walk U n σ)
 walk-alike U S zero w σ from X = both-accept refl (X .held)
 walk-alike U S (suc n) w σ from X =
     by (walk-alike U S n) (finds (length (U .code)) w σ (X .held .shown) from (X .clear))
   where
     by : ((v : List ℕ) (τ : States) (next : ℕ) → Sim U v τ next
-        → Ending U v (walkTop (U .code) (U .results) n next v) (walk U n τ))
+        → Ending U v (walkTop (U .code) (U .libraries) (U .results) n next v) (walk U n τ))
         → {at : ℕ} {f : Found} → Finds (length (U .code)) σ at f
-        → Ending U w (visitFirst (U .code) (U .results) (walkTop (U .code) (U .results) n) at w) (visitNext U (walk U n) σ f)
+        → Ending U w (visitFirst (U .code) (U .libraries) (U .results) (walkTop (U .code) (U .libraries) (U .results) n) at w)
+        (visitNext U (walk U n) σ f)
     by go (finds-none {at} h) = rw (le-ltb at (length (U .code)) h) (both-accept refl (X .held))
     by go (finds-one {at} {l} h e c) =
         rw (lt-ltb at (length (U .code)) h)
-        (ending-then (walkTop (U .code) (U .results) n) (walk U n)
+        (ending-then (walkTop (U .code) (U .libraries) (U .results) n) (walk U n)
         (visit-alike U S w σ from X at l h e c) go)
 
-pub walks-alike : (code results : List ℕ) (marks : Marks) (w : List ℕ) → WellCut (subjectOf code results marks)
+pub walks-alike : (code : List ℕ) (libraries : List Library) (results : List ℕ) (marks : Marks) (w : List ℕ)
+    → WellCut (subjectOf code libraries results marks)
     → 4 * length code ≤ length w → ((at : ℕ) → at < length code → Shown w at blank) → ((at : ℕ) → marksIn w (length code) at ≡ marks at)
-    → Alike (subjectOf code results marks) w (walkedTop code results w)
+    → Alike (subjectOf code libraries results marks) w (walkedTop code libraries results w)
 unfolding walkedTop walkOf
-walks-alike code results marks w S room blanks agree =
-    let U = subjectOf code results marks in
+walks-alike code libraries results marks w S room blanks agree =
+    let U = subjectOf code libraries results marks in
     let first = start-alike U w S room blanks agree in
     ending-alike U w S (walkOf U) refl
     (ending-after (first .0) (walk-alike U S (length code) (firstSpace code w) (firstStates U) 0 (first .1)))

@@ -9,6 +9,7 @@ use native.Mathlib.Omega.{arith}
 use borrow.Author.Tests.{lt-ltb, le-ltb, eqb-true}
 use lib.ListN.{length}
 use Rattle.entries.specs.Entries.{entryCount}
+use Rattle.entries.specs.Libraries.{Library}
 use Rattle.words.proofs.Left.{one-left}
 use Rattle.shape.specs.declared.Table.{Table}
 use Rattle.layout.specs.Cut.{startsIn}
@@ -57,27 +58,29 @@ module _ {code before : List ℕ} {p at : ℕ} {table : Table} {n : ℕ} {t : To
     branched-next q l = record { rest = rw q at branched-turn; kept = l ∙ r .kept }
 
 -- After k visits nothing waits below `from`.
-pub record Walked (code results before w : List ℕ) (from k : ℕ) : Type 0 where
-  pub rest : walkTop code results (length code - k) from w ≡ walkTop code results (length code) 0 before
+pub record Walked (code : List ℕ) (libraries : List Library) (results before w : List ℕ) (from k : ℕ) : Type 0 where
+  pub rest : walkTop code libraries results (length code - k) from w ≡ walkTop code libraries results (length code) 0 before
   pub kept : length w ≡ length before
 
-pub walked-start : {code results w : List ℕ} → Walked code results w w 0 0
+pub walked-start : {code : List ℕ} {libraries : List Library} {results w : List ℕ} → Walked code libraries results w w 0 0
 walked-start {code = code} = let z : length code - 0 ≡ length code = omega arith in record { rest = rw z; kept = refl }
 
-module _ {code results before w : List ℕ} {from k : ℕ} (r : Walked code results before w from k) where
-  pub walked-spent : length code ≤ k → walking true w ≡ walkTop code results (length code) 0 before
+module _ {code : List ℕ} {libraries : List Library} {results before w : List ℕ} {from k : ℕ}
+    (r : Walked code libraries results before w from k) where
+  pub walked-spent : length code ≤ k → walking true w ≡ walkTop code libraries results (length code) 0 before
   walked-spent h = rw (sub-eq-zero-of-le h) at (r .rest)
 
   module _ (h : k < length code) {at : ℕ} (f : at ≡ firstWaiting w from (length code - from)) where
-    pub walked-over : length code ≤ at → walking true w ≡ walkTop code results (length code) 0 before
+    pub walked-over : length code ≤ at → walking true w ≡ walkTop code libraries results (length code) 0 before
     walked-over q = rw (one-left k (length code) h, ← f, le-ltb at (length code) q) at (r .rest)
 
-    module _ (q : at < length code) {a : Handed} {w′ : List ℕ} (e : handing a w′ ≡ visitedTop code results at w) where
+    module _ (q : at < length code) {a : Handed} {w′ : List ℕ} (e : handing a w′ ≡ visitedTop code libraries results at w) where
       pub walked-turn :
-          thenWalk (walkTop code results (length code - (k + 1))) a w′ ≡ walkTop code results (length code) 0 before
+          thenWalk (walkTop code libraries results (length code - (k + 1))) a w′
+          ≡ walkTop code libraries results (length code) 0 before
       walked-turn = rw (one-left k (length code) h, ← f, lt-ltb at (length code) q, ← e) at (r .rest)
 
-      pub walked-next : {next : ℕ} → a ≡ From next → length w′ ≡ length w → Walked code results before w′ next (k + 1)
+      pub walked-next : {next : ℕ} → a ≡ From next → length w′ ≡ length w → Walked code libraries results before w′ next (k + 1)
       walked-next g l = record { rest = rw g at walked-turn; kept = l ∙ r .kept }
 
 -- The entries of the procedures from 1 and before p wait.

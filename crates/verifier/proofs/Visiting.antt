@@ -76,7 +76,7 @@ module _ (U : Subject) (S : WellCut U) (w : List ℕ) (σ : States) (from : ℕ)
       by a j b e (spared g q) = c a j (omega arith) (sym q ∙ e)
 
   decoded : (d : Decoded) → decodeAt (U .code) (regionEnd (U .code) (owner U at)) at ≡ d
-      → Parallel U w σ (visitedWith (U .code) (U .results) w (owner U at) at d)
+      → Parallel U w σ (visitedWith (U .code) (U .libraries) (U .results) w (owner U at) at d)
       (passed U (owner U at) (updated σ at (done l)) (waysOf U (owner U at) at l d))
   decoded Unserved e = both-stop refl
   decoded Past e = both-stop refl
@@ -88,6 +88,6 @@ module _ (U : Subject) (S : WellCut U) (w : List ℕ) (σ : States) (from : ℕ)
       λ out g. all-grow grown
       (ways-coherent U (owner U at) at next (regionEnd (U .code) (owner U at)) i (mapOf σ) l out e (X .coherent at l has) has g)))
 
-  pub visit-alike : Parallel U w σ (visitedTop (U .code) (U .results) at w) (visited U at l σ)
+  pub visit-alike : Parallel U w σ (visitedTop (U .code) (U .libraries) (U .results) at w) (visited U at l σ)
   unfolding visitedTop visited waysAt
   visit-alike = rw of-procedure (decoded (decodeAt (U .code) (regionEnd (U .code) (owner U at)) at) refl)

@@ -6,6 +6,7 @@ use Prim.Native.Nat.{ℕ, zero, suc, _+_, _-_, _*_}
 use lib.Dec.{eqb, leb, ltb}
 use lib.ListN.{length, getD, set}
 use Rattle.entries.specs.Entries.{entryAt, entryCount, regionEnd}
+use Rattle.entries.specs.Libraries.{Library}
 use Rattle.opcode.specs.Decode.{decodeAt}
 use Rattle.opcode.specs.declared.Decoded.{Decoded}
 use Rattle.opcode.specs.declared.Decoded.the-variants.{Unserved, Past, At}
@@ -73,17 +74,18 @@ handedWays code p at (Two a b) from w = handedTwo (length code) p a b from w
 handedWays code p at (Many table n t) from w = handedTargets (length code) p t (switchTargets code at table n) from w
 
 -- The instruction at an offset passes its list on; nothing waits below the offset.
-abbrev pub visitedWith : List ℕ → List ℕ → List ℕ → ℕ → ℕ → Decoded → Handing
-visitedWith code results w p at Unserved = handing Stuck w
-visitedWith code results w p at Past = handing Stuck w
-visitedWith code results w p at (At i next) =
+abbrev pub visitedWith : List ℕ → List Library → List ℕ → List ℕ → ℕ → ℕ → Decoded → Handing
+visitedWith code libraries results w p at Unserved = handing Stuck w
+visitedWith code libraries results w p at Past = handing Stuck w
+visitedWith code libraries results w p at (At i next) =
     handedWays code p at
-    (waysTop code results w p at next (shapeOf i) (top (getD w (4 * at) 0 - 1) (getD w (4 * at + 1) 0))) (at + 1) (set w (4 * at + 2) 0)
+    (waysTop code libraries results w p at next (shapeOf i) (top (getD w (4 * at) 0 - 1) (getD w (4 * at + 1) 0))) (at + 1)
+    (set w (4 * at + 2) 0)
 
-unfoldable pub visitedTop : List ℕ → List ℕ → ℕ → List ℕ → Handing
-visitedTop code results at w =
+unfoldable pub visitedTop : List ℕ → List Library → List ℕ → ℕ → List ℕ → Handing
+visitedTop code libraries results at w =
     let p = getD w (4 * at + 3) 0 - 1 in
-    visitedWith code results w p at (decodeAt code (regionEnd code p) at)
+    visitedWith code libraries results w p at (decodeAt code (regionEnd code p) at)
 
 -- The first of n offsets from one on that waits, or the offset after them.
 abbrev pub firstWaiting : List ℕ → ℕ → ℕ → ℕ
@@ -102,14 +104,15 @@ abbrev pub thenWalk : (ℕ → List ℕ → Walking) → Handed → List ℕ →
 thenWalk go Stuck w = walking false w
 thenWalk go (From from) w = go from w
 
-abbrev pub visitFirst : (code results : List ℕ) (go : (ℕ → List ℕ → Walking)) (at : ℕ) (w : List ℕ) → Walking
-visitFirst code results go at w =
-    cond (ltb at (length code)) (let h = visitedTop code results at w in thenWalk go (h .answer) (h .workspace)) (walking true w)
+abbrev pub visitFirst : List ℕ → List Library → List ℕ → (ℕ → List ℕ → Walking) → ℕ → List ℕ → Walking
+visitFirst code libraries results go at w =
+    cond (ltb at (length code)) (let h = visitedTop code libraries results at w in thenWalk go (h .answer) (h .workspace))
+    (walking true w)
 
-abbrev pub walkTop : List ℕ → List ℕ → ℕ → ℕ → List ℕ → Walking
-walkTop code results zero from w = walking true w
-walkTop code results (suc n) from w =
-    visitFirst code results (walkTop code results n) (firstWaiting w from (length code - from)) w
+abbrev pub walkTop : List ℕ → List Library → List ℕ → ℕ → ℕ → List ℕ → Walking
+walkTop code libraries results zero from w = walking true w
+walkTop code libraries results (suc n) from w =
+    visitFirst code libraries results (walkTop code libraries results n) (firstWaiting w from (length code - from)) w
 
 -- The entries wait.
 unfoldable pub withEntry : List ℕ → ℕ → List ℕ → List ℕ
@@ -119,5 +122,5 @@ abbrev pub withEntries : List ℕ → ℕ → ℕ → List ℕ → List ℕ
 withEntries code p zero w = withEntry code 0 w
 withEntries code p (suc n) w = withEntries code (p + 1) n (withEntry code p w)
 
-unfoldable pub walkedTop : List ℕ → List ℕ → List ℕ → Walking
-walkedTop code results w = walkTop code results (length code) 0 (withEntries code 1 (entryCount code - 1) w)
+unfoldable pub walkedTop : List ℕ → List Library → List ℕ → List ℕ → Walking
+walkedTop code libraries results w = walkTop code libraries results (length code) 0 (withEntries code 1 (entryCount code - 1) w)

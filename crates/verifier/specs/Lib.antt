@@ -3,3 +3,4 @@ pub mod Check
 pub mod Exact
 pub mod Handing
 pub mod Examine
+pub mod Tables

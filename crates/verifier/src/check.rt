@@ -1,43 +1,24 @@
 // The check: its number, and what it leaves of the workspace.
 ghost use mathlib.Core.Path.{_≡_};
-ghost use mathlib.Core.Bool.{true};
-ghost use Prim.Native.Nat.{_≤_, _<_, _*_};
+ghost use mathlib.Core.List.{List};
+ghost use Prim.Native.Nat.{ℕ, _≤_};
 ghost use lib.ListN.{length};
 ghost use Rattle.opcode.specs.Sheet.{Sheet};
-ghost use Rattle.verifier.specs.Check.{allAtMost, resultsSound, listNumber, checkOf};
+ghost use Rattle.module_set.specs.Members.{membersOf, single};
 ghost use Rattle.workspace.specs.Checking.{checking};
-ghost use Rattle.verifier.specs.Examine.{zeroed, unmarked, examinedTop};
-use crate::walk;
-use layout::marks;
+ghost use Rattle.verifier.specs.Check.{listNumber, setCheck, checkOf, lacksRoom};
+ghost use Rattle.verifier.specs.Tables.{ownExamined};
+use crate::codes;
+use crate::examine;
+use crate::libraries;
+use crate::results;
+use relocation::number;
 
-fn all_at_most(most: u8, s: &[u8]) -> bool
-    ensures { λ b. ⌜ b ≡ allAtMost most (now (s .entry)) ⌝ }
-{
-    for i in 0..s.len() {
-        if most < s[i] {
-            return false;
-        }
-    }
-    true
-}
-
-fn results_sound(code: &[u8], results: &[u8]) -> bool
-    ensures { λ b. ⌜ b ≡ resultsSound (now (code .entry)) (now (results .entry)) ⌝ }
-{
-    if results.len() != entries::entry_count(code) as usize {
-        return false;
-    }
-    if words::byte_at(results, 0) != 0 {
-        return false;
-    }
-    all_at_most(2, results)
-}
-
-// 0, or the lowest of 1 to 9.
+// 0, or the number of a record by itself up to 9, 17 or 18.
 fn list_number(r: &[u8], results: &[u8], room: usize) -> u32
-    ensures { λ n. ⌜ n ≡ listNumber (now (r .entry)) (now (results .entry)) room ⌝ }
+    ensures { λ n. ⌜ n ≡ listNumber (single (now (r .entry)) (now (results .entry))) 0 room ⌝ }
 {
-    let number = record::record_number(r);
+    let number = number::single_number(r);
     if number != 0 {
         return number;
     }
@@ -45,55 +26,13 @@ fn list_number(r: &[u8], results: &[u8], room: usize) -> u32
     if room / 4 < code.len() {
         return 8;
     }
-    if !results_sound(code, results) {
+    if !results::results_sound(code, results) {
         return 9;
     }
     0
 }
 
-fn clear(w: &mut [u16])
-    ensures { λ _. ⌜ now (w .exit) ≡ zeroed (now (w .entry)) ⌝ }
-{
-    for i in 0..w.len() {
-        w[i] = 0;
-    }
-}
-
-fn clear_marks(w: &mut [u16], size: usize)
-    requires { ⌜ size ≤ 65535 ⌝ }
-    ensures { λ _. ⌜ now (w .exit) ≡ unmarked 0 size (now (w .entry)) ⌝ }
-{
-    for at in 0..size {
-        workspace::set_half(w, 4 * at + 3, 0);
-    }
-}
-
-// The code of a sound record, with a workspace of just four halfwords for each byte.
-fn examine(formats: &[u16], code: &[u8], results: &[u8], w: &mut [u16]) -> u32
-    requires { ⌜ Sheet (now formats) ⌝ }
-    requires { ⌜ length (now code) ≤ 65535 ⌝ }
-    ensures { λ n. ⌜ checking n (now (w .exit)) ≡ examinedTop (now (code .entry)) (now (results .entry)) (now (w .entry)) ⌝ }
-{
-    clear(w);
-    let number = marks::cut_all(formats, code, w);
-    if number != 0 {
-        clear(w);
-        return number;
-    }
-    let fault = faults::code_number(formats, code, w);
-    if fault != 0 {
-        clear(w);
-        return fault;
-    }
-    if !walk::find_maps(formats, code, results, w) {
-        clear(w);
-        return 15;
-    }
-    clear_marks(w, code.len());
-    0
-}
-
-// 0, or the lowest of 1 to 15.
+// 0, or the number of the check of a record by itself.
 pub fn check(r: &[u8], results: &[u8], w: &mut [u16]) -> u32
     ensures { λ n. ⌜ checking n (now (w .exit)) ≡ checkOf (now (r .entry)) (now (results .entry)) (now (w .entry)) ⌝ }
 {
@@ -101,7 +40,95 @@ pub fn check(r: &[u8], results: &[u8], w: &mut [u16]) -> u32
     if number != 0 {
         return number;
     }
-    let code = header::code_of(r);
     let formats = opcode::format::formats();
-    examine(&formats, code, results, &mut w[..4 * code.len()])
+    // It imports nothing.
+    let table: [u32; 0] = [];
+    examine::examine_in(
+        &formats,
+        header::code_of(r),
+        results,
+        &table,
+        0,
+        r,
+        results,
+        w,
+    )
+}
+
+// 8: no such module, or a workspace too short for it.
+fn lacks_room(records: &[u8], directory: &[u32], own: usize, room: usize) -> bool
+    requires { ⌜ length (now directory) ≤ 67 ⌝ }
+    ensures { λ b. ⌜
+        ((lists : List ℕ) → b ≡ lacksRoom (membersOf (now (records .entry)) lists (now (directory .entry))) own room) ⌝ }
+{
+    if module_set::count(directory) <= own {
+        return true;
+    }
+    room / 4 < header::code_of(module_set::record_of(records, directory, own)).len()
+}
+
+// 0, or the number of a set up to 9, 17 or 18.
+fn set_list_number(records: &[u8], lists: &[u8], directory: &[u32], own: usize, room: usize) -> u32
+    ensures { λ n. ⌜ n ≡ listNumber (membersOf (now (records .entry)) (now (lists .entry)) (now (directory .entry))) own room ⌝ }
+{
+    let number = number::set_number(records, directory);
+    if number != 0 {
+        return number;
+    }
+    if lacks_room(records, directory, own, room) {
+        return 8;
+    }
+    if !results::lists_sound(records, lists, directory) {
+        return 9;
+    }
+    0
+}
+
+// The own module is examined, with its libraries.
+fn examine_own(
+    formats: &[u16],
+    records: &[u8],
+    lists: &[u8],
+    directory: &[u32],
+    own: usize,
+    w: &mut [u16],
+) -> u32
+    requires { ⌜ Sheet (now formats) ⌝ }
+    requires { ⌜ listNumber (membersOf (now records) (now lists) (now directory)) own (length (now w)) ≡ 0 ⌝ }
+    ensures { λ n. ⌜ checking n (now (w .exit))
+        ≡ ownExamined (membersOf (now (records .entry)) (now (lists .entry)) (now (directory .entry))) own (now (w .entry)) ⌝ }
+{
+    let mut table = [0u32; 64];
+    let size = libraries::fill_libraries(records, lists, directory, own, &mut table);
+    let code = header::code_of(module_set::record_of(records, directory, own));
+    let results = module_set::list_of(lists, directory, own);
+    examine::examine_in(formats, code, results, &table, size, records, lists, w)
+}
+
+// The numbers 10 to 15, where no lower one is given.
+fn judge(records: &[u8], lists: &[u8], directory: &[u32], own: usize, w: &mut [u16]) -> u32
+    requires { ⌜ listNumber (membersOf (now records) (now lists) (now directory)) own (length (now w)) ≡ 0 ⌝ }
+    ensures { λ n. ⌜ checking n (now (w .exit))
+        ≡ setCheck (membersOf (now (records .entry)) (now (lists .entry)) (now (directory .entry))) own (now (w .entry)) ⌝ }
+{
+    let formats = opcode::format::formats();
+    let number = codes::codes_number(&formats, records, lists, directory);
+    if number != 0 {
+        let code = header::code_of(module_set::record_of(records, directory, own));
+        examine::clear_front(w, 4 * code.len());
+        return number;
+    }
+    examine_own(&formats, records, lists, directory, own, w)
+}
+
+// 0, or the number of the check of module `own` of a set.
+pub fn check_set(records: &[u8], lists: &[u8], directory: &[u32], own: usize, w: &mut [u16]) -> u32
+    ensures { λ n. ⌜ checking n (now (w .exit))
+        ≡ setCheck (membersOf (now (records .entry)) (now (lists .entry)) (now (directory .entry))) own (now (w .entry)) ⌝ }
+{
+    let number = set_list_number(records, lists, directory, own, w.len());
+    if number != 0 {
+        return number;
+    }
+    judge(records, lists, directory, own, w)
 }

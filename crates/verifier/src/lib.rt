@@ -1,5 +1,9 @@
-// The check of a record before it runs.
+// The check of a record, or of one module of a set, before it runs.
 
 pub mod check;
+pub mod codes;
+pub mod examine;
 pub mod hand;
+pub mod libraries;
+pub mod results;
 pub mod walk;

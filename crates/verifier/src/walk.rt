@@ -4,6 +4,7 @@ ghost use Prim.Native.Nat.{_≤_, _<_, _-_};
 ghost use lib.ListN.{length};
 ghost use Rattle.opcode.specs.Sheet.{Sheet};
 ghost use Rattle.entries.specs.Entries.{entryCount};
+ghost use Rattle.entries.specs.Libraries.{librariesIn};
 ghost use Rattle.verifier.specs.Handing.{handing, visitedTop, firstWaiting, walking, walkTop, withEntry, withEntries, walkedTop};
 use crate::hand;
 use crate::hand::Handed;
@@ -21,11 +22,20 @@ fn held(shown: u16) -> u32
 }
 
 // The instruction at an offset passes its list on.
-fn visit(formats: &[u16], code: &[u8], results: &[u8], w: &mut [u16], at: usize) -> Handed
+fn visit(
+    formats: &[u16],
+    code: &[u8],
+    results: &[u8],
+    libraries: &[u32],
+    records: &[u8],
+    lists: &[u8],
+    w: &mut [u16],
+    at: usize,
+) -> Handed
     requires { ⌜ Sheet (now formats) ⌝ }
     requires { ⌜ length (now code) ≤ 65535 ⌝ }
     requires { ⌜ at < length (now code) ⌝ }
-    ensures { λ a. ⌜ handing a (now (w .exit)) ≡ visitedTop (now (code .entry)) (now (results .entry)) at (now (w .entry)) ⌝ }
+    ensures { λ a. ⌜ handing a (now (w .exit)) ≡ visitedTop (now (code .entry)) (librariesIn (now (libraries .entry)) (now (records .entry)) (now (lists .entry))) (now (results .entry)) at (now (w .entry)) ⌝ }
 {
     let p = held(workspace::half_at(w, 4 * at + 3));
     match opcode::decode(formats, code, entries::region_end(code, p), at) {
@@ -37,7 +47,19 @@ fn visit(formats: &[u16], code: &[u8], results: &[u8], w: &mut [u16], at: usize)
                 height: height,
                 origin: workspace::half_at(w, 4 * at + 1),
             };
-            let out = compact_ways::ways_of(code, results, w, p, at, next, shape::shape_of(i), t);
+            let out = compact_ways::ways_of(
+                code,
+                results,
+                libraries,
+                records,
+                lists,
+                w,
+                p,
+                at,
+                next,
+                shape::shape_of(i),
+                t,
+            );
             workspace::set_half(w, 4 * at + 2, 0);
             hand::hand_ways(code, w, p, at, out, at + 1)
         }
@@ -59,10 +81,18 @@ fn next_waiting(w: &[u16], size: usize, from: usize) -> usize
     at
 }
 
-fn walk(formats: &[u16], code: &[u8], results: &[u8], w: &mut [u16]) -> bool
+fn walk(
+    formats: &[u16],
+    code: &[u8],
+    results: &[u8],
+    libraries: &[u32],
+    records: &[u8],
+    lists: &[u8],
+    w: &mut [u16],
+) -> bool
     requires { ⌜ Sheet (now formats) ⌝ }
     requires { ⌜ length (now code) ≤ 65535 ⌝ }
-    ensures { λ b. ⌜ walking b (now (w .exit)) ≡ walkTop (now (code .entry)) (now (results .entry)) (length (now (code .entry))) 0 (now (w .entry)) ⌝ }
+    ensures { λ b. ⌜ walking b (now (w .exit)) ≡ walkTop (now (code .entry)) (librariesIn (now (libraries .entry)) (now (records .entry)) (now (lists .entry))) (now (results .entry)) (length (now (code .entry))) 0 (now (w .entry)) ⌝ }
 {
     let mut from = 0;
     for _ in 0..code.len() {
@@ -70,7 +100,7 @@ fn walk(formats: &[u16], code: &[u8], results: &[u8], w: &mut [u16]) -> bool
         if code.len() <= at {
             return true;
         }
-        match visit(formats, code, results, w, at) {
+        match visit(formats, code, results, libraries, records, lists, w, at) {
             Handed::Stuck => {
                 return false;
             }
@@ -101,11 +131,19 @@ fn give_entries(code: &[u8], w: &mut [u16])
 }
 
 // Whether every region has a stack map; the workspace then holds the least ones.
-pub fn find_maps(formats: &[u16], code: &[u8], results: &[u8], w: &mut [u16]) -> bool
+pub fn find_maps(
+    formats: &[u16],
+    code: &[u8],
+    results: &[u8],
+    libraries: &[u32],
+    records: &[u8],
+    lists: &[u8],
+    w: &mut [u16],
+) -> bool
     requires { ⌜ Sheet (now formats) ⌝ }
     requires { ⌜ length (now code) ≤ 65535 ⌝ }
-    ensures { λ b. ⌜ walking b (now (w .exit)) ≡ walkedTop (now (code .entry)) (now (results .entry)) (now (w .entry)) ⌝ }
+    ensures { λ b. ⌜ walking b (now (w .exit)) ≡ walkedTop (now (code .entry)) (librariesIn (now (libraries .entry)) (now (records .entry)) (now (lists .entry))) (now (results .entry)) (now (w .entry)) ⌝ }
 {
     give_entries(code, w);
-    walk(formats, code, results, w)
+    walk(formats, code, results, libraries, records, lists, w)
 }

@@ -1,13 +1,24 @@
 -- Numbers that rise, taken apart: the first is from the least one on and below the limit, and the rest rises behind it. The same
--- as facts, with a list behind another; by induction on the numbers.
+-- as facts, with a list behind another; by induction on the numbers. A test of every value of a row, a value at a time.
 use mathlib.Core.Bool.{Bool, true, _&&_, and-eq-true-iff}
 use mathlib.Core.List.{List, [], _∷_, _++_}
 use mathlib.Core.Path.{_≡_, refl}
-use Prim.Native.Nat.{ℕ, _+_, _≤_, _<_}
+use Prim.Native.Nat.{ℕ, _+_, _-_, _≤_, _<_}
+use native.Mathlib.Nat.{sub-eq-zero-of-le}
 use native.Mathlib.Omega.{arith}
 use lib.Dec.{leb, ltb}
 use borrow.Author.Tests.{leb-true, ltb-true, le-leb, lt-ltb}
-use Rattle.words.specs.Order.{risingFrom}
+use Rattle.words.specs.Order.{every, risingFrom}
+use Rattle.words.specs.Series.{series}
+use Rattle.words.proofs.Left.{one-left}
+
+-- A test of every value of a row, of which k are passed.
+module _ (test : ℕ → Bool) (f : ℕ → ℕ) (stride at n k : ℕ) where
+  pub row-over : n ≤ k → every test (series f stride at (n - k)) ≡ true
+  row-over h = rw (sub-eq-zero-of-le h)
+
+  pub row-turn : k < n → every test (series f stride at (n - k)) ≡ (test (f at) && every test (series f stride (at + stride) (n - (k + 1))))
+  row-turn h = rw (one-left k n h)
 
 pub rising-first : (limit least x : ℕ) (rest : Bool) → (leb least x && (ltb x limit && rest)) ≡ true →
     (least ≤ x) × (x < limit) × (rest ≡ true)

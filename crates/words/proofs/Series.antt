@@ -28,6 +28,13 @@ series-part f stride at (suc k) zero h = absurd (omega arith)
 series-part f stride at (suc k) (suc n) h =
     ap (λ (w : List ℕ). f at ∷ w) (series-part f stride (at + stride) k n (omega arith))
 
+-- Functions that agree at these places.
+pub series-same :
+    (f g : ℕ → ℕ) (at n : ℕ) → ((i : ℕ) → at ≤ i → i < at + n → f i ≡ g i) → series f 1 at n ≡ series g 1 at n
+series-same f g at zero e = refl
+series-same f g at (suc n) e =
+    rw (e at (omega arith) (omega arith), series-same f g (at + 1) n (λ i a b. e i (omega arith) (omega arith)))
+
 -- A list that is filled up to a place: one word more, and all of it.
 pub filled-next : (m target : List ℕ) (i x : ℕ) → take i m ≡ take i target → i < length m → length m ≡ length target →
     x ≡ getD target i 0 → take (i + 1) (set m i x) ≡ take (i + 1) target

@@ -1,13 +1,13 @@
 -- Words stored one after the other into a list: two pieces are one, past the end nothing is stored, other places keep what they have,
 -- and in the second part of a list. By induction on what is stored.
-use Prim.Native.Nat.{ℕ, suc, _+_, _-_, _≤_, _<_}
+use Prim.Native.Nat.{ℕ, zero, suc, _+_, _-_, _≤_, _<_}
 use mathlib.Core.Path.{_≡_, _∙_, refl, sym, ap}
 use mathlib.Core.List.{List, [], _∷_, _++_, append-nil}
 use native.Mathlib.Nat.{zero-add, add-zero, add-suc, suc-add}
 use native.Mathlib.Numerals.{add-one}
 use native.Mathlib.Omega.{arith}
-use lib.ListN.{length, getD, take, drop, set, length-drop, take-append-drop, drop-of-length-le}
-use lib.Seq.{sets, set-out, getD-set-other, take-all, take-suc, length-take-le}
+use lib.ListN.{length, getD, take, drop, set, length-drop, take-append-drop, drop-of-length-le, length-set}
+use lib.Seq.{sets, set-out, getD-set-same, getD-set-other, take-all, take-suc, length-take-le}
 
 -- Whether there is room for them or not.
 pub sets-then : (l : List ℕ) (i : ℕ) (x y : List ℕ) → sets (sets l i x) (i + length x) y ≡ sets l i (x ++ y)
@@ -26,6 +26,19 @@ sets-other l j [] i h = refl
 sets-other l j (v ∷ vs) i h =
     sets-other (set l j v) (suc j) vs i (λ a b. h (omega arith) (omega arith))
     ∙ getD-set-other l j i v 0 (λ e. h (omega arith) (omega arith))
+
+-- The places that are stored to have what is stored.
+sets-at : (vs l : List ℕ) (j i : ℕ) → i < length vs → j + i < length l → getD (sets l j vs) (j + i) 0 ≡ getD vs i 0
+sets-at [] l j i h g = absurd (omega arith)
+sets-at (v ∷ vs) l j zero h g =
+    let z : j + 0 ≡ j = omega arith in
+    rw z (sets-other (set l j v) (suc j) vs j (λ a b. omega arith) ∙ getD-set-same l j v 0 (omega arith))
+sets-at (v ∷ vs) l j (suc i) h g =
+    let z : suc j + i ≡ j + suc i = omega arith in
+    rw z at (sets-at vs (set l j v) (suc j) i (omega arith) (omega (arith, length-set l j v)))
+
+pub sets-front : (vs l : List ℕ) (i : ℕ) → i < length vs → i < length l → getD (sets l 0 vs) i 0 ≡ getD vs i 0
+sets-front vs l i h g = let z : 0 + i ≡ i = omega arith in rw z at (sets-at vs l 0 i h (omega arith))
 
 set-right : (p q : List ℕ) (i v : ℕ) → set (p ++ q) (length p + i) v ≡ p ++ set q i v
 set-right [] q i v = rw (zero-add i)

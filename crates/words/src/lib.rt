@@ -3,6 +3,7 @@ ghost use mathlib.Core.Path.{_≡_};
 ghost use Prim.Native.Nat.{_+_, _*_};
 ghost use lib.ListN.{take, drop, set};
 ghost use Rattle.words.specs.Bytes.{byteAt, halfwordAt, wordAt};
+ghost use Rattle.words.specs.Refusal.{lower};
 
 pub fn byte_at(s: &[u8], i: usize) -> u8
     ensures { λ r. ⌜ r ≡ byteAt (now (s .entry)) i ⌝ }
@@ -107,4 +108,17 @@ pub fn set_word(s: &mut [u32], i: usize, w: u32)
     if i < s.len() {
         s[i] = w;
     }
+}
+
+// The lower of two numbers, 0 being none.
+pub fn lower_number(a: u32, b: u32) -> u32
+    ensures { λ n. ⌜ n ≡ lower a b ⌝ }
+{
+    if a == 0 {
+        return b;
+    }
+    if b == 0 {
+        return a;
+    }
+    if b < a { b } else { a }
 }

@@ -12,7 +12,8 @@ use conformance::random::Random;
 const CASES: u64 = 200_000;
 
 fn main() -> std::process::ExitCode {
-    harness::main(CASES, &[Expected::new("number", 0..=15, 400)], compare)
+    let numbers = (0..=3).chain(5..=15).chain([17, 18]).collect();
+    harness::main(CASES, &[Expected { kind: "number", numbers, least: 400 }], compare)
 }
 
 fn compare(random: &mut Random, tally: &mut Tally) -> Result<(), String> {

@@ -12,6 +12,7 @@ use conformance::instruction::{decode, Instruction};
 use conformance::interface::{Interface, REFERENCE};
 use conformance::random::{Random, EDGES};
 use conformance::record::Record;
+use conformance::set::{Lent, Set};
 
 const CASES: u64 = 300_000;
 
@@ -20,10 +21,10 @@ fn main() -> std::process::ExitCode {
         Expected::new("end", 0..=1, 100),
         Expected::new("end", 20..=23, 100),
         Expected::new("end", 30..=38, 100),
-        Expected::new("load refused", 1..=8, 100),
-        Expected::new("run refused", 1..=7, 100),
-        Expected::new("run refused", 24..=24, 100),
+        Expected { kind: "load refused", numbers: vec![1, 2, 3, 5, 6, 7, 8, 17, 18], least: 100 },
+        Expected { kind: "run refused", numbers: vec![1, 2, 3, 5, 6, 7, 17, 18, 24], least: 100 },
         Expected { kind: "opcode done", numbers: instructions::served(), least: 5 },
+        Expected { kind: "external opcode", numbers: instructions::EXTERNAL.to_vec(), least: 50 },
         Expected::new("left by its sum", 0..=0, 50),
         Expected { kind: "wrapped", numbers: WRAPPING.to_vec(), least: 50 },
     ];
@@ -53,8 +54,12 @@ fn compare(random: &mut Random, tally: &mut Tally, served: &[u32]) -> Result<(),
             let program = program::of_code(random, code);
             load_and_run(random, tally, &program)
         }
-        44..=79 => {
+        44..=77 => {
             let code = instructions::single(random, served);
+            run_from_fitting(random, tally, code, false)
+        }
+        78 | 79 => {
+            let code = instructions::hidden(random);
             run_from_fitting(random, tally, code, false)
         }
         80..=84 => {
@@ -117,7 +122,7 @@ fn load_and_run(random: &mut Random, tally: &mut Tally, program: &Program) -> Re
     let most = program.parts.globals as usize + usize::from(random.percent(3));
     let count = if random.percent(5) { most } else { random.below(most.min(30) + 1) };
     let parameters = random.words(count);
-    let (memory, stack) = state::fresh(random, &record);
+    let (memory, stack) = fresh(random, &record);
     let case = Case::Load { record: record.clone(), parameters, memory, stack };
     let Answer::Load { number, machine } = agree(&case, &PROVED)? else { return Ok(()) };
     tally.note("load refused", number);
@@ -135,8 +140,8 @@ fn run_from_fitting(
     unfit: bool,
 ) -> Result<(), String> {
     let record = program::of_code(random, code).parts.assemble();
-    let Ok(parts) = Record::read(&record) else { return Ok(()) };
-    let mut machine = state::begun(random, &parts);
+    let Ok(set) = Set::read(&[Lent::main(&record, &[])]) else { return Ok(()) };
+    let mut machine = state::begun(random, &set).words;
     if unfit {
         state::unfit(random, &mut machine);
     }
@@ -164,6 +169,10 @@ fn run_on(
                 if let (Some(opcode), 1..) = (first, steps) {
                     tally.note("opcode done", opcode);
                 }
+                let external = first.filter(|opcode| instructions::EXTERNAL.contains(opcode));
+                if let (Some(opcode), 22 | 23, 0) = (external, end, steps) {
+                    tally.note("external opcode", opcode);
+                }
                 if steps == 1 && left_by_its_sum(first, &before, &after) {
                     tally.note("left by its sum", 0);
                 }
@@ -181,6 +190,12 @@ fn run_on(
     Ok(())
 }
 
+/// Makes memory and stack for a load.
+fn fresh(random: &mut Random, record: &[u8]) -> (Vec<u32>, Vec<u32>) {
+    let least = Record::read(record).map_or(3, |record| record.frame_words());
+    state::fresh(random, least as usize)
+}
+
 /// The opcode that a run begins with.
 fn opcode_at(record: &[u8], place: u32) -> Option<u32> {
     let record = Record::read(record).ok()?;
@@ -192,7 +207,7 @@ fn refused_records(random: &mut Random, tally: &mut Tally) -> Result<(), String>
     let record = record::any(random);
     let parameters = random.below(4);
     let parameters = random.words(parameters);
-    let (memory, stack) = state::fresh(random, &record);
+    let (memory, stack) = fresh(random, &record);
     let state = [2, 3, 3, 3, 0, 0];
     let machine = Words { state, memory: memory.clone(), stack: stack.clone() };
     let case = Case::Load { record: record.clone(), parameters, memory, stack };
@@ -208,7 +223,7 @@ fn other_lengths(random: &mut Random) -> Result<(), String> {
     if random.percent(50) {
         record::damage_bytes(random, &mut record);
     }
-    let (memory, stack) = state::fresh(random, &record);
+    let (memory, stack) = fresh(random, &record);
     let state_words = random.pick(&[0, 1, 5, 6, 7, 12]);
     let outcome_words = if state_words == 6 { random.pick(&[0, 2, 4, 6]) } else { 3 };
     let try_both = |library: &Interface| {

@@ -55,8 +55,8 @@ fn main() -> std::process::ExitCode {
         Expected::new(TOO_SHORT, 0..=7, 1_000),
         Expected::new(NO_COUNTS, 0..=MEND_COUNTS as u32 - 1, 1_000),
         Expected::new(MENDED, MEND_COUNTS as u32..=MOST_COUNTS as u32, 1_000),
-        Expected::new("record's number", 0..=7, 1_000),
-        Expected { kind: "number of the new record", numbers: vec![0, 4, 7], least: 1_000 },
+        Expected { kind: "record's number", numbers: vec![0, 1, 2, 3, 5, 6, 7], least: 1_000 },
+        Expected { kind: "number of the new record", numbers: vec![0, 7], least: 1_000 },
     ];
     expected.extend(DAMAGE.map(|kind| Expected { kind, numbers: vec![0, 8], least: 1_000 }));
     let long = [DROPPED_FAR, LEFT_LONG];

@@ -1,23 +1,14 @@
 //! Code cut into instructions, region by region, and where control may go from each.
 
-use crate::instruction::{decode, Fault, Instruction};
+use crate::cut::{cut, Placed};
+use crate::instruction::{Fault, Instruction};
 use crate::record::{Record, Region};
-
-#[derive(Clone, Copy, Debug)]
-pub struct Placed {
-    pub place: usize,
-    /// The place after the instruction.
-    pub next: usize,
-    pub instruction: Instruction,
-    /// Index into the layout's regions.
-    pub region: usize,
-}
 
 pub struct Layout<'a> {
     pub code: &'a [u8],
     pub regions: Vec<Region>,
-    /// Instructions by rising place.
-    instructions: Vec<Placed>,
+    /// Instructions by rising place, each with the index of its region.
+    instructions: Vec<(Placed, usize)>,
     /// For each code byte the index of the instruction that starts there.
     starts: Vec<Option<u16>>,
 }
@@ -30,34 +21,42 @@ impl<'a> Layout<'a> {
         let regions = record.regions();
         let mut instructions = Vec::new();
         let mut starts = vec![None; code.len()];
-        for (index, region) in regions.iter().enumerate() {
-            let mut place = region.start;
-            while place < region.end {
-                let (instruction, next) =
-                    decode(code, region.end, place).map_err(|fault| match fault {
-                        Fault::Unserved => 10u32,
-                        Fault::Past => 11,
-                    })?;
-                starts[place] = Some(instructions.len() as u16);
-                instructions.push(Placed { place, next, instruction, region: index });
-                place = next;
+        for (index, &region) in regions.iter().enumerate() {
+            for placed in cut(code, region) {
+                let placed = placed.map_err(|fault| match fault {
+                    Fault::Unserved => 10u32,
+                    Fault::Past => 11,
+                })?;
+                starts[placed.place] = Some(instructions.len() as u16);
+                instructions.push((placed, index));
             }
         }
         Ok(Layout { code, regions, instructions, starts })
     }
 
-    pub fn instructions(&self) -> &[Placed] {
-        &self.instructions
+    pub fn instructions(&self) -> impl Iterator<Item = (&Placed, &Region)> {
+        self.instructions.iter().map(|(placed, index)| (placed, &self.regions[*index]))
     }
 
-    /// The instruction that starts at a place.
-    pub fn at(&self, place: usize) -> Option<&Placed> {
+    /// Finds the instruction that starts at a place, and its region.
+    pub fn at(&self, place: usize) -> Option<(&Placed, &Region)> {
         let index = (*self.starts.get(place)?)?;
-        Some(&self.instructions[index as usize])
+        let (placed, region) = &self.instructions[index as usize];
+        Some((placed, &self.regions[*region]))
     }
 
-    pub fn is_start_in(&self, place: usize, region: usize) -> bool {
-        self.at(place).is_some_and(|placed| placed.region == region)
+    pub fn is_start_in(&self, place: usize, region: &Region) -> bool {
+        self.at(place).is_some_and(|(_, found)| found.procedure == region.procedure)
+    }
+
+    /// Counts the parameter words of a procedure: those of the ENTER that it begins with.
+    pub fn parameter_words(&self, region: &Region) -> usize {
+        match self.at(region.start) {
+            Some((Placed { instruction: Instruction::Enter { parameters, .. }, .. }, _)) => {
+                *parameters as usize
+            }
+            _ => 0,
+        }
     }
 }
 

@@ -1,8 +1,9 @@
 //! Stack maps (01: pictures): for each instruction reached from an entry, the list of slots that
 //! its procedure has on the stack there.
 
-use super::layout::{place, Layout, Placed};
+use super::layout::{place, Layout};
 use crate::instruction::{Base, Instruction, Width};
+use crate::set::Set;
 
 /// 01: "at most 255".
 const MOST_SLOTS: usize = 255;
@@ -31,19 +32,19 @@ impl StackMaps {
     }
 }
 
-/// The least stack maps of all regions, or none where some region has none.
-pub fn infer(layout: &Layout, results: &[u8]) -> Option<StackMaps> {
+/// Finds the least stack maps of all regions of a module, or none where some region has none.
+pub fn infer(set: &Set, layouts: &[Layout], own: usize) -> Option<StackMaps> {
+    let layout = &layouts[own];
     let mut inference = Inference {
+        set,
         layout,
-        parameters: vec![0; layout.regions.len()],
-        results,
+        own,
+        parameters: layouts.iter().map(parameters).collect(),
         maps: vec![None; layout.code.len()],
         waiting: Vec::new(),
     };
     for region in &layout.regions {
-        let parameters = parameter_words(layout.at(region.start)?);
-        inference.parameters[region.procedure as usize] = parameters;
-        inference.give(region.start, vec![Slot::Word; parameters])?;
+        inference.give(region.start, vec![Slot::Word; layout.parameter_words(region)])?;
     }
     while let Some(place) = inference.waiting.pop() {
         inference.pass(place)?;
@@ -51,11 +52,22 @@ pub fn infer(layout: &Layout, results: &[u8]) -> Option<StackMaps> {
     Some(StackMaps { slots: inference.maps })
 }
 
+/// Counts parameter words by procedure.
+fn parameters(layout: &Layout) -> Vec<usize> {
+    let mut parameters = vec![0; layout.regions.len()];
+    for region in &layout.regions {
+        parameters[region.procedure as usize] = layout.parameter_words(region);
+    }
+    parameters
+}
+
 struct Inference<'a> {
+    set: &'a Set<'a>,
     layout: &'a Layout<'a>,
-    /// Parameter words by procedure.
-    parameters: Vec<usize>,
-    results: &'a [u8],
+    /// Number of the module that the layout is of.
+    own: usize,
+    /// Parameter words by module and procedure.
+    parameters: Vec<Vec<usize>>,
     maps: Vec<Option<Slots>>,
     waiting: Vec<usize>,
 }
@@ -80,7 +92,7 @@ impl Inference<'_> {
     fn pass(&mut self, at: usize) -> Option<()> {
         use Instruction::*;
         let layout = self.layout;
-        let placed = layout.at(at)?;
+        let (placed, region) = layout.at(at)?;
         let mut slots = self.maps[at].clone()?;
         let origin = at as u16;
         match placed.instruction {
@@ -93,7 +105,7 @@ impl Inference<'_> {
             }
             Next => {
                 let Some(&Slot::Iter(origin)) = slots.last() else { return None };
-                let body = layout.at(origin as usize)?.next;
+                let body = layout.at(origin as usize)?.0.next;
                 self.give(body, slots.clone())?;
                 slots.pop();
                 pop_words(&mut slots, 4)?;
@@ -109,7 +121,7 @@ impl Inference<'_> {
             }
             Leave => {
                 let Some(Slot::Switch(origin)) = slots.pop() else { return None };
-                let Switch(table) = layout.at(origin as usize)?.instruction else { return None };
+                let Switch(table) = layout.at(origin as usize)?.0.instruction else { return None };
                 self.give(table.exit(layout.code) as usize, slots)
             }
             Pop(count) => {
@@ -118,8 +130,7 @@ impl Inference<'_> {
                 self.give(placed.next, slots)
             }
             Rtn => {
-                let procedure = layout.regions[placed.region].procedure;
-                let results = self.results[procedure as usize] as usize;
+                let (_, results) = self.signature(self.own, region.procedure);
                 pop_words(&mut slots, results)?;
                 slots.is_empty().then_some(())
             }
@@ -141,6 +152,13 @@ impl Inference<'_> {
         }
     }
 
+    /// Gives parameter and result words of a procedure, "taken from its own module".
+    fn signature(&self, module: usize, procedure: u32) -> (usize, usize) {
+        let procedure = procedure as usize;
+        let results = self.set.modules[module].results[procedure];
+        (self.parameters[module][procedure], results.into())
+    }
+
     /// Words popped and pushed by an instruction that deals with words only.
     fn effect(&self, instruction: Instruction) -> (usize, usize) {
         use Instruction::*;
@@ -155,9 +173,11 @@ impl Inference<'_> {
             Binary(_) => (2, 1),
             NegI | Neg | Alloc => (1, 1),
             Free | JumpC(_) => (1, 0),
-            Call(procedure) => {
-                let procedure = procedure as usize;
-                (self.parameters[procedure], self.results[procedure] as usize)
+            LoadExternal(..) | LoadAddressExternal(..) => (0, 1),
+            StoreExternal(..) => (1, 0),
+            Call(procedure) => self.signature(self.own, procedure),
+            CallExternal(library, procedure) => {
+                self.signature(self.set.modules[self.own].library(library), procedure)
             }
             Enter { parameters, .. } => (parameters as usize, 0),
             Nop | Jump(_) => (0, 0),
@@ -165,14 +185,6 @@ impl Inference<'_> {
                 unreachable!("has a rule of its own")
             }
         }
-    }
-}
-
-/// Parameter words of the procedure that an instruction begins: those of its ENTER.
-fn parameter_words(first: &Placed) -> usize {
-    match first.instruction {
-        Instruction::Enter { parameters, .. } => parameters as usize,
-        _ => 0,
     }
 }
 

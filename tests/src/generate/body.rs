@@ -11,11 +11,20 @@ pub struct Signature {
     pub results: usize,
 }
 
+/// What another module offers.
+#[derive(Clone)]
+pub struct Library {
+    pub signatures: Vec<Signature>,
+    pub globals: usize,
+}
+
 /// What the bodies of a program may refer to.
 pub struct Scope {
     pub signatures: Vec<Signature>,
     pub globals: usize,
     pub constants: usize,
+    /// What its import list names, library 1 first.
+    pub libraries: Vec<Library>,
     /// Chance in percent of an operand that is likely to trap.
     pub wild: usize,
     /// Chance in percent of a statement that the check refuses.
@@ -102,6 +111,10 @@ impl Body<'_> {
         }
         if depth == 0 {
             return self.store();
+        }
+        if self.turns_outside(25) {
+            let results = self.call_external(1);
+            return self.pop_all(results);
         }
         match self.random.below(20) {
             0..=3 => self.store(),

@@ -6,6 +6,7 @@ use super::program::Program;
 use crate::check::{examine, StackMaps};
 use crate::random::Random;
 use crate::record::Record;
+use crate::set::{Lent, Set};
 
 /// Changes code or results list in one place.
 pub fn damage(random: &mut Random, program: &mut Program) {
@@ -113,13 +114,19 @@ fn retarget(random: &mut Random, bytes: &mut [u8], place: usize, places: &[usize
 /// Gives jumps of an accepted program other targets that have the same slots.
 pub fn reroute(random: &mut Random, program: &mut Program) {
     let record = program.parts.assemble();
-    let Ok(record) = Record::read(&record) else { return };
-    let Ok(maps) = examine(&record, &program.results) else { return };
+    let Ok(set) = Set::read(&[Lent::main(&record, &program.results)]) else { return };
+    reroute_module(random, &set, 0, &mut program.parts.code);
+}
+
+/// Does the same for the code of a module of a set.
+pub fn reroute_module(random: &mut Random, set: &Set, own: usize, code: &mut [u8]) {
+    let Ok(maps) = examine(set, own) else { return };
+    let record = &set.modules[own].record;
     for region in record.regions() {
         let places = starts(record.code, region);
         for &place in &places {
             if random.percent(40) {
-                reroute_jump(random, &mut program.parts.code, place, &places, &maps);
+                reroute_jump(random, code, place, &places, &maps);
             }
         }
     }

@@ -33,6 +33,9 @@ impl Body<'_> {
                 }
             };
         }
+        if self.turns_outside(12) {
+            return self.external_value(depth);
+        }
         match self.random.below(12) {
             _ if self.scope.wraps && self.random.percent(10) => self.wrapped(),
             0 | 1 => {
@@ -68,6 +71,18 @@ impl Body<'_> {
                 self.constant(size);
                 self.code.bytes(&[0xd8]);
             }
+        }
+    }
+
+    /// Loads a global of a library, or what one of its procedures gives.
+    fn external_value(&mut self, depth: usize) {
+        if self.random.percent(60) {
+            return self.load_external();
+        }
+        match self.call_external(depth - 1) {
+            0 => self.load_external(),
+            2 => self.operator(&SIGNED[..2]),
+            _ => {}
         }
     }
 
@@ -139,7 +154,7 @@ impl Body<'_> {
     }
 
     /// An offset into `size` words, mostly inside.
-    fn offset(&mut self, size: usize) -> usize {
+    pub fn offset(&mut self, size: usize) -> usize {
         if size == 0 || self.wild() {
             self.random.below(40)
         } else {
@@ -208,6 +223,9 @@ impl Body<'_> {
 
     /// A statement: stores one or two words.
     pub fn store(&mut self) {
+        if self.turns_outside(20) {
+            return self.store_external();
+        }
         let double = self.random.percent(20);
         let words = 1 + usize::from(double);
         let pointer = self.random.percent(20);
@@ -250,6 +268,9 @@ impl Body<'_> {
             self.push(1);
             return;
         }
+        if self.turns_outside(25) {
+            return self.address_external();
+        }
         if self.prefers_local() {
             let offset = self.offset(self.local_words());
             self.code.bytes(&[0x8d, offset as u8]);
@@ -283,9 +304,8 @@ impl Body<'_> {
         self.callee().filter(|&callee| self.scope.signatures[callee].results > 0)
     }
 
-    /// Pushes the parameters and calls; the number of results.
-    pub fn call(&mut self, callee: usize, depth: usize) -> usize {
-        let Signature { parameters, results, .. } = self.scope.signatures[callee];
+    /// Pushes the parameters of a call.
+    pub fn arguments(&mut self, parameters: usize, depth: usize) {
         for _ in 0..parameters {
             if parameters > 10 || self.held.len() > 100 {
                 self.constant(2);
@@ -293,6 +313,12 @@ impl Body<'_> {
                 self.value(depth);
             }
         }
+    }
+
+    /// Pushes the parameters and calls; the number of results.
+    pub fn call(&mut self, callee: usize, depth: usize) -> usize {
+        let Signature { parameters, results, .. } = self.scope.signatures[callee];
+        self.arguments(parameters, depth);
         if callee < 16 && self.random.percent(70) {
             self.code.bytes(&[0x70 + callee as u8]);
         } else {

@@ -1,6 +1,7 @@
 //! Single random instructions and byte soup.
 
 use super::record::set_entry;
+use crate::cut::cut;
 use crate::instruction::{decode, Fault};
 use crate::random::Random;
 use crate::record::Region;
@@ -16,9 +17,13 @@ pub fn is_served(opcode: u8) -> bool {
 /// Added to the number of an opcode that stands after DOUBLE.
 pub const AFTER_DOUBLE: u32 = 256;
 
-/// All served opcodes, those after DOUBLE included.
+/// LOAD_E, LOAD_A_E, STOR_E and CALL_E, which a record by itself does not take where they are cut.
+pub const EXTERNAL: [u32; 4] = [0x89, 0x91, 0x98, 0xe6];
+
+/// All other served opcodes, those after DOUBLE included.
 pub fn served() -> Vec<u32> {
     let alone = (0..=255).filter(|&opcode| opcode != 0xf5 && is_served(opcode)).map(u32::from);
+    let alone = alone.filter(|opcode| !EXTERNAL.contains(opcode));
     let double = (0..=255)
         .filter(|&opcode| decode(&[0xf5, opcode], 2, 0) != Err(Fault::Unserved))
         .map(|opcode| AFTER_DOUBLE + u32::from(opcode));
@@ -98,6 +103,14 @@ pub fn single(random: &mut Random, served: &[u32]) -> Vec<u8> {
     code
 }
 
+/// Makes code whose procedure 0 begins with a LOAD_C.w that has an external instruction inside it,
+/// right after its opcode: it is not cut there, so that any library number may stand in it.
+pub fn hidden(random: &mut Random) -> Vec<u8> {
+    let opcode = random.pick(&EXTERNAL) as u8;
+    let library = random.pick(&[0, 1, 1, 2, 3, 15, 16, 255]);
+    vec![0, 2, 0x84, opcode, library, small_byte(random), 0xff, 0xff, 0xe9]
+}
+
 fn access_opcode(random: &mut Random) -> u8 {
     match random.below(20) {
         0 => random.byte(),
@@ -116,6 +129,8 @@ fn operands(random: &mut Random, opcode: u8) -> Vec<u8> {
         0x81 | 0x83 | 0x88 | 0x90 | 0x93 | 0x97 | 0xdb | 0xdd | 0xe0 => halfword(random),
         0x84 => random.word().to_be_bytes().to_vec(),
         0xe8 => vec![random.pick(&[0, 0, 1, 2, 3, 255]), small_byte(random)],
+        0x89 | 0x91 | 0x98 => vec![random.pick(&[1, 1, 2, 3, 0]), small_byte(random)],
+        0xe6 => vec![random.pick(&[1, 1, 2, 3, 0]), random.pick(&[1, 1, 1, 2, 3, 0, 255])],
         _ => vec![],
     }
 }
@@ -188,11 +203,5 @@ pub fn byte_soup(random: &mut Random) -> Vec<u8> {
 
 /// Places of the instructions of a region, up to the first bad one.
 pub fn starts(code: &[u8], region: Region) -> Vec<usize> {
-    let mut starts = Vec::new();
-    let mut place = region.start;
-    while let Ok((_, next)) = decode(code, region.end, place) {
-        starts.push(place);
-        place = next;
-    }
-    starts
+    cut(code, region).flatten().map(|placed| placed.place).collect()
 }

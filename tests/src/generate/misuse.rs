@@ -99,6 +99,9 @@ impl Body<'_> {
     }
 
     fn pass_as_parameter(&mut self) {
+        if self.turns_outside(50) {
+            return self.pass_outside();
+        }
         let Some(callee) = self.callee() else { return };
         let Signature { parameters, results, .. } = self.scope.signatures[callee];
         if !(1..=10).contains(&parameters) {
@@ -106,6 +109,17 @@ impl Body<'_> {
         }
         (1..parameters).for_each(|_| self.value(0));
         self.apply(&[0xe5, callee as u8], parameters, results);
+    }
+
+    fn pass_outside(&mut self) {
+        let Some((library, callee)) = self.external_callee() else { return };
+        let Signature { parameters, results, .. } =
+            self.scope.libraries[library].signatures[callee];
+        if !(1..=10).contains(&parameters) {
+            return;
+        }
+        (1..parameters).for_each(|_| self.value(0));
+        self.apply(&[0xe6, library as u8 + 1, callee as u8], parameters, results);
     }
 
     /// A switch over what is on top, all of whose branches are `branch`.

@@ -18,15 +18,26 @@ pub struct Program {
 const TAME: usize = 1;
 const WILD: usize = 12;
 /// How likely statements are that misuse a label, in percent.
-const FLAWED: usize = 12;
+pub const FLAWED: usize = 12;
 
 /// A structured program of about `fuel` statements, with `nest` loops inside each other.
 fn structured(random: &mut Random, fuel: usize, nest: usize, flaw: usize) -> Program {
     let version = version_table(random);
     let scope = scope(random, flaw, wraps(version.as_flattened()));
+    of_scope(random, &scope, version, fuel, nest)
+}
+
+/// Makes the program of a scope. Its imports and relocation are for the set that it is part of.
+pub fn of_scope(
+    random: &mut Random,
+    scope: &Scope,
+    version: Vec<[u8; 4]>,
+    fuel: usize,
+    nest: usize,
+) -> Program {
     // What is too long is tried again with less.
     let code = (1..)
-        .find_map(|attempt| code(random, &scope, fuel / attempt, nest / attempt))
+        .find_map(|attempt| code(random, scope, fuel / attempt, nest / attempt))
         .expect("a program without statements fits");
     let results = scope.signatures.iter().map(|signature| signature.results as u8).collect();
     let constants = random.words(scope.constants);
@@ -36,14 +47,19 @@ fn structured(random: &mut Random, fuel: usize, nest: usize, flaw: usize) -> Pro
 
 /// A program of usual size; at times a larger one.
 pub fn usual(random: &mut Random) -> Program {
-    let (fuel, nest) = match random.below(1000) {
+    let (fuel, nest) = size(random);
+    structured(random, fuel, nest, 0)
+}
+
+/// Picks how many statements, and loops inside each other.
+pub fn size(random: &mut Random) -> (usize, usize) {
+    match random.below(1000) {
         0..=2 => (400, 0),
         3..=20 => (120, 0),
         21..=30 => (10, random.within(20..=70)),
         31..=80 => (10, random.within(3..=12)),
         _ => (random.pick(&[2, 6, 6, 12, 12, 25]), 0),
-    };
-    structured(random, fuel, nest, 0)
+    }
 }
 
 /// A program that would be accepted if labels were words like any other.
@@ -63,7 +79,7 @@ pub fn of_code(random: &mut Random, code: Vec<u8>) -> Program {
     Program { parts, results }
 }
 
-fn scope(random: &mut Random, flaw: usize, wraps: bool) -> Scope {
+pub fn scope(random: &mut Random, flaw: usize, wraps: bool) -> Scope {
     let procedures = match random.below(40) {
         0..=14 => 1,
         15..=37 => random.within(2..=5),
@@ -75,7 +91,7 @@ fn scope(random: &mut Random, flaw: usize, wraps: bool) -> Scope {
     let signatures =
         (0..procedures).map(|procedure| signature(random, procedure, procedures)).collect();
     let wild = random.pick(&[TAME, TAME, WILD]);
-    Scope { signatures, globals, constants, wild, flaw, wraps }
+    Scope { signatures, globals, constants, libraries: vec![], wild, flaw, wraps }
 }
 
 fn signature(random: &mut Random, procedure: usize, procedures: usize) -> Signature {

@@ -2,7 +2,7 @@
 
 use super::step::{Machine, Step};
 use super::stop::Stop;
-use super::MOST_CALLS;
+use super::{Link, Registers, MOST_CALLS};
 use crate::instruction::Width;
 
 impl Machine<'_> {
@@ -21,7 +21,8 @@ impl Machine<'_> {
         Ok(())
     }
 
-    /// NEXT: address, first, last, step, label. Where the sum leaves the signed range the loop is left, and nothing is stored (02, K3).
+    /// NEXT: address, first, last, step, label. Where the sum leaves the signed range the loop is
+    /// left, and nothing is stored (02, K3).
     #[inline(always)]
     pub(super) fn next(&mut self, next: i32) -> Step<()> {
         let low = self.without(5)?;
@@ -70,6 +71,31 @@ impl Machine<'_> {
         Ok(())
     }
 
+    /// Tests library, callee, depth, memory (CALL_E). Its words are global link, dynamic link, and
+    /// minus the return offset.
+    #[inline(always)]
+    pub(super) fn call_external(&mut self, library: u32, procedure: u32, next: i32) -> Step<()> {
+        let record = &self.library(library)?.record;
+        if procedure == 0 || procedure >= record.procedures {
+            return Err(Stop::NoCallee);
+        }
+        // An entry lies inside its code, so that the next place needs no test.
+        let entry = record.entry(procedure);
+        if self.registers.calls == MOST_CALLS {
+            return Err(Stop::TooManyCalls);
+        }
+        let mp = self.allocated(3)?;
+        let Registers { gp, fp, mp: link, .. } = self.registers;
+        let words = [gp, fp, next.wrapping_neg() as u32];
+        self.memory[link as usize..][..3].copy_from_slice(&words);
+        self.turn_to(library as usize);
+        self.registers.pc = entry;
+        self.registers.fp = mp;
+        self.registers.mp = mp;
+        self.registers.calls += 1;
+        Ok(())
+    }
+
     #[inline(always)]
     pub(super) fn enter(&mut self, parameters: u32, locals: u32, next: i32) -> Step<()> {
         let low = self.without(parameters)?;
@@ -82,15 +108,33 @@ impl Machine<'_> {
         Ok(())
     }
 
-    /// RTN with an active call. The saved return address is an unsigned code offset.
+    /// Returns from an active call by its return word (RTN): a local call's is a code offset, an
+    /// external one's minus an offset of the module that its global link points at.
     #[inline(always)]
     pub(super) fn ret(&mut self) -> Step<()> {
-        let link = self.registers.fp - 2;
-        let return_to = self.memory[link as usize + 1];
-        self.go_to_word(return_to, self.registers.height)?;
-        self.registers.mp = link;
-        self.registers.fp = self.memory[link as usize];
+        let fp = self.registers.fp;
+        let (dynamic, word) = (self.memory[fp as usize - 2], self.memory[fp as usize - 1]);
+        let link = Link::of(word);
+        match link {
+            Link::Local => self.go_to_word(word, self.registers.height)?,
+            Link::External => self.return_external(word)?,
+        }
+        self.registers.mp = fp - link.words();
+        self.registers.fp = dynamic;
         self.registers.calls -= 1;
+        Ok(())
+    }
+
+    /// Goes back to the module of the global link. The next place is tested against its code.
+    fn return_external(&mut self, word: u32) -> Step<()> {
+        let global = self.memory[self.registers.fp as usize - 3];
+        let module = self.set.at_globals(global).expect("a global link points at globals");
+        let place = word.wrapping_neg();
+        if place as usize >= self.set.modules[module].record.code.len() {
+            return Err(Stop::OutsideCode);
+        }
+        self.turn_to(module);
+        self.registers.pc = place;
         Ok(())
     }
 }

@@ -2,8 +2,9 @@
 
 use super::step::{Machine, Step};
 use super::stop::Stop;
+use super::Link;
 use crate::instruction::{Base, Width};
-use crate::record::GLOBALS_AT;
+use crate::set::Module;
 
 impl Machine<'_> {
     /// The address of an operand; for a pointer the address lies at height `at` of the stack.
@@ -37,15 +38,50 @@ impl Machine<'_> {
     #[inline(always)]
     pub(super) fn unprotected(&self, address: u32) -> Step<()> {
         // Every link word lies below FP and above the constants.
-        let is_global = (GLOBALS_AT..self.constants_at).contains(&address);
-        if address >= self.registers.fp || is_global {
+        if address >= self.registers.fp || self.globals.contains(&address) {
             return Ok(());
         }
-        if address < self.frames_at
-            || is_link(self.memory, self.registers.fp, self.registers.calls, address)
-        {
+        let protected = if address < self.frames_at {
+            !self.set.modules.iter().any(|module| module.globals().contains(&address))
+        } else {
+            is_link(self.memory, self.registers.fp, self.registers.calls, address)
+        };
+        if protected {
             return Err(Stop::Protected);
         }
+        Ok(())
+    }
+
+    /// Finds the module that a library number of the copy names (23).
+    #[inline(always)]
+    pub(super) fn library(&self, number: u32) -> Step<&Module<'_>> {
+        match number {
+            0 => Err(Stop::NoCallee),
+            _ => self.set.modules.get(number as usize).ok_or(Stop::NoCallee),
+        }
+    }
+
+    /// Counts an offset from the first global of a library (BASE).
+    #[inline(always)]
+    pub(super) fn external_address(&self, library: u32, offset: u32) -> Step<u32> {
+        Ok(self.library(library)?.globals_at() + offset)
+    }
+
+    #[inline(always)]
+    pub(super) fn load_external(&mut self, library: u32, offset: u32, next: i32) -> Step<()> {
+        let address = self.external_address(library, offset)?;
+        let from = self.live(Some(address), Width::One)?;
+        self.push(0, self.memory[from], next)
+    }
+
+    #[inline(always)]
+    pub(super) fn store_external(&mut self, library: u32, offset: u32, next: i32) -> Step<()> {
+        let low = self.without(1)?;
+        let address = self.external_address(library, offset)?;
+        let to = self.live(Some(address), Width::One)?;
+        self.unprotected(address)?;
+        self.go(next, low)?;
+        self.memory[to] = self.stack[low as usize];
         Ok(())
     }
 
@@ -107,11 +143,12 @@ impl Machine<'_> {
     }
 }
 
-/// Is an address below FP one of the two link words of an active call? Links fall with the chain.
+/// Is an address below FP one of the link words of an active call? Links fall with the chain.
 #[cold]
 fn is_link(memory: &[u32], mut fp: u32, calls: u32, address: u32) -> bool {
     for _ in 0..calls {
-        if address >= fp - 2 {
+        let link = Link::of(memory[fp as usize - 1]);
+        if address >= fp - link.words() {
             return address < fp;
         }
         fp = memory[fp as usize - 2];

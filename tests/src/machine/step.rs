@@ -7,15 +7,19 @@ use super::stop::Stop;
 use super::Registers;
 use crate::arithmetic::{binary, negate};
 use crate::instruction::{visit, Instruction, Visitor};
-use crate::record::Record;
+use crate::set::Set;
+use std::ops::Range;
 
 pub type Step<T> = Result<T, Stop>;
 
 pub struct Machine<'a> {
+    pub(super) set: &'a Set<'a>,
+    copy: &'a [u8],
+    pub(super) frames_at: u32,
+    /// The running module's code in the copy, number of procedures, globals and rule of K11.
     pub(super) code: &'a [u8],
     pub(super) procedures: u32,
-    pub(super) constants_at: u32,
-    pub(super) frames_at: u32,
+    pub(super) globals: Range<u32>,
     wraps: bool,
     pub(super) memory: &'a mut [u32],
     pub(super) stack: &'a mut [u32],
@@ -33,23 +37,39 @@ impl Visitor for &mut Machine<'_> {
 }
 
 impl<'a> Machine<'a> {
-    /// `registers` fit the record, memory and stack.
+    /// `registers` fit the set, copy, memory and stack.
     pub fn new(
-        record: &Record<'a>,
+        set: &'a Set<'a>,
+        copy: &'a [u8],
         memory: &'a mut [u32],
         stack: &'a mut [u32],
         registers: Registers,
     ) -> Machine<'a> {
-        Machine {
-            code: record.code,
-            procedures: record.procedures,
-            constants_at: record.constants_at(),
-            frames_at: record.frames_at(),
-            wraps: record.wraps,
+        let mut machine = Machine {
+            set,
+            copy,
+            frames_at: set.frames_at(),
+            code: &[],
+            procedures: 0,
+            globals: 0..0,
+            wraps: false,
             memory,
             stack,
             registers,
-        }
+        };
+        machine.turn_to(registers.module as usize);
+        machine
+    }
+
+    /// Makes a module the running one.
+    pub(super) fn turn_to(&mut self, number: usize) {
+        let module = &self.set.modules[number];
+        self.code = &self.copy[module.copy()];
+        self.procedures = module.record.procedures;
+        self.globals = module.globals();
+        self.wraps = module.record.wraps;
+        self.registers.gp = module.globals_at();
+        self.registers.module = number as u32;
     }
 
     #[inline(always)]
@@ -66,6 +86,12 @@ impl<'a> Machine<'a> {
             Load(base, offset, width) => self.load(base, offset, width, next)?,
             LoadAddress(base, offset) => self.load_address(base, offset, next)?,
             Store(base, offset, width) => self.store(base, offset, width, next)?,
+            LoadExternal(library, offset) => self.load_external(library, offset, next)?,
+            LoadAddressExternal(library, offset) => {
+                let address = self.external_address(library, offset)?;
+                self.push(0, address, next)?;
+            }
+            StoreExternal(library, offset) => self.store_external(library, offset, next)?,
             Pop(count) => {
                 let height = self.without(count)?;
                 self.go(next, height)?;
@@ -129,6 +155,7 @@ impl<'a> Machine<'a> {
                 self.go_to_word(self.stack[height as usize], height)?;
             }
             Call(procedure) => self.call(procedure, next)?,
+            CallExternal(library, procedure) => self.call_external(library, procedure, next)?,
             Enter { parameters, locals } => self.enter(parameters, locals, next)?,
             Rtn if self.registers.calls == 0 => return Err(Stop::Finished),
             Rtn => self.ret()?,

@@ -1,9 +1,11 @@
 //! The record or run file that a text asks for.
 
 use super::encode::Place;
-use super::layout::{item_len, Layout};
-use super::program::{Lined, Program, RunHead, TextFault};
+use super::layout::{item_len, Layout, Placed};
+use super::program::{Item, Lined, Program, RunHead, TextFault};
+use crate::bytes::word_bytes;
 use crate::run_file::BEGINNING;
+use crate::sheet::Operands;
 use std::collections::BTreeMap;
 
 /// What a text makes.
@@ -76,21 +78,45 @@ fn entries(layout: &Layout) -> Result<Vec<u8>, Vec<TextFault>> {
 fn record(program: &Program, layout: &Layout, code: &[u8]) -> Vec<u8> {
     let pair = |(&offset, &line): (&usize, &u32)| [offset as u32, line];
     let source: Vec<u32> = layout.source.iter().flat_map(pair).collect();
-    let Program { globals, constants, version, .. } = program;
-    let (imports, relocation) = (0, 0);
-    let [code_size, constants_size, version_size, source_size] =
-        [code.len(), constants.len(), version.len(), source.len()].map(|len| len as u32);
+    let Program { globals, imports, constants, version, .. } = program;
+    let relocation = program.relocation.clone().unwrap_or_else(|| library_bytes(layout));
+    let sizes = [imports.len(), code.len(), constants.len(), relocation.len()];
+    let [imports_size, code_size, constants_size, relocation_size] = sizes.map(|len| len as u32);
+    let [version_size, source_size] = [version.len(), source.len()].map(|len| len as u32);
     let header = [
-        imports,
+        imports_size,
         code_size,
         globals.unwrap_or(0),
         constants_size,
-        relocation,
+        relocation_size,
         version_size,
         source_size,
     ];
-    [&word_bytes(&header), code, &word_bytes(constants), &word_bytes(version), &word_bytes(&source)]
-        .concat()
+    let bytes = |words: &[u32]| word_bytes(words.to_vec());
+    let behind = [bytes(constants), bytes(&relocation), bytes(version), bytes(&source)].concat();
+    [&bytes(&header), &bytes(imports), code, &behind].concat()
+}
+
+/// Finds the library byte of every external instruction, in the order of the code.
+fn library_bytes(layout: &Layout) -> Vec<u32> {
+    let mut found = Vec::new();
+    for Placed { procedure, entry, .. } in &layout.procedures {
+        let mut at = *entry;
+        for Lined { item, .. } in &procedure.items {
+            if is_external(item) {
+                found.push(at as u32 + 1);
+            }
+            at += item_len(item);
+        }
+    }
+    found
+}
+
+fn is_external(item: &Item) -> bool {
+    match item {
+        Item::Statement(statement) => statement.form.operands() == Operands::External,
+        _ => false,
+    }
 }
 
 /// Makes the head of a run file; none for a text that names nothing of one.
@@ -107,7 +133,7 @@ fn head(run: &RunHead, results: &[u8]) -> Result<Option<Vec<u8>>, String> {
     head.push(count_byte(results.len(), "results")?);
     head.extend(results);
     head.push(count_byte(parameters.len(), "parameters")?);
-    head.extend(word_bytes(parameters));
+    head.extend(word_bytes(parameters.to_vec()));
     head.extend(budget.to_be_bytes());
     head.extend(memory.to_be_bytes());
     head.extend(stack.to_be_bytes());
@@ -116,8 +142,4 @@ fn head(run: &RunHead, results: &[u8]) -> Result<Option<Vec<u8>>, String> {
 
 fn count_byte(count: usize, what: &str) -> Result<u8, String> {
     u8::try_from(count).map_err(|_| format!("a run file has at most 255 {what}, found {count}"))
-}
-
-fn word_bytes(words: &[u32]) -> Vec<u8> {
-    words.iter().flat_map(|word| word.to_be_bytes()).collect()
 }

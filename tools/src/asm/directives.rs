@@ -5,8 +5,8 @@ use super::program::{Item, Lined, Procedure};
 use super::tokens::{is_name, Reader, Token};
 use crate::bytes::words;
 
-const NAMES: &str = ".globals, .constants, .version, .results, .parameters, .budget, .memory, \
-                     .stack, .procedure, .line and .bytes";
+const NAMES: &str = ".globals, .constants, .version, .import, .relocation, .results, .parameters, \
+                     .budget, .memory, .stack, .procedure, .line and .bytes";
 
 const BYTE: i64 = u8::MAX as i64;
 const HALFWORD: i64 = u16::MAX as i64;
@@ -24,6 +24,8 @@ impl Parser {
             ".memory" => once(name, &mut run.memory, reader.number(0..=HALFWORD)? as u16),
             ".stack" => once(name, &mut run.stack, reader.number(0..=HALFWORD)? as u16),
             ".constants" => read_words(reader, &mut program.constants),
+            ".import" => read_words(reader, &mut program.imports),
+            ".relocation" => read_words(reader, program.relocation.get_or_insert_default()),
             ".version" => read_version(reader, &mut program.version),
             ".parameters" => read_words(reader, run.parameters.get_or_insert_default()),
             ".results" => read_bytes(reader, program.results.get_or_insert_default()),

@@ -108,7 +108,7 @@ fn read_operands(reader: &mut Reader, operands: Operands) -> Result<Vec<Operand>
         // How many rows a switch has may be left to be counted.
         Operands::Table if reader.rest.is_empty() => Vec::new(),
         Operands::Number | Operands::Table => vec![read_number(reader)?],
-        Operands::Two => {
+        Operands::Two | Operands::External => {
             let first = read_number(reader)?;
             reader.expect(&Token::Comma)?;
             vec![first, read_number(reader)?]

@@ -19,6 +19,9 @@ pub struct Lined<T> {
 pub struct Program {
     pub globals: Option<u32>,
     pub constants: Vec<u32>,
+    pub imports: Vec<u32>,
+    /// As the text gives it; without one it has every library byte.
+    pub relocation: Option<Vec<u32>>,
     pub version: Vec<u32>,
     /// As the text gives it; without one every procedure has none.
     pub results: Option<Vec<u8>>,

@@ -1,9 +1,13 @@
 //! The head of a run file, and the sizes and tables of a record.
 
 use crate::bytes::{hex, quoted, spaced, words};
+use crate::code::procedures;
+use crate::instruction::Instruction;
+use crate::libraries::Libraries;
 use crate::machine::wraps;
 use crate::record::{sizes, total_bytes, Kind, Record, KINDS};
 use crate::run_file::RunFile;
+use std::collections::BTreeMap;
 use std::io::{self, Write};
 
 const WORDS_IN_ROW: usize = 8;
@@ -25,6 +29,32 @@ pub fn print_sizes(out: &mut impl Write, record: &[u8]) -> io::Result<()> {
         writeln!(out, "  {name:<10} {size} of at most {max} {unit}")?;
     }
     writeln!(out, "  in all     {} bytes with the header", total_bytes(&sizes))
+}
+
+/// Prints the import list by library numbers, with the libraries that are lent, and the relocation
+/// table with the instructions that its entries point at.
+pub fn print_imports(
+    out: &mut impl Write,
+    record: &Record,
+    libraries: &Libraries,
+) -> io::Result<()> {
+    for (number, &sid) in (1..).zip(&record.imports) {
+        let lent = libraries.0.iter().find(|library| library.sid == sid);
+        let lent = lent.map_or("not lent".to_string(), |library| library.file());
+        writeln!(out, "  import     {number}: SID {sid}, {lent}")?;
+    }
+    let procedures = if record.number == 0 { procedures(record) } else { Vec::new() };
+    let all = procedures.iter().flat_map(|procedure| &procedure.instructions);
+    let external: BTreeMap<u32, &Instruction> =
+        all.filter_map(|one| Some((one.library_byte()? as u32, one))).collect();
+    for entry in &record.relocation {
+        let found = external.get(entry);
+        let text = found.map_or("stray, at no library byte".to_string(), |one| {
+            format!("{} at {}", one.text(), one.at)
+        });
+        writeln!(out, "  relocation offset {entry}: {text}")?;
+    }
+    Ok(())
 }
 
 pub fn print_tables(

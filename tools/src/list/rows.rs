@@ -52,7 +52,7 @@ impl Listing<'_> {
         let line = library::line_span(self.record.bytes, at).map_or(0, |span| span.line);
         let height = workspace_text(self.workspace[4 * at]);
         let label = workspace_text(self.workspace[4 * at + 1]);
-        let text = shown.text();
+        let text = shown.text_in(self.record);
         let len = if shown.is_switch() { HEAD_BYTES } else { shown.len };
         let bytes = hex(&self.record.code[at..at + len]);
         writeln!(out, "{mark}{at:5} {line:10} {height:>6} {label:>6}  {text:<26}  {bytes}")

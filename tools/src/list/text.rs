@@ -4,6 +4,7 @@ use crate::bytes::{spaced, word, words};
 use crate::code::{procedures, Procedure};
 use crate::instruction::Instruction;
 use crate::judged::Judged;
+use crate::linkage::library_bytes;
 use crate::meaning::meaning;
 use crate::record::Record;
 use crate::run_file::RunFile;
@@ -27,6 +28,7 @@ pub fn print(out: &mut impl Write, listed: &Judged, record: &Record) -> io::Resu
         writeln!(out, ".results{}", spaced(results))?;
     }
     print_tables(out, record)?;
+    print_linkage(out, record)?;
     let mut lines: BTreeMap<usize, u32> =
         record.source_pairs().into_iter().map(|(offset, line)| (offset as usize, line)).collect();
     let procedures = procedures(record);
@@ -55,6 +57,17 @@ fn print_tables(out: &mut impl Write, record: &Record) -> io::Result<()> {
         writeln!(out, ".version{}", spaced(words))?;
     }
     Ok(())
+}
+
+/// Prints the import list, and the relocation table where it is another than the assembler writes.
+fn print_linkage(out: &mut impl Write, record: &Record) -> io::Result<()> {
+    print_words(out, ".import", &record.imports)?;
+    let written: Vec<u32> = library_bytes(&procedures(record)).into_iter().collect();
+    match &record.relocation[..] {
+        relocation if relocation == written => Ok(()),
+        [] => writeln!(out, ".relocation"),
+        relocation => print_words(out, ".relocation", relocation),
+    }
 }
 
 fn print_words(out: &mut impl Write, directive: &str, words: &[u32]) -> io::Result<()> {

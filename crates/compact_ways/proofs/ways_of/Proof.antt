@@ -16,7 +16,11 @@ returns-10 c =
 
 returns-11 : tie.Need-returns-11
 unfolding waysTop
-returns-11 c = rw (c .before .before .shape9 .given .1, c .straight-ways3 .ensures)
+returns-11 c = rw (c .before .before .shape9 .given .1, c .external-ways .ensures)
+
+returns-12 : tie.Need-returns-12
+unfolding waysTop
+returns-12 c = rw (c .before .before .shape10 .given .1, c .straight-ways3 .ensures)
 
 pub ways-of-spec : {M : Type 1} → statement M
 unfolding waysTop
@@ -27,7 +31,7 @@ ways-of-spec =
     (λ c κs. search needs) (λ c. search needs) (λ c κs. search needs) (λ c. search needs) (λ c κs. search needs)
     (λ c. search needs) (λ c κs. search needs) (λ c. search needs) (λ c κs. search needs) (λ c. search needs)
     (λ c κs. search needs) (λ c κs. search needs) (λ c κs. search needs) (λ c. search needs) (λ c κs. search needs)
-    (λ c. search needs) (λ c κs. search needs) (λ c κs. search needs)
+    (λ c. search needs) (λ c κs. search needs) (λ c. search needs) (λ c κs. search needs) (λ c κs. search needs)
     (λ c. rw (c .before .before .shape .given .1, c .straight-ways .ensures))
     (λ c. rw (c .before .before .shape2 .given .1, c .pop-ways .ensures))
     (λ c. rw (c .before .before .before .shape3 .given .1, c .way-toward .ensures, c .before .place-at .ensures))
@@ -39,4 +43,5 @@ ways-of-spec =
     (λ c. rw (c .before .enum-told2 .given .1, c .leave-ways .ensures))
     returns-10
     returns-11
+    returns-12
     (λ c. rw (c .before .before .enum-told3 .given .1, c .rtn-ways .ensures, c .before .callee-results2 .ensures)))

@@ -7,7 +7,7 @@ use Rattle.control.proofs.iter_effect.Tie as tie
 
 returns : tie.Need-returns
 unfolding iterEffect
-returns c =
+returns c copy =
     let jump-to = c .jump-to in
     let place-at = c .before .place-at in
     let if1 = c .before .before .if1 in
@@ -16,7 +16,7 @@ returns c =
 
 returns-2 : tie.Need-returns-2
 unfolding iterEffect
-returns-2 c =
+returns-2 c copy =
     let if2 = c .if2 in
     let is-live = c .before .is-live in
     let if1 = c .before .before .if1 in
@@ -25,7 +25,7 @@ returns-2 c =
 
 returns-3 : tie.Need-returns-3
 unfolding iterEffect
-returns-3 c =
+returns-3 c copy =
     let if3 = c .if3 in
     let is-protected = c .before .is-protected in
     let if2 = c .before .before .if2 in
@@ -37,13 +37,13 @@ returns-3 c =
       if1 .left,
       ← is-live .ensures,
       not-false (is-live .result) (if2 .left),
-      ← is-protected .ensures,
+      ← is-protected .ensures copy,
       if3 .taken,
     )
 
 returns-4 : tie.Need-returns-4
 unfolding iterEffect
-returns-4 c =
+returns-4 c copy =
     let moved = c .moved in
     let if3 = c .before .if3 in
     let is-protected = c .before .before .is-protected in
@@ -56,7 +56,7 @@ returns-4 c =
       if1 .left,
       ← is-live .ensures,
       not-false (is-live .result) (if2 .left),
-      ← is-protected .ensures,
+      ← is-protected .ensures copy,
       if3 .left,
       moved .ensures,
     )

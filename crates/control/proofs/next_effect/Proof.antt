@@ -8,33 +8,33 @@ use Rattle.control.proofs.next_effect.Tie as tie
 
 returns : tie.Need-returns
 unfolding nextEffect
-returns c =
+returns c copy =
     let if1 = c .if1 in
     let is-live = c .before .is-live in
     rw (← is-live .ensures, not-true (is-live .result) (if1 .taken))
 
 returns-2 : tie.Need-returns-2
 unfolding nextEffect
-returns-2 c =
+returns-2 c copy =
     let if2 = c .if2 in
     let is-protected = c .before .is-protected in
     let if1 = c .before .before .if1 in
     let is-live = c .before .before .before .is-live in
-    rw (← is-live .ensures, not-false (is-live .result) (if1 .left), ← is-protected .ensures, if2 .taken)
+    rw (← is-live .ensures, not-false (is-live .result) (if1 .left), ← is-protected .ensures copy, if2 .taken)
 
 summed : (c : tie.After-next-sum) →
-    let a = c .before .before .before .before .before .before .args in
+    let a = c .before .before .before .before .before .before .before .args in
     c .next-sum .result ≡ nextSum (a .m .now) (a .a) (a .step)
 summed c = c .next-sum .ensures
 
 goes : (c : tie.After-sum-effect) →
-    let a = c .before .before .before .before .before .before .before .args in
+    let a = c .before .before .before .before .before .before .before .before .args in
     c .sum-effect .result ≡ sumEffect (a .q) (a .next) (a .a) (a .last) (a .step) (a .label) (c .before .next-sum .result)
 goes c = c .sum-effect .ensures
 
 returns-3 : tie.Need-returns-3
 unfolding nextEffect
-returns-3 c =
+returns-3 c copy =
     let if2 = c .before .before .if2 in
     let is-protected = c .before .before .before .is-protected in
     let if1 = c .before .before .before .before .if1 in
@@ -42,7 +42,7 @@ returns-3 c =
     rw (
       ← is-live .ensures,
       not-false (is-live .result) (if1 .left),
-      ← is-protected .ensures,
+      ← is-protected .ensures copy,
       if2 .left,
       ← summed (c .before),
       goes c,

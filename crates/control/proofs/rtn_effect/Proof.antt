@@ -3,7 +3,6 @@ use mathlib.Core.Path.{_≡_}
 use native.Mathlib.Omega.{arith}
 use borrow.Author.Tests.{eq-eqb, ne-eqb}
 use Rattle.control.proofs.rtn_effect.Statement.{statement}
-use Rattle.registers.specs.Program.{framesStart}
 use Rattle.control.specs.Control.{rtnEffect}
 use Rattle.control.proofs.Laws.{framed}
 use Rattle.control.proofs.rtn_effect.Tie as tie
@@ -22,7 +21,7 @@ returned-requires : tie.Need-returned-requires
 returned-requires c κs =
     let a = c .before .before .before .args in
     let pre = c .before .before .before .pre in
-    (framed (a .m .now) (framesStart (a .attributes)) (a .q .fp) (a .q .calls) (pre) (called c), omega arith)
+    (framed (a .m .now) (a .frames) (a .q .fp) (a .q .calls) (pre) (called c), omega arith)
 
 goes-back : ((c : tie.Else1) → Called c) → tie.Need-returns-2
 unfolding rtnEffect

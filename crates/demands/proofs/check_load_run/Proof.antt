@@ -3,7 +3,7 @@ use mathlib.Core.List.{List}
 use mathlib.Core.Path.{_≡_}
 use Prim.Native.Nat.{ℕ}
 use borrow.Author.Needs.{needs}
-use Rattle.safety.specs.Joined.{Joined, joined, joinedOf}
+use Rattle.joined.specs.Joined.{Joined, joined, joinedOf}
 use Rattle.demands.proofs.Collected.{demands}
 use Rattle.demands.proofs.check_load_run.Statement.{statement}
 use Rattle.demands.proofs.check_load_run.Tie as tie

@@ -1,5 +1,6 @@
 -- `execute::execute_next` meets its contract: the words by their depths.
 use borrow.Author.Needs.{needs}
+use Rattle.registers.specs.Modules.{modulesIn}
 use Rattle.registers.specs.Program.{program}
 use Rattle.execute.proofs.Top.{next-found}
 use Rattle.execute.proofs.execute_next.Statement.{statement}
@@ -12,11 +13,11 @@ returns c =
     let peek3 = c .before .before .peek3 in
     let peek2 = c .before .before .before .peek2 in
     let peek = c .before .before .before .before .peek in
-    let a = c .before .before .before .before .before .before .before .args in
-    let pre = c .before .before .before .before .before .before .before .pre in
-    λ code. rw (
-      next-found (program code (a .attributes)) (a .q) (a .m .now) (a .s .now) (a .next) (pre .1),
-      next-effect .ensures,
+    let a = c .before .before .before .before .before .before .before .before .args in
+    let pre = c .before .before .before .before .before .before .before .before .pre in
+    λ code copy. rw (
+      next-found (program code (a .attributes) (modulesIn (a .table .now) copy)) (a .q) (a .m .now) (a .s .now) (a .next) (pre .1 .1),
+      next-effect .ensures copy,
       peek .ensures,
       peek2 .ensures,
       peek3 .ensures,

@@ -1,9 +1,7 @@
 -- `fast_double::double_long` meets its contract: each arm is its instruction's step.
 use mathlib.Core.Path.{_∙_, refl, sym}
-use native.Mathlib.Omega.{arith}
 use Prim.Native.Nat.{_+_}
 use borrow.Author.Needs.{needs}
-use Rattle.operand.specs.Operand.{unsigned, b as byte}
 use Rattle.opcode.specs.Table.{both, rowOf}
 use Rattle.opcode.specs.declared.instruction.Mode.the-variants.{Double}
 use Rattle.state.proofs.Fitting.{fitting}
@@ -19,23 +17,21 @@ use Rattle.fast_double.proofs.double_long.Tie as tie
 
 load-two-requires : tie.Need-load-two-requires
 load-two-requires c κs =
-    let word-at = c .word-at in
     let byte-at = c .before .before .before .before .before .before .before .byte-at in
     let a = c .before .before .before .before .before .before .before .before .before .before .before .before .before .args in
     let pre = c .before .before .before .before .before .before .before .before .before .before .before .before .before .pre in
     let F = fitting (a .attributes) (stateAt (a .q) (spot (a .pc .now) (a .height .now) (a .memory .now) (a .stack .now)))
     (pre .1 .1 .1) in (
       F .within,
-      rw (word-at .ensures) (small-constant (a .attributes) (a .q)
+      small-constant (a .attributes) (a .q)
           (spot (a .pc .now) (a .height .now) (a .memory .now) (a .stack .now)) (pre .1 .1 .1) (byte-at .result)
-          (byte-small (byte-at .result) (byte-at .ok))),
+          (byte-small (byte-at .result) (byte-at .ok)),
     )
 
 returns-2 : tie.Need-returns-2
 unfolding rowOf
 returns-2 c =
     let load-two = c .before .before .load-two in
-    let word-at = c .before .before .before .word-at in
     let earlier = c .before .before .before .before .before .before .before .before .before in
     let match = earlier .match in
     let byte-at = earlier .before .byte-at in
@@ -43,13 +39,12 @@ returns-2 c =
     let a = earlier .before .before .before .before .before .before .before .args in
     let pre = earlier .before .before .before .before .before .before .before .pre in
     load-two-constant-arm (a .code .now) (a .attributes) (a .q) (a .pc .now) (a .height .now) (a .memory .now) (a .stack .now)
-    (pre .1 .1 .1)
     (load-two .result) (spot (load-two .last .1 .1 .0) (load-two .last .1 .1 .1 .0) (a .memory .now) (load-two .last .1 .0))
     (a .pc .now + 1 + 2) (if1 .left) (byte-at .result)
     (byte-form (a .code .now) (a .pc .now) both _ Double _ 0x80 _
     (behind (pre .1 .0))
     (sym (pre .1 .1 .0) ∙ match .keys1) refl refl (byte-at .ensures) (if1 .left))
-    (rw (word-at .ensures) at (load-two .ensures))
+    (load-two .ensures)
 
 load-two-requires-2 : tie.Need-load-two-requires-2
 load-two-requires-2 c κs =
@@ -74,7 +69,6 @@ returns-3 c =
     let a = earlier .before .before .before .before .before .before .before .args in
     let pre = earlier .before .before .before .before .before .before .before .pre in
     load-two-local-arm (a .code .now) (a .attributes) (a .q) (a .pc .now) (a .height .now) (a .memory .now) (a .stack .now)
-    (pre .1 .1 .1)
     (load-two2 .result) (spot (load-two2 .last .1 .1 .0) (load-two2 .last .1 .1 .1 .0) (a .memory .now) (load-two2 .last .1 .0))
     (a .pc .now + 1 + 2) (if1 .left) (byte-at .result)
     (byte-form (a .code .now) (a .pc .now) both _ Double _ 0x85 _
@@ -105,7 +99,6 @@ returns-4 c =
     let a = earlier .before .before .before .before .before .before .before .args in
     let pre = earlier .before .before .before .before .before .before .before .pre in
     load-two-global-arm (a .code .now) (a .attributes) (a .q) (a .pc .now) (a .height .now) (a .memory .now) (a .stack .now)
-    (pre .1 .1 .1)
     (load-two3 .result) (spot (load-two3 .last .1 .1 .0) (load-two3 .last .1 .1 .1 .0) (a .memory .now) (load-two3 .last .1 .0))
     (a .pc .now + 1 + 2) (if1 .left) (byte-at .result)
     (byte-form (a .code .now) (a .pc .now) both _ Double _ 0x86 _
@@ -133,7 +126,6 @@ returns-5 c =
     let a = earlier .before .before .before .before .before .before .before .args in
     let pre = earlier .before .before .before .before .before .before .before .pre in
     load-two-popped-arm (a .code .now) (a .attributes) (a .q) (a .pc .now) (a .height .now) (a .memory .now) (a .stack .now)
-    (pre .1 .1 .1)
     (load-two-popped .result) (spot (load-two-popped .last .1 .1 .0) (load-two-popped .last .1 .1 .1 .0) (a .memory .now)
     (load-two-popped .last .1 .0))
     (a .pc .now + 1 + 2) (if1 .left) (byte-at .result)
@@ -169,7 +161,6 @@ returns-6 c =
     let a = earlier .before .before .before .before .before .before .before .args in
     let pre = earlier .before .before .before .before .before .before .before .pre in
     store-two-local-arm (a .code .now) (a .attributes) (a .q) (a .pc .now) (a .height .now) (a .memory .now) (a .stack .now)
-    (pre .1 .1 .1)
     (store-two .result) (spot (store-two .last .1 .1 .1 .0) (store-two .last .1 .1 .1 .1 .0) (store-two .last .1 .0)
     (a .stack .now))
     (a .pc .now + 1 + 2) (if1 .left) (byte-at .result)
@@ -205,7 +196,6 @@ returns-7 c =
     let a = earlier .before .before .before .before .before .before .before .args in
     let pre = earlier .before .before .before .before .before .before .before .pre in
     store-two-global-arm (a .code .now) (a .attributes) (a .q) (a .pc .now) (a .height .now) (a .memory .now) (a .stack .now)
-    (pre .1 .1 .1)
     (store-two2 .result) (spot (store-two2 .last .1 .1 .1 .0) (store-two2 .last .1 .1 .1 .1 .0) (store-two2 .last .1 .0)
     (a .stack .now))
     (a .pc .now + 1 + 2) (if1 .left) (byte-at .result)
@@ -226,14 +216,13 @@ returns-8 : tie.Need-returns-8
 unfolding rowOf
 returns-8 c =
     let store-two-popped = c .before .before .store-two-popped in
-    let earlier = c .before .before .before .before .before .before .before in
-    let match = earlier .match in
-    let byte-at = earlier .before .byte-at in
-    let if1 = earlier .before .before .if1 in
-    let a = earlier .before .before .before .before .before .before .before .args in
-    let pre = earlier .before .before .before .before .before .before .before .pre in
+    let match = c .before .before .before .before .before .before .before .match in
+    let earlier = c .before .before .before .before .before .before .before .before in
+    let byte-at = earlier .byte-at in
+    let if1 = earlier .before .if1 in
+    let a = earlier .before .before .before .before .before .before .args in
+    let pre = earlier .before .before .before .before .before .before .pre in
     store-two-popped-arm (a .code .now) (a .attributes) (a .q) (a .pc .now) (a .height .now) (a .memory .now) (a .stack .now)
-    (pre .1 .1 .1)
     (store-two-popped .result) (spot (store-two-popped .last .1 .1 .1 .1 .0) (store-two-popped .last .1 .1 .1 .1 .1 .0)
     (store-two-popped .last .1 .1 .0) (a .stack .now))
     (a .pc .now + 1 + 2) (if1 .left) (byte-at .result)
@@ -257,13 +246,12 @@ pub double-long-spec : {M : Type 1} → statement M
 double-long-spec =
     tie.close
     (tie.spec (λ c. search needs) (λ c. search needs) (λ c. search needs) (λ c. search needs) (λ c κs. search needs)
-    (λ c. search needs)
-    (λ c. search needs) (λ c. search needs) (λ c κs. search needs) (λ c. search needs) (λ c. search needs) load-two-requires
+    (λ c. search needs) (λ c. search needs) (λ c. search needs) (λ c. search needs) (λ c. search needs) load-two-requires
     (λ c. search needs) (λ c. search needs) (λ c. search needs) load-two-requires-2 (λ c. search needs) (λ c. search needs)
     (λ c. search needs) load-two-requires-3 (λ c. search needs) load-two-popped-requires (λ c. search needs)
     (λ c. search needs) (λ c. search needs) (λ c. search needs) store-two-requires (λ c. search needs) (λ c. search needs)
     (λ c. search needs) (λ c. search needs) store-two-requires-2 store-two-popped-requires double-half-requires
-    (λ c. search needs) (λ c. search needs) returns-2 (λ c. search needs)
-    (λ c. search needs) returns-3 (λ c. search needs) (λ c. search needs) returns-4 (λ c. search needs) (λ c. search needs)
-    returns-5 (λ c. search needs) (λ c. search needs) returns-6 (λ c. search needs) (λ c. search needs) returns-7
-    (λ c. search needs) (λ c. search needs) returns-8 (λ c. search needs) (λ c. search needs) returns-9)
+    (λ c. search needs) (λ c. search needs) returns-2 (λ c. search needs) (λ c. search needs) returns-3 (λ c. search needs)
+    (λ c. search needs) returns-4 (λ c. search needs) (λ c. search needs) returns-5 (λ c. search needs) (λ c. search needs)
+    returns-6 (λ c. search needs) (λ c. search needs) returns-7 (λ c. search needs) (λ c. search needs) returns-8
+    (λ c. search needs) (λ c. search needs) returns-9)

@@ -1,6 +1,5 @@
 -- `fast_double::double_short` meets its contract: each arm is its instruction's step.
 use mathlib.Core.Path.{refl}
-use native.Mathlib.Omega.{arith}
 use Prim.Native.Nat.{_+_, _%_}
 use borrow.Author.Needs.{needs}
 use Rattle.opcode.specs.Table.{both}
@@ -35,7 +34,6 @@ returns c =
     let a = earlier .before .before .before .before .before .args in
     let pre = earlier .before .before .before .before .before .pre in
     load-two-local-arm (a .code .now) (a .attributes) (a .q) (a .pc .now) (a .height .now) (a .memory .now) (a .stack .now)
-    (pre .1 .1 .1 .1)
     (load-two .result) (spot (load-two .last .1 .1 .0) (load-two .last .1 .1 .1 .0) (a .memory .now) (load-two .last .1 .0))
     (a .pc .now + 1 + 1) (pre .0) (a .b % 16)
     (short-form (a .code .now) (a .pc .now) both _ Double _ (a .b) 1 (behind (pre .1 .0))
@@ -61,7 +59,6 @@ returns-2 c =
     let a = earlier .before .before .before .before .before .args in
     let pre = earlier .before .before .before .before .before .pre in
     load-two-global-arm (a .code .now) (a .attributes) (a .q) (a .pc .now) (a .height .now) (a .memory .now) (a .stack .now)
-    (pre .1 .1 .1 .1)
     (load-two2 .result) (spot (load-two2 .last .1 .1 .0) (load-two2 .last .1 .1 .1 .0) (a .memory .now) (load-two2 .last .1 .0))
     (a .pc .now + 1 + 1) (pre .0) (a .b % 16)
     (short-form (a .code .now) (a .pc .now) both _ Double _ (a .b) 2 (behind (pre .1 .0))
@@ -84,7 +81,6 @@ returns-3 c =
     let a = earlier .before .before .before .before .before .args in
     let pre = earlier .before .before .before .before .before .pre in
     load-two-popped-arm (a .code .now) (a .attributes) (a .q) (a .pc .now) (a .height .now) (a .memory .now) (a .stack .now)
-    (pre .1 .1 .1 .1)
     (load-two-popped .result) (spot (load-two-popped .last .1 .1 .0) (load-two-popped .last .1 .1 .1 .0) (a .memory .now)
     (load-two-popped .last .1 .0))
     (a .pc .now + 1 + 1) (pre .0) (a .b % 16)
@@ -114,7 +110,6 @@ returns-4 c =
     let a = earlier .before .before .before .before .before .args in
     let pre = earlier .before .before .before .before .before .pre in
     store-two-local-arm (a .code .now) (a .attributes) (a .q) (a .pc .now) (a .height .now) (a .memory .now) (a .stack .now)
-    (pre .1 .1 .1 .1)
     (store-two .result) (spot (store-two .last .1 .1 .1 .0) (store-two .last .1 .1 .1 .1 .0) (store-two .last .1 .0)
     (a .stack .now))
     (a .pc .now + 1 + 1) (pre .0) (a .b % 16)
@@ -144,7 +139,6 @@ returns-5 c =
     let a = earlier .before .before .before .before .before .args in
     let pre = earlier .before .before .before .before .before .pre in
     store-two-global-arm (a .code .now) (a .attributes) (a .q) (a .pc .now) (a .height .now) (a .memory .now) (a .stack .now)
-    (pre .1 .1 .1 .1)
     (store-two2 .result) (spot (store-two2 .last .1 .1 .1 .0) (store-two2 .last .1 .1 .1 .1 .0) (store-two2 .last .1 .0)
     (a .stack .now))
     (a .pc .now + 1 + 1) (pre .0) (a .b % 16)
@@ -167,7 +161,6 @@ returns-6 c =
     let a = earlier .before .before .before .before .before .args in
     let pre = earlier .before .before .before .before .before .pre in
     store-two-popped-arm (a .code .now) (a .attributes) (a .q) (a .pc .now) (a .height .now) (a .memory .now) (a .stack .now)
-    (pre .1 .1 .1 .1)
     (store-two-popped .result) (spot (store-two-popped .last .1 .1 .1 .1 .0) (store-two-popped .last .1 .1 .1 .1 .1 .0)
     (store-two-popped .last .1 .1 .0) (a .stack .now))
     (a .pc .now + 1 + 1) (pre .0) (a .b % 16)

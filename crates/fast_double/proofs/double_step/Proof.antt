@@ -1,6 +1,5 @@
 -- `fast_double::double_step` meets its contract: by the code behind DOUBLE.
 use mathlib.Core.Path.{refl}
-use native.Mathlib.Omega.{arith}
 use borrow.Author.Needs.{needs}
 use Rattle.fast_double.proofs.double_step.Statement.{statement}
 use Rattle.fast_double.proofs.double_step.Tie as tie

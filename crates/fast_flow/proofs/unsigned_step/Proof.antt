@@ -1,5 +1,5 @@
 -- `fast_flow::unsigned_step` meets its contract: each arm is its operation's step.
-use mathlib.Core.Path.{_∙_, refl, sym}
+use mathlib.Core.Path.{_∙_, refl}
 use native.Mathlib.Omega.{arith}
 use borrow.Author.Needs.{needs}
 use Rattle.opcode.specs.Table.{rowOf}

@@ -1,68 +1,73 @@
 -- `fast_loop::fast_steps` meets its contract: the inner loop's steps, and then one that changes frames, turn by turn.
 use mathlib.Core.Path.{_≡_, _∙_, refl}
 use native.Mathlib.Omega.{arith}
-use lib.ListN.{length}
 use borrow.Author.Tests.{not-true, not-false}
 use borrow.Author.Needs.{needs}
 use Rattle.entries.specs.Entries.{entryCount}
-use Rattle.registers.specs.Program.{program}
+use Rattle.registers.specs.Modules.{modulesIn}
 use Rattle.registers.specs.State.{state}
 use Rattle.fast_frames.specs.Frames.{framed}
-use Rattle.fast_loop.proofs.Stepping.{Reaching, reaching-start, reaching-same, reaching-next, reaching-words}
-use Rattle.fast_loop.proofs.Stepping.{inner-fits, reaching-data}
+use Rattle.fast_loop.proofs.Stepping.{Reaching, programIn, reaching-start, reaching-same, reaching-bounded}
+use Rattle.fast_loop.proofs.Stepping.{reaching-next, inner-ready, reaching-words, reaching-data}
 use Rattle.fast_loop.proofs.fast_steps.Statement.{statement}
 use Rattle.fast_loop.proofs.fast_steps.Tie as tie
 
 abbrev Inv-loop : tie.InvT-loop
-Inv-loop code attributes memory₀ stack₀ budget pc₀ fp₀ mp₀ gp height₀ calls₀ left₀ count memory stack pc fp mp height calls left =
-    (count ≡ entryCount code) × Reaching (program code attributes) (framed pc₀ fp₀ mp₀ gp height₀ calls₀ memory₀ stack₀)
-    budget left
-    (framed pc fp mp gp height calls memory stack)
+Inv-loop table copy code attributes memory₀ stack₀ budget pc₀ fp₀ mp₀ gp height₀ calls₀ left₀ count memory stack pc fp mp
+    height calls left =
+    (count ≡ entryCount code) × Reaching (programIn table copy code attributes)
+    (framed pc₀ fp₀ mp₀ gp height₀ calls₀ memory₀ stack₀) budget left (framed pc fp mp gp height calls memory stack)
 
 abbrev μ-loop : tie.MeasureT-loop
-μ-loop code attributes memory₀ stack₀ budget pc₀ fp₀ mp₀ gp height₀ calls₀ left₀ count memory stack pc fp mp height calls
-    left = left
+μ-loop table copy code attributes memory₀ stack₀ budget pc₀ fp₀ mp₀ gp height₀ calls₀ left₀ count memory stack pc fp mp
+    height calls left = left
 
 -- What the inner loop reached.
 made : (c : tie.After-slice-known4 Inv-loop μ-loop)
     → let a = c .before .before .before .before .before .before .before .before .before .before .before .before .before
-    .before .before .before .before .before .before .before .before .before .before .args in
+    .before .before .before .before .before .before .before .before .before .before .before .before .args in
     let loop = c .before .before .before .before .before .before .before .before .before .before .before .before .loop in
     let d = c .before .before .before .before .data-steps in
-    Reaching (program (a .code .now) (a .attributes)) (state (a .q) (a .memory .now) (a .stack .now)) (a .budget) (d .result)
-    (framed (d .last .1 .1 .1 .1 .1 .0) (loop .fp) (loop .mp) (a .q .gp) (d .last .1 .1 .1 .1 .1 .1 .0) (loop .calls)
-    (d .last .1 .1 .1 .0) (d .last .1 .1 .1 .1 .0))
+    Reaching (programIn (a .table .now) (a .copy .now) (a .code .now) (a .attributes))
+    (state (a .q) (a .memory .now) (a .stack .now)) (a .budget) (d .result)
+    (framed (d .last .1 .1 .1 .1 .1 .1 .1 .0) (loop .fp) (loop .mp) (a .q .gp) (d .last .1 .1 .1 .1 .1 .1 .1 .1 .0)
+    (loop .calls)
+    (d .last .1 .1 .1 .1 .1 .0) (d .last .1 .1 .1 .1 .1 .1 .0))
 made c =
-    let a = c .before .before .before .before .before .before .before .before .before .before .before .before .before
-    .before .before .before .before .before .before .before .before .before .before .args in
+    let a = c .before .before .before .before .before .before .before .before .before .before .before .before .before .before
+    .before .before .before .before .before .before .before .before .before .before .before .args in
     let loop = c .before .before .before .before .before .before .before .before .before .before .before .before .loop in
     let d = c .before .before .before .before .data-steps in
-    reaching-data (program (a .code .now) (a .attributes)) (state (a .q) (a .memory .now) (a .stack .now)) (a .budget)
+    reaching-data (programIn (a .table .now) (a .copy .now) (a .code .now) (a .attributes))
+    (state (a .q) (a .memory .now) (a .stack .now)) (a .budget)
     (loop .left) (loop .pc) (loop .fp) (loop .mp)
     (a .q .gp) (loop .height) (loop .calls) (loop .memory) (loop .stack)
     (c .before .before .before .before .before .before .before .before .before .before .reached-at .result .registers)
     (c .before .before .before .before .before .before .before .before .before .before .reached-at .ensures .1)
-    (loop .inv .1) (d .result) (d .last .1 .1 .1 .1 .1 .0) (d .last .1 .1 .1 .1 .1 .1 .0) (d .last .1 .1 .1 .0)
-    (d .last .1 .1 .1 .1 .0)
-    (d .ensures) (d .kept .1 .1 .1 .0) (d .kept .1 .1 .1 .1 .0)
+    (loop .inv .1) (d .result) (d .last .1 .1 .1 .1 .1 .1 .1 .0) (d .last .1 .1 .1 .1 .1 .1 .1 .1 .0)
+    (d .last .1 .1 .1 .1 .1 .0)
+    (d .last .1 .1 .1 .1 .1 .1 .0)
+    (d .ensures) (d .kept .1 .1 .1 .1 .1 .0) (d .kept .1 .1 .1 .1 .1 .1 .0)
 
 loop-holds : tie.Need-loop-holds Inv-loop μ-loop
 loop-holds c =
     let entry-count = c .entry-count in
     let struct-known = c .before .before .before .before .before .before .struct-known in
-    let a = c .before .before .before .before .before .before .before .before .before .before .args in
-    let pre = c .before .before .before .before .before .before .before .before .before .before .pre in (
+    let a = c .before .before .before .before .before .before .before .before .before .before .before .before .args in
+    let pre = c .before .before .before .before .before .before .before .before .before .before .before .before .pre in (
       entry-count .ensures,
-      reaching-start (program (a .code .now) (a .attributes))
+      reaching-start (programIn (a .table .now) (a .copy .now) (a .code .now) (a .attributes))
           (state (a .q) (a .memory .now) (a .stack .now)) (a .budget) (pre .1) (struct-known .given .0 .fits),
     )
 
 reached-at-requires : tie.Need-reached-at-requires Inv-loop μ-loop
 reached-at-requires c κs =
     let loop = c .before .loop in
-    let a = c .before .before .before .before .before .before .before .before .before .before .before .before .args in
-    let fits = c .before .before .before .before .before .before .before .before .before .before .before .before .fits in
-    reaching-words (program (a .code .now) (a .attributes))
+    let a = c .before .before .before .before .before .before .before .before .before .before .before .before .before
+    .before .args in
+    let fits = c .before .before .before .before .before .before .before .before .before .before .before .before .before
+    .before .fits in
+    reaching-words (programIn (a .table .now) (a .copy .now) (a .code .now) (a .attributes))
     (state (a .q) (a .memory .now) (a .stack .now)) (a .budget) (loop .left)
     (framed (loop .pc) (loop .fp) (loop .mp) (a .q .gp) (loop .height) (loop .calls)
     (loop .memory) (loop .stack)) (loop .inv .1) (fits .budget .fits)
@@ -71,17 +76,18 @@ data-steps-requires : tie.Need-data-steps-requires Inv-loop μ-loop
 data-steps-requires c κs =
     let reached-at = c .before .before .before .before .before .reached-at in
     let loop = c .before .before .before .before .before .before .before .loop in
-    let a = c .before .before .before .before .before .before .before .before .before .before .before .before .before
-    .before .before .before .before .before .args in
+    let a = c .before .before .before .before .before .before .before .before .before .before .before .before .before .before
+    .before .before .before .before .before .before .args in
     let pre = c .before .before .before .before .before .before .before .before .before .before .before .before .before
-    .before .before .before .before .before .pre in (
+    .before .before .before .before .before .before .before .pre in (
       pre .0,
       (
         loop .inv .1 .small,
-        inner-fits (program (a .code .now) (a .attributes))
+        inner-ready (programIn (a .table .now) (a .copy .now) (a .code .now) (a .attributes))
             (state (a .q) (a .memory .now) (a .stack .now)) (a .budget) (loop .left) (loop .pc) (loop .fp) (loop .mp)
             (a .q .gp) (loop .height)
-            (loop .calls) (loop .memory) (loop .stack) (reached-at .result .registers) (reached-at .ensures .1) (loop .inv .1),
+            (loop .calls) (loop .memory) (loop .stack) (reached-at .result .registers) (reached-at .ensures .1)
+            (loop .inv .1),
       ),
     )
 
@@ -90,13 +96,15 @@ reached-at-requires-2 c κs =
     let data-steps = c .before .before .before .before .before .data-steps in
     let earlier = c .before .before .before .before .before .before .before .before .before .before .before .before .before in
     let loop = earlier .loop in
-    let a = earlier .before .before .before .before .before .before .before .before .before .before .before .args in
-    let fits = earlier .before .before .before .before .before .before .before .before .before .before .before .fits in
-    reaching-words (program (a .code .now) (a .attributes))
+    let a = earlier .before .before .before .before .before .before .before .before .before .before .before .before
+    .before .args in
+    let fits = earlier .before .before .before .before .before .before .before .before .before .before .before .before
+    .before .fits in
+    reaching-words (programIn (a .table .now) (a .copy .now) (a .code .now) (a .attributes))
     (state (a .q) (a .memory .now) (a .stack .now)) (a .budget) (data-steps .result)
-    (framed (data-steps .last .1 .1 .1 .1 .1 .0) (loop .fp) (loop .mp) (a .q .gp) (data-steps .last .1 .1 .1 .1 .1 .1 .0)
-    (loop .calls)
-    (data-steps .last .1 .1 .1 .0) (data-steps .last .1 .1 .1 .1 .0)) (made (c .before)) (fits .budget .fits)
+    (framed (data-steps .last .1 .1 .1 .1 .1 .1 .1 .0) (loop .fp) (loop .mp) (a .q .gp)
+    (data-steps .last .1 .1 .1 .1 .1 .1 .1 .1 .0) (loop .calls)
+    (data-steps .last .1 .1 .1 .1 .1 .0) (data-steps .last .1 .1 .1 .1 .1 .1 .0)) (made (c .before)) (fits .budget .fits)
 
 same-length : tie.Need-same-length Inv-loop μ-loop
 same-length c = (made (c .before .before)) .memory
@@ -114,8 +122,10 @@ frame-step-requires c κs =
     let earlier = c .before .before .before .before .before .before .before .before .before .before .before .before .before
     .before .before .before .before .before .before .before in
     let loop = earlier .loop in
-    let pre = earlier .before .before .before .before .before .before .before .before .before .before .before .pre in
-    (pre .0, (loop .inv .0, (made (c .before .before .before .before .before .before .before .before)) .ahead .fit))
+    let pre = earlier .before .before .before .before .before .before .before .before .before .before .before .before
+    .before .pre in
+    let r = made (c .before .before .before .before .before .before .before .before) in
+    (pre .0, (loop .inv .0, reaching-bounded _ _ _ _ _ r))
 
 reached-at-requires-3 : tie.Need-reached-at-requires-3 Inv-loop μ-loop
 reached-at-requires-3 c κs =
@@ -126,19 +136,21 @@ reached-at-requires-3 c κs =
     let data-steps = earlier .data-steps in
     let first = earlier .before .before .before .before .before .before .before .before in
     let loop = first .loop in
-    let a = first .before .before .before .before .before .before .before .before .before .before .before .args in
-    let fits = first .before .before .before .before .before .before .before .before .before .before .before .fits in
-    let r = reaching-same (program (a .code .now) (a .attributes))
+    let a = first .before .before .before .before .before .before .before .before .before .before .before .before
+    .before .args in
+    let fits = first .before .before .before .before .before .before .before .before .before .before .before .before
+    .before .fits in
+    let r = reaching-same (programIn (a .table .now) (a .copy .now) (a .code .now) (a .attributes))
     (state (a .q) (a .memory .now) (a .stack .now)) (a .budget) (data-steps .result)
-    (framed (data-steps .last .1 .1 .1 .1 .1 .0) (loop .fp) (loop .mp) (a .q .gp) (data-steps .last .1 .1 .1 .1 .1 .1 .0)
-    (loop .calls)
-    (data-steps .last .1 .1 .1 .0) (data-steps .last .1 .1 .1 .1 .0))
+    (framed (data-steps .last .1 .1 .1 .1 .1 .1 .1 .0) (loop .fp) (loop .mp) (a .q .gp)
+    (data-steps .last .1 .1 .1 .1 .1 .1 .1 .1 .0) (loop .calls)
+    (data-steps .last .1 .1 .1 .1 .1 .0) (data-steps .last .1 .1 .1 .1 .1 .1 .0))
     (made (c .before .before .before .before .before .before .before .before .before .before .before .before .before .before))
     (framed (frame-step .last .1 .1 .1 .1 .0) (frame-step .last .1 .1 .1 .1 .1 .0) (frame-step .last .1 .1 .1 .1 .1 .1 .0)
     (a .q .gp) (frame-step .last .1 .1 .1 .1 .1 .1 .1 .1 .0) (frame-step .last .1 .1 .1 .1 .1 .1 .1 .1 .1 .0)
     (frame-step .last .1 .1 .0) (frame-step .last .1 .1 .1 .0))
-    (rw (not-true (frame-step .result) (if2 .taken)) at (frame-step .ensures)) in
-    reaching-words (program (a .code .now) (a .attributes))
+    (rw (not-true (frame-step .result) (if2 .taken)) at (frame-step .ensures (modulesIn (a .table .now) (a .copy .now)))) in
+    reaching-words (programIn (a .table .now) (a .copy .now) (a .code .now) (a .attributes))
     (state (a .q) (a .memory .now) (a .stack .now)) (a .budget) (data-steps .result)
     (framed (frame-step .last .1 .1 .1 .1 .0) (frame-step .last .1 .1 .1 .1 .1 .0) (frame-step .last .1 .1 .1 .1 .1 .1 .0)
     (a .q .gp) (frame-step .last .1 .1 .1 .1 .1 .1 .1 .1 .0) (frame-step .last .1 .1 .1 .1 .1 .1 .1 .1 .1 .0)
@@ -168,23 +180,25 @@ returns-2 c =
     let data-steps = earlier .data-steps in
     let first = earlier .before .before .before .before .before .before .before .before in
     let loop = first .loop in
-    let a = first .before .before .before .before .before .before .before .before .before .before .before .args in
-    let r = reaching-same (program (a .code .now) (a .attributes))
+    let a = first .before .before .before .before .before .before .before .before .before .before .before .before
+    .before .args in
+    let r = reaching-same (programIn (a .table .now) (a .copy .now) (a .code .now) (a .attributes))
     (state (a .q) (a .memory .now) (a .stack .now)) (a .budget) (data-steps .result)
-    (framed (data-steps .last .1 .1 .1 .1 .1 .0) (loop .fp) (loop .mp) (a .q .gp) (data-steps .last .1 .1 .1 .1 .1 .1 .0)
-    (loop .calls)
-    (data-steps .last .1 .1 .1 .0) (data-steps .last .1 .1 .1 .1 .0))
+    (framed (data-steps .last .1 .1 .1 .1 .1 .1 .1 .0) (loop .fp) (loop .mp) (a .q .gp)
+    (data-steps .last .1 .1 .1 .1 .1 .1 .1 .1 .0) (loop .calls)
+    (data-steps .last .1 .1 .1 .1 .1 .0) (data-steps .last .1 .1 .1 .1 .1 .1 .0))
     (made (c .before .before .before .before .before .before .before .before .before .before .before .before .before .before
     .before))
     (framed (frame-step .last .1 .1 .1 .1 .0) (frame-step .last .1 .1 .1 .1 .1 .0) (frame-step .last .1 .1 .1 .1 .1 .1 .0)
     (a .q .gp) (frame-step .last .1 .1 .1 .1 .1 .1 .1 .1 .0) (frame-step .last .1 .1 .1 .1 .1 .1 .1 .1 .1 .0)
     (frame-step .last .1 .1 .0) (frame-step .last .1 .1 .1 .0))
-    (rw (not-true (frame-step .result) (if2 .taken)) at (frame-step .ensures)) in
+    (rw (not-true (frame-step .result) (if2 .taken)) at (frame-step .ensures (modulesIn (a .table .now) (a .copy .now)))) in
     rw (reached-at3 .ensures .0, reached-at3 .ensures .1) (r .ahead)
 
 sub-left : tie.Need-sub-left Inv-loop μ-loop
 sub-left c =
-    let if1 = c .before .before .before .before .before .before .before .before .before .before .before .before .before .if1 in
+    let if1 = c .before .before .before .before .before .before .before .before .before .before .before .before
+    .before .if1 in
     omega (arith, if1 .left)
 
 loop-less : tie.Need-loop-less Inv-loop μ-loop
@@ -204,30 +218,35 @@ loop-again c =
     let first = earlier .before .before .before .before .before .before .before .before .before .before .before .before
     .before in
     let loop = first .loop in
-    let a = first .before .before .before .before .before .before .before .before .before .before .before .args in
-    let pre = first .before .before .before .before .before .before .before .before .before .before .before .pre in (
+    let a = first .before .before .before .before .before .before .before .before .before .before .before .before
+    .before .args in
+    let pre = first .before .before .before .before .before .before .before .before .before .before .before .before
+    .before .pre in (
       loop .inv .0,
-      reaching-next (program (a .code .now) (a .attributes))
+      reaching-next (programIn (a .table .now) (a .copy .now) (a .code .now) (a .attributes))
           (state (a .q) (a .memory .now) (a .stack .now)) (a .budget) (data-steps .result)
-          (framed (data-steps .last .1 .1 .1 .1 .1 .0) (loop .fp) (loop .mp) (a .q .gp)
-          (data-steps .last .1 .1 .1 .1 .1 .1 .0) (loop .calls)
-          (data-steps .last .1 .1 .1 .0) (data-steps .last .1 .1 .1 .1 .0))
+          (framed (data-steps .last .1 .1 .1 .1 .1 .1 .1 .0) (loop .fp) (loop .mp) (a .q .gp)
+          (data-steps .last .1 .1 .1 .1 .1 .1 .1 .1 .0) (loop .calls)
+          (data-steps .last .1 .1 .1 .1 .1 .0) (data-steps .last .1 .1 .1 .1 .1 .1 .0))
           (made (c .before .before .before .before .before .before .before .before .before .before .before .before .before
           .before)) (if1 .left) (pre .0)
           (framed (frame-step .last .1 .1 .1 .1 .0) (frame-step .last .1 .1 .1 .1 .1 .0)
           (frame-step .last .1 .1 .1 .1 .1 .1 .0) (a .q .gp) (frame-step .last .1 .1 .1 .1 .1 .1 .1 .1 .0)
           (frame-step .last .1 .1 .1 .1 .1 .1 .1 .1 .1 .0)
           (frame-step .last .1 .1 .0) (frame-step .last .1 .1 .1 .0))
-          (rw (not-false (frame-step .result) (if2 .left)) at (frame-step .ensures))
+          refl (rw (not-false (frame-step .result) (if2 .left)) at
+          (frame-step .ensures (modulesIn (a .table .now) (a .copy .now))))
           (frame-step .kept .1 .1 .0) (frame-step .kept .1 .1 .1 .0),
     )
 
 reached-at-requires-4 : tie.Need-reached-at-requires-4 Inv-loop μ-loop
 reached-at-requires-4 c κs =
     let loop = c .before .loop in
-    let a = c .before .before .before .before .before .before .before .before .before .before .before .before .args in
-    let fits = c .before .before .before .before .before .before .before .before .before .before .before .before .fits in
-    reaching-words (program (a .code .now) (a .attributes))
+    let a = c .before .before .before .before .before .before .before .before .before .before .before .before .before
+    .before .args in
+    let fits = c .before .before .before .before .before .before .before .before .before .before .before .before .before
+    .before .fits in
+    reaching-words (programIn (a .table .now) (a .copy .now) (a .code .now) (a .attributes))
     (state (a .q) (a .memory .now) (a .stack .now)) (a .budget) (loop .left)
     (framed (loop .pc) (loop .fp) (loop .mp) (a .q .gp) (loop .height) (loop .calls)
     (loop .memory) (loop .stack)) (loop .inv .1) (fits .budget .fits)

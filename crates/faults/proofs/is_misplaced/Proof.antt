@@ -46,11 +46,15 @@ returns-10 c = rw (c .before .enum-told10 .given .1) (c .is-bare10 .ensures)
 
 returns-11 : tie.Need-returns-11
 unfolding misplaced
-returns-11 c = rw (c .before .before .shape .given .1) (c .enter-misplaced .ensures)
+returns-11 c = rw (c .before .enum-told11 .given .1) (c .is-bare11 .ensures)
 
 returns-12 : tie.Need-returns-12
 unfolding misplaced
-returns-12 c = rw (c .before .enum-told11 .given .1) (c .is-bare11 .ensures)
+returns-12 c = rw (c .before .before .shape .given .1) (c .enter-misplaced .ensures)
+
+returns-13 : tie.Need-returns-13
+unfolding misplaced
+returns-13 c = rw (c .before .enum-told12 .given .1) (c .is-bare12 .ensures)
 
 pub is-misplaced-spec : {M : Type 1} → statement M
 is-misplaced-spec =
@@ -59,5 +63,6 @@ is-misplaced-spec =
     (λ c κs. search needs) (λ c. search needs) (λ c κs. search needs) (λ c. search needs) (λ c κs. search needs)
     (λ c. search needs) (λ c κs. search needs) (λ c. search needs) (λ c κs. search needs) (λ c. search needs)
     (λ c κs. search needs) (λ c. search needs) (λ c κs. search needs) (λ c. search needs) (λ c κs. search needs)
-    (λ c. search needs) (λ c κs. search needs) (λ c. search needs) (λ c κs. search needs) returns returns-2 returns-3
-    returns-4 returns-5 returns-6 returns-7 returns-8 returns-9 returns-10 returns-11 returns-12)
+    (λ c. search needs) (λ c κs. search needs) (λ c. search needs) (λ c κs. search needs) (λ c. search needs)
+    (λ c κs. search needs) returns returns-2 returns-3 returns-4 returns-5 returns-6 returns-7 returns-8 returns-9
+    returns-10 returns-11 returns-12 returns-13)

@@ -56,7 +56,11 @@ returns-11 c = rw (c .before .enum-told6 .given .1, ← c .starts-in6 .ensures, 
 
 returns-12 : tie.Need-returns-12
 unfolding strays
-returns-12 c = rw (c .enum-told7 .given .1)
+returns-12 c = rw (c .before .enum-told7 .given .1, ← c .starts-in7 .ensures, and-true (c .starts-in7 .result))
+
+returns-13 : tie.Need-returns-13
+unfolding strays
+returns-13 c = rw (c .enum-told8 .given .1)
 
 pub is-stray-spec : {M : Type 1} → statement M
 is-stray-spec =
@@ -66,5 +70,5 @@ is-stray-spec =
     (λ c. search needs) (λ c κs. search needs) (λ c κs. search needs) (λ c. search needs) (λ c κs. search needs)
     (λ c κs. search needs) (λ c. search needs) (λ c κs. search needs) (λ c. search needs) (λ c κs. search needs)
     (λ c. search needs) (λ c. search needs) (λ c κs. search needs) (λ c. search needs) (λ c κs. search needs)
-    (λ c. search needs) returns returns-2 returns-3 returns-4 returns-5 returns-6 returns-7 returns-8 returns-9 returns-10
-    returns-11 returns-12)
+    (λ c. search needs) (λ c κs. search needs) (λ c. search needs) returns returns-2 returns-3 returns-4 returns-5
+    returns-6 returns-7 returns-8 returns-9 returns-10 returns-11 returns-12 returns-13)

@@ -46,16 +46,23 @@ returns-10 c = rw (c .before .before .shape .given .1) (c .is-no-callee .ensures
 
 returns-11 : tie.Need-returns-11
 unfolding uncallable
-returns-11 c = rw (c .enum-told10 .given .1)
+returns-11 c =
+    let lists = c .before .before .before .before .before .before .before .before .args .lists .now in
+    rw (c .before .before .shape2 .given .1) (c .lacks-callee .ensures lists)
 
 returns-12 : tie.Need-returns-12
 unfolding uncallable
-returns-12 c = rw (c .enum-told11 .given .1)
+returns-12 c = rw (c .enum-told10 .given .1)
+
+returns-13 : tie.Need-returns-13
+unfolding uncallable
+returns-13 c = rw (c .enum-told11 .given .1)
 
 pub is-uncallable-spec : {M : Type 1} → statement M
 is-uncallable-spec =
     tie.close
     (tie.spec (λ c. search needs) (λ c. search needs) (λ c. search needs) (λ c. search needs) (λ c. search needs)
     (λ c. search needs) (λ c. search needs) (λ c. search needs) (λ c. search needs) (λ c. search needs)
-    (λ c κs. search needs) (λ c. search needs) (λ c. search needs) returns returns-2 returns-3 returns-4 returns-5 returns-6
-    returns-7 returns-8 returns-9 returns-10 returns-11 returns-12)
+    (λ c κs. search needs) (λ c. search needs) (λ c κs. search needs) (λ c. search needs) (λ c. search needs) returns
+    returns-2 returns-3 returns-4 returns-5 returns-6 returns-7 returns-8 returns-9 returns-10 returns-11 returns-12
+    returns-13)

@@ -3,7 +3,6 @@
 use mathlib.Core.Bool.{not, cond}
 use mathlib.Core.Path.{_≡_}
 use borrow.Author.Needs.{needs}
-use borrow.Author.Tests.{eq-eqb, ne-eqb}
 use Rattle.record.proofs.record_number.Statement.{statement}
 use Rattle.record.specs.Number.{partTests, recordNumber}
 use Rattle.words.specs.Refusal.{refusal}
@@ -28,76 +27,48 @@ parts c =
 returns-2 : tie.Need-returns-2
 returns-2 c =
     let read = c .before .before in
-    rw (parts read, ← read .header-of .ensures, ne-eqb _ 0 (c .if2 .taken))
+    rw (parts read, ← read .header-of .ensures, ← c .before .version-sound .ensures, c .if2 .taken)
 
 returns-3 : tie.Need-returns-3
 returns-3 c =
-    let alone = c .before .before in
-    let read = alone .before .before in
-    rw (parts read, ← read .header-of .ensures, eq-eqb _ 0 (alone .if2 .left), ne-eqb _ 0 (c .if3 .taken))
-
-returns-4 : tie.Need-returns-4
-returns-4 c =
-    let fixed = c .before .before in
-    let alone = fixed .before .before in
-    let read = alone .before .before in
-    rw (
-      parts read,
-      ← read .header-of .ensures,
-      eq-eqb _ 0 (alone .if2 .left),
-      eq-eqb _ 0 (fixed .if3 .left),
-      ← c .before .version-sound .ensures,
-      c .if4 .taken,
-    )
-
-returns-5 : tie.Need-returns-5
-returns-5 c =
     let version = c .before .before in
-    let fixed = version .before .before in
-    let alone = fixed .before .before in
-    let read = alone .before .before in
+    let read = version .before .before in
     rw (
       parts read,
       ← read .header-of .ensures,
-      eq-eqb _ 0 (alone .if2 .left),
-      eq-eqb _ 0 (fixed .if3 .left),
       ← version .before .version-sound .ensures,
-      version .if4 .left,
+      version .if2 .left,
       ← c .before .source-sound .ensures,
-      c .if5 .taken,
+      c .if3 .taken,
     )
 
 -- Where 1 to 6 are not given, the entries decide.
 entries : (c : tie.After-entries-sound) →
-    let sizes = c .before .before .before .before .before .before .before .before .before .before .before .before in
+    let sizes = c .before .before .before .before .before .before .before .before in
     recordNumber (sizes .before .before .args .r .now) ≡ cond (not (c .entries-sound .result)) 7 0
 entries c =
     let source = c .before .before in
     let version = source .before .before in
-    let fixed = version .before .before in
-    let alone = fixed .before .before in
-    let read = alone .before .before in
+    let read = version .before .before in
     rw (
       parts read,
       ← read .header-of .ensures,
-      eq-eqb _ 0 (alone .if2 .left),
-      eq-eqb _ 0 (fixed .if3 .left),
       ← version .before .version-sound .ensures,
-      version .if4 .left,
+      version .if2 .left,
       ← source .before .source-sound .ensures,
-      source .if5 .left,
+      source .if3 .left,
       ← c .before .code-of .ensures,
       ← c .entries-sound .ensures,
     )
 
-returns-6 : tie.Need-returns-6
-returns-6 c = rw (entries (c .before), c .if6 .taken)
+returns-4 : tie.Need-returns-4
+returns-4 c = rw (entries (c .before), c .if4 .taken)
 
-returns-7 : tie.Need-returns-7
-returns-7 c = rw (entries (c .before), c .if6 .left)
+returns-5 : tie.Need-returns-5
+returns-5 c = rw (entries (c .before), c .if4 .left)
 
 pub record-number-spec : {M : Type 1} → statement M
 record-number-spec =
     tie.close
-    (tie.spec (λ c κs. search needs) returns (λ c κs. search needs) returns-2 returns-3 (λ c κs. search needs) returns-4
-    (λ c κs. search needs) returns-5 (λ c κs. search needs) (λ c κs. search needs) returns-6 returns-7)
+    (tie.spec (λ c κs. search needs) returns (λ c κs. search needs) (λ c κs. search needs) returns-2 (λ c κs. search needs)
+    returns-3 (λ c κs. search needs) (λ c κs. search needs) returns-4 returns-5)

@@ -1,7 +1,6 @@
 -- `state::sizes_taken` meets its contract: each return is the first test that fails, or the last one.
 use lib.ListN.{length}
 use borrow.Author.Tests.{le-leb, lt-leb}
-use borrow.Author.Needs.{needs}
 use Rattle.state.specs.Fits.{sizesTaken}
 use Rattle.state.proofs.sizes_taken.Statement.{statement}
 use Rattle.state.proofs.sizes_taken.Tie as tie
@@ -10,20 +9,17 @@ returns : tie.Need-returns
 unfolding sizesTaken
 returns c =
     let if1 = c .if1 in
-    let frames-start = c .before .frames-start in
-    let a = c .before .before .before .before .args in
-    rw (← frames-start .ensures, lt-leb (frames-start .result) (length (a .memory .now)) (if1 .taken))
+    let a = c .before .args in
+    rw (lt-leb (a .frames) (length (a .memory .now)) (if1 .taken))
 
 returns-2 : tie.Need-returns-2
 unfolding sizesTaken
 returns-2 c =
     let if2 = c .if2 in
     let if1 = c .before .if1 in
-    let frames-start = c .before .before .frames-start in
-    let a = c .before .before .before .before .before .args in
+    let a = c .before .before .args in
     rw (
-      ← frames-start .ensures,
-      le-leb (frames-start .result) (length (a .memory .now)) (if1 .left),
+      le-leb (a .frames) (length (a .memory .now)) (if1 .left),
       lt-leb (length (a .memory .now)) 16384 (if2 .taken),
     )
 
@@ -32,13 +28,11 @@ unfolding sizesTaken
 returns-3 c =
     let if2 = c .if2 in
     let if1 = c .before .if1 in
-    let frames-start = c .before .before .frames-start in
-    let a = c .before .before .before .before .before .args in
+    let a = c .before .before .args in
     rw (
-      ← frames-start .ensures,
-      le-leb (frames-start .result) (length (a .memory .now)) (if1 .left),
+      le-leb (a .frames) (length (a .memory .now)) (if1 .left),
       le-leb (length (a .memory .now)) 16384 (if2 .left),
     )
 
 pub sizes-taken-spec : {M : Type 1} → statement M
-sizes-taken-spec = tie.close (tie.spec (λ c κs. search needs) returns returns-2 returns-3)
+sizes-taken-spec = tie.close (tie.spec returns returns-2 returns-3)

@@ -1,70 +1,64 @@
--- `state::state_fits` meets its contract: each return is the first part that does not fit, or the last one.
+-- `state::state_fits` meets its contract: each return is the first test that fails, or the last one.
+use mathlib.Core.Path.{_∙_, sym}
 use borrow.Author.Tests.{not-true, not-false}
 use borrow.Author.Needs.{needs}
+use Rattle.registers.specs.State.{state}
 use Rattle.state.specs.Fits.{fits}
+use Rattle.state.proofs.Fitting.{fitting}
 use Rattle.state.proofs.state_fits.Statement.{statement}
 use Rattle.state.proofs.state_fits.Tie as tie
 
 returns : tie.Need-returns
 unfolding fits
-returns c = rw (← c .before .sizes-taken .ensures, not-true (c .before .sizes-taken .result) (c .if1 .taken))
+returns c =
+    let if1 = c .if1 in
+    let is-bounded = c .before .is-bounded in
+    λ code copy. rw (← is-bounded .ensures, not-true (is-bounded .result) (if1 .taken))
 
 returns-2 : tie.Need-returns-2
 unfolding fits
 returns-2 c =
     let if2 = c .if2 in
-    let header-kept = c .before .header-kept in
+    let headers-kept = c .before .headers-kept in
     let if1 = c .before .before .if1 in
-    let sizes-taken = c .before .before .before .sizes-taken in
+    let is-bounded = c .before .before .before .is-bounded in
+    λ code copy.
     rw (
-      ← sizes-taken .ensures,
-      not-false (sizes-taken .result) (if1 .left),
-      ← header-kept .ensures,
-      not-true (header-kept .result) (if2 .taken),
+      ← is-bounded .ensures,
+      not-false (is-bounded .result) (if1 .left),
+      ← headers-kept .ensures copy,
+      not-true (headers-kept .result) (if2 .taken),
     )
+
+links-based-requires : tie.Need-links-based-requires
+links-based-requires c κs =
+    let if1 = c .before .before .before .if1 in
+    let is-bounded = c .before .before .before .before .is-bounded in
+    let a = c .before .before .before .before .before .before .before .before .args in
+    let pre = c .before .before .before .before .before .before .before .before .pre in
+    let a = a in
+    let held = sym (is-bounded .ensures) ∙ not-false (is-bounded .result) (if1 .left) in
+    (pre, fitting (a .attributes) (state (a .q) (a .memory .now) (a .stack .now)) held .links)
 
 returns-3 : tie.Need-returns-3
 unfolding fits
 returns-3 c =
-    let if3 = c .if3 in
-    let registers-fit = c .before .registers-fit in
+    let links-based = c .links-based in
     let if2 = c .before .before .if2 in
-    let header-kept = c .before .before .before .header-kept in
+    let headers-kept = c .before .before .before .headers-kept in
     let if1 = c .before .before .before .before .if1 in
-    let sizes-taken = c .before .before .before .before .before .sizes-taken in
+    let is-bounded = c .before .before .before .before .before .is-bounded in
+    λ code copy.
     rw (
-      ← sizes-taken .ensures,
-      not-false (sizes-taken .result) (if1 .left),
-      ← header-kept .ensures,
-      not-false (header-kept .result) (if2 .left),
-      ← registers-fit .ensures,
-      not-true (registers-fit .result) (if3 .taken),
-    )
-
-returns-4 : tie.Need-returns-4
-unfolding fits
-returns-4 c =
-    let is-chained = c .is-chained in
-    let frames-start = c .before .frames-start in
-    let if3 = c .before .before .if3 in
-    let registers-fit = c .before .before .before .registers-fit in
-    let if2 = c .before .before .before .before .if2 in
-    let header-kept = c .before .before .before .before .before .header-kept in
-    let if1 = c .before .before .before .before .before .before .if1 in
-    let sizes-taken = c .before .before .before .before .before .before .before .sizes-taken in
-    rw (
-      ← sizes-taken .ensures,
-      not-false (sizes-taken .result) (if1 .left),
-      ← header-kept .ensures,
-      not-false (header-kept .result) (if2 .left),
-      ← registers-fit .ensures,
-      not-false (registers-fit .result) (if3 .left),
-      is-chained .ensures,
-      frames-start .ensures,
+      ← is-bounded .ensures,
+      not-false (is-bounded .result) (if1 .left),
+      ← headers-kept .ensures copy,
+      not-false (headers-kept .result) (if2 .left),
+      links-based .ensures copy,
     )
 
 pub state-fits-spec : {M : Type 1} → statement M
 state-fits-spec =
     tie.close
-    (tie.spec (λ c κs. search needs) returns (λ c κs. search needs) returns-2 (λ c κs. search needs) returns-3
-    (λ c κs. search needs) (λ c κs. search needs) returns-4)
+    (tie.spec (λ c κs. search needs) returns (λ c κs. search needs) returns-2 (λ c. search needs) links-based-requires
+    returns-3)

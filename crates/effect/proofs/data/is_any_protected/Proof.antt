@@ -1,7 +1,6 @@
 -- `effect::data::is_any_protected` meets its contract: one word, or one of two.
-use mathlib.Core.Bool.{or-false}
+use mathlib.Core.Path.{_∙_, sym}
 use borrow.Author.Needs.{needs}
-use Rattle.effect.specs.Data.{protectsAny}
 use Rattle.effect.proofs.data.is_any_protected.Statement.{statement}
 use Rattle.effect.proofs.data.is_any_protected.Tie as tie
 
@@ -10,13 +9,13 @@ returns c =
     let if1 = c .if1 in
     let is-protected2 = c .before .is-protected2 in
     let enum-told2 = c .before .before .enum-told2 in
-    rw (enum-told2 .given .1, ← is-protected2 .ensures, if1 .taken)
+    λ copy. rw (enum-told2 .given .1, sym (is-protected2 .ensures copy) ∙ if1 .taken)
 
 returns-2 : tie.Need-returns-2
 returns-2 c =
     let is-protected = c .is-protected in
     let enum-told = c .before .enum-told in
-    rw (enum-told .given .1, is-protected .ensures)
+    λ copy. rw (enum-told .given .1, is-protected .ensures copy)
 
 returns-3 : tie.Need-returns-3
 returns-3 c =
@@ -24,7 +23,7 @@ returns-3 c =
     let if1 = c .before .if1 in
     let is-protected2 = c .before .before .is-protected2 in
     let enum-told2 = c .before .before .before .enum-told2 in
-    rw (enum-told2 .given .1, ← is-protected2 .ensures, if1 .left, is-protected3 .ensures)
+    λ copy. rw (enum-told2 .given .1, sym (is-protected2 .ensures copy) ∙ if1 .left, is-protected3 .ensures copy)
 
 pub is-any-protected-spec : {M : Type 1} → statement M
 is-any-protected-spec =

@@ -1,7 +1,6 @@
 -- `fast::leaf::is_plain` meets its contract: by where the address lies.
-use borrow.Author.Tests.{lt-ltb, le-ltb, le-leb, lt-leb}
+use borrow.Author.Tests.{le-leb, lt-leb}
 use borrow.Author.Needs.{needs}
-use Rattle.registers.specs.Program.{constantsStart}
 use Rattle.fast.proofs.leaf.is_plain.Statement.{statement}
 use Rattle.fast.proofs.leaf.is_plain.Tie as tie
 
@@ -14,16 +13,16 @@ returns c =
 returns-2 : tie.Need-returns-2
 returns-2 c =
     let if2 = c .if2 in
-    let if1 = c .before .if1 in
-    let a = c .before .before .args in
-    rw (lt-leb (a .fp) (a .a) (if1 .left), lt-leb 3 (a .a) (if2 .taken))
+    let if1 = c .before .before .if1 in
+    let a = c .before .before .before .args in
+    rw (lt-leb (a .fp) (a .a) (if1 .left), lt-leb (a .attributes .globals) (a .a) (if2 .taken))
 
 returns-3 : tie.Need-returns-3
 returns-3 c =
     let if2 = c .before .if2 in
-    let if1 = c .before .before .if1 in
-    let a = c .before .before .before .args in
-    rw (lt-leb (a .fp) (a .a) (if1 .left), le-leb 3 (a .a) (if2 .left))
+    let if1 = c .before .before .before .if1 in
+    let a = c .before .before .before .before .args in
+    rw (lt-leb (a .fp) (a .a) (if1 .left), le-leb (a .attributes .globals) (a .a) (if2 .left))
 
 pub is-plain-spec : {M : Type 1} → statement M
-is-plain-spec = tie.close (tie.spec returns returns-2 (λ c. search needs) (λ c. search needs) returns-3)
+is-plain-spec = tie.close (tie.spec returns (λ c. search needs) returns-2 (λ c. search needs) returns-3)

@@ -1,6 +1,6 @@
 -- `fast::leaf::store_popped` meets its contract: the word at the sum is live and not protected, or nothing is written.
 use mathlib.Core.Path.{_∙_, sym, refl}
-use borrow.Author.Tests.{not-true, not-false}
+use borrow.Author.Tests.{not-false}
 use borrow.Author.Needs.{needs}
 use Rattle.fast.proofs.leaf.store_popped.Statement.{statement}
 use Rattle.fast.proofs.leaf.store_popped.Tie as tie
@@ -12,7 +12,7 @@ returns-4 c =
     let if2 = c .before .before .before .before .if2 in
     let wide = c .before .before .before .before .before .before .wide in
     let if1 = c .before .before .before .before .before .before .before .before .if1 in
-    let free = not-true _ (sym (is-free .ensures) ∙ not-false (is-free .result) (if3 .left)) in
+    let free = sym (is-free .ensures) ∙ not-false (is-free .result) (if3 .left) in
     rw (← wide .ensures .0) ((if1 .left, (if2 .left, free)), refl)
 
 slice-write-memory : tie.Need-slice-write-memory

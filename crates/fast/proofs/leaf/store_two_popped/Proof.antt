@@ -2,7 +2,7 @@
 use mathlib.Core.Path.{_∙_, sym, refl}
 use native.Mathlib.Omega.{arith}
 use lib.ListN.{length-set}
-use borrow.Author.Tests.{not-true, not-false}
+use borrow.Author.Tests.{not-false}
 use borrow.Author.Needs.{needs}
 use Rattle.fast.proofs.leaf.store_two_popped.Statement.{statement}
 use Rattle.fast.proofs.leaf.store_two_popped.Tie as tie
@@ -20,8 +20,8 @@ returns-5 c =
     let if2 = earlier .if2 in
     let wide = earlier .before .before .wide in
     let if1 = earlier .before .before .before .before .if1 in
-    let one = not-true _ (sym (is-free .ensures) ∙ not-false (is-free .result) (if3 .left)) in
-    let two = not-true _ (sym (is-free2 .ensures) ∙ not-false (is-free2 .result) (if4 .left)) in
+    let one = sym (is-free .ensures) ∙ not-false (is-free .result) (if3 .left) in
+    let two = sym (is-free2 .ensures) ∙ not-false (is-free2 .result) (if4 .left) in
     rw (← wide .ensures .0) ((if1 .left, (if2 .left, (one, two))), refl)
 
 pub store-two-popped-spec : {M : Type 1} → statement M

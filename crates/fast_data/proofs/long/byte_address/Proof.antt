@@ -18,8 +18,8 @@ cast-push-2 c =
     let a = c .before .before .before .before .before .before .before .before .before .before .before .args in
     let pre = c .before .before .before .before .before .before .before .before .before .before .before .pre in
     record {
-      fits = small-local (a .attributes) (a .q) (spot (a .pc .now) (a .height .now) (a .memory .now) (a .stack .now)) (pre .1 .1)
-          (byte-at .result) (byte-small (byte-at .result) (byte-at .ok));
+      fits = small-local (a .attributes) (a .q) (spot (a .pc .now) (a .height .now) (a .memory .now) (a .stack .now))
+          (pre .1 .1) (byte-at .result) (byte-small (byte-at .result) (byte-at .ok));
     }
 
 returns-2 : tie.Need-returns-2
@@ -33,7 +33,6 @@ returns-2 c =
     let a = earlier .before .before .before .before .before .before .args in
     let pre = earlier .before .before .before .before .before .before .pre in
     address-local-arm (a .code .now) (a .attributes) (a .q) (a .pc .now) (a .height .now) (a .memory .now) (a .stack .now)
-    (pre .1 .1)
     (push .result) (spot (push .last .1 .0) (push .last .1 .1 .0) (a .memory .now) (push .last .0))
     (a .pc .now + 2) (if1 .left) (byte-at .result)
     (byte-form (a .code .now) (a .pc .now) normal _ Normal _ 0x8D _
@@ -49,8 +48,8 @@ cast-push-4 c =
     let a = c .before .before .before .before .before .before .before .before .before .before .before .args in
     let pre = c .before .before .before .before .before .before .before .before .before .before .before .pre in
     record {
-      fits = small-global (a .attributes) (a .q) (spot (a .pc .now) (a .height .now) (a .memory .now) (a .stack .now)) (pre .1 .1)
-          (byte-at .result) (byte-small (byte-at .result) (byte-at .ok));
+      fits = small-global (a .attributes) (a .q) (spot (a .pc .now) (a .height .now) (a .memory .now) (a .stack .now))
+          (pre .1 .1) (byte-at .result) (byte-small (byte-at .result) (byte-at .ok));
     }
 
 returns-3 : tie.Need-returns-3
@@ -64,7 +63,6 @@ returns-3 c =
     let a = earlier .before .before .before .before .before .before .args in
     let pre = earlier .before .before .before .before .before .before .pre in
     address-global-arm (a .code .now) (a .attributes) (a .q) (a .pc .now) (a .height .now) (a .memory .now) (a .stack .now)
-    (pre .1 .1)
     (push2 .result) (spot (push2 .last .1 .0) (push2 .last .1 .1 .0) (a .memory .now) (push2 .last .0))
     (a .pc .now + 2) (if1 .left) (byte-at .result)
     (byte-form (a .code .now) (a .pc .now) normal _ Normal _ 0x8E _
@@ -79,8 +77,8 @@ address-popped-requires c κs =
     let byte-at = c .before .before .before .before .byte-at in
     let a = c .before .before .before .before .before .before .before .before .before .before .args in
     let pre = c .before .before .before .before .before .before .before .before .before .before .pre in (
-      fitting (a .attributes) (stateAt (a .q) (spot (a .pc .now) (a .height .now) (a .memory .now) (a .stack .now))) (pre .1 .1)
-          .height,
+      fitting (a .attributes) (stateAt (a .q) (spot (a .pc .now) (a .height .now) (a .memory .now) (a .stack .now)))
+          (pre .1 .1) .height,
       (byte-small (byte-at .result) (byte-at .ok)),
     )
 
@@ -95,7 +93,6 @@ returns-4 c =
     let a = earlier .before .before .before .before .before .args in
     let pre = earlier .before .before .before .before .before .pre in
     address-popped-arm (a .code .now) (a .attributes) (a .q) (a .pc .now) (a .height .now) (a .memory .now) (a .stack .now)
-    (pre .1 .1)
     (address-popped .result)
     (spot (address-popped .last .1 .0) (address-popped .last .1 .1 .0) (a .memory .now) (address-popped .last .0))
     (a .pc .now + 2) (if1 .left) (byte-at .result)
@@ -106,21 +103,18 @@ returns-4 c =
 
 cast-push-6 : tie.Need-cast-push-6
 cast-push-6 c =
-    let word-at = c .word-at in
     let byte-at = c .before .before .before .before .before .byte-at in
     let a = c .before .before .before .before .before .before .before .before .before .before .before .args in
     let pre = c .before .before .before .before .before .before .before .before .before .before .before .pre in
     record {
-      fits = rw (word-at .ensures)
-          (small-constant (a .attributes) (a .q) (spot (a .pc .now) (a .height .now) (a .memory .now) (a .stack .now)) (pre .1 .1)
-          (byte-at .result) (byte-small (byte-at .result) (byte-at .ok)));
+      fits = small-constant (a .attributes) (a .q) (spot (a .pc .now) (a .height .now) (a .memory .now) (a .stack .now))
+          (pre .1 .1) (byte-at .result) (byte-small (byte-at .result) (byte-at .ok));
     }
 
 returns-5 : tie.Need-returns-5
 unfolding rowOf
 returns-5 c =
     let push3 = c .before .before .push3 in
-    let word-at = c .before .before .before .word-at in
     let match = c .before .before .before .before .before .before .before .match in
     let earlier = c .before .before .before .before .before .before .before .before in
     let byte-at = earlier .byte-at in
@@ -128,7 +122,6 @@ returns-5 c =
     let a = earlier .before .before .before .before .before .before .args in
     let pre = earlier .before .before .before .before .before .before .pre in
     address-constant-arm (a .code .now) (a .attributes) (a .q) (a .pc .now) (a .height .now) (a .memory .now) (a .stack .now)
-    (pre .1 .1)
     (push3 .result) (spot (push3 .last .1 .0) (push3 .last .1 .1 .0) (a .memory .now) (push3 .last .0))
     (a .pc .now + 2) (if1 .left) (byte-at .result)
     (byte-form (a .code .now) (a .pc .now) normal _ Normal _ 0x92 _
@@ -136,14 +129,13 @@ returns-5 c =
     (sym (pre .1 .0) ∙ match .keys4) refl refl (byte-at .ensures) (if1 .left))
     (small-constant (a .attributes) (a .q) (spot (a .pc .now) (a .height .now) (a .memory .now) (a .stack .now)) (pre .1 .1)
     (byte-at .result) (byte-small (byte-at .result) (byte-at .ok)))
-    (rw (word-at .ensures) at (push3 .ensures (a .memory .now)))
+    (push3 .ensures (a .memory .now))
 
 pub byte-address-spec : {M : Type 1} → statement M
 byte-address-spec =
     tie.close
     (tie.spec (λ c. search needs) (λ c. search needs) (λ c. search needs) (λ c κs. search needs) (λ c. search needs)
-    (λ c. search needs)
-    (λ c. search needs) (λ c. search needs) cast-push-2 (λ c κs. search needs) (λ c. search needs) (λ c. search needs)
-    cast-push-4 (λ c κs. search needs) address-popped-requires (λ c κs. search needs) (λ c. search needs) (λ c. search needs)
+    (λ c. search needs) (λ c. search needs) (λ c. search needs) cast-push-2 (λ c κs. search needs) (λ c. search needs)
+    (λ c. search needs) cast-push-4 (λ c κs. search needs) address-popped-requires (λ c. search needs) (λ c. search needs)
     cast-push-6 (λ c κs. search needs) (λ c. search needs) returns-2 (λ c. search needs) returns-3 (λ c. search needs)
     returns-4 (λ c. search needs) returns-5 (λ c. search needs))

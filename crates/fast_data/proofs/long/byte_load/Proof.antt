@@ -25,7 +25,6 @@ returns-2 : tie.Need-returns-2
 unfolding rowOf
 returns-2 c =
     let load = c .before .before .load in
-    let word-at = c .before .before .before .word-at in
     let earlier = c .before .before .before .before .before .before .before .before in
     let match = earlier .match in
     let byte-at = earlier .before .byte-at in
@@ -33,13 +32,12 @@ returns-2 c =
     let a = earlier .before .before .before .before .before .before .before .args in
     let pre = earlier .before .before .before .before .before .before .before .pre in
     load-constant-arm (a .code .now) (a .attributes) (a .q) (a .pc .now) (a .height .now) (a .memory .now) (a .stack .now)
-    (pre .1 .1)
     (load .result) (spot (load .last .1 .1 .0) (load .last .1 .1 .1 .0) (a .memory .now) (load .last .1 .0))
     (a .pc .now + 2) (if1 .left) (byte-at .result)
     (byte-form (a .code .now) (a .pc .now) both _ Normal _ 0x80 _
     (started (a .code .now) (a .pc .now) 0x80 (sym (pre .1 .0) ∙ match .keys1) refl)
     (sym (pre .1 .0) ∙ match .keys1) refl refl (byte-at .ensures) (if1 .left))
-    (rw (word-at .ensures) at (load .ensures))
+    (load .ensures)
 
 returns-3 : tie.Need-returns-3
 unfolding rowOf
@@ -53,7 +51,6 @@ returns-3 c =
     let a = earlier .before .before .before .before .before .before .args in
     let pre = earlier .before .before .before .before .before .before .pre in
     constant-arm (a .code .now) (a .attributes) (a .q) (a .pc .now) (a .height .now) (a .memory .now) (a .stack .now)
-    (pre .1 .1)
     (push .result) (spot (push .last .1 .0) (push .last .1 .1 .0) (a .memory .now) (push .last .0))
     (a .pc .now + 2) (if1 .left) (extend-byte .result)
     (long-form (a .code .now) (a .pc .now) (signed byte) normal _ Normal _ _ 0x82 _
@@ -80,7 +77,6 @@ returns-4 c =
     let a = earlier .before .before .before .before .before .before .before .args in
     let pre = earlier .before .before .before .before .before .before .before .pre in
     load-local-arm (a .code .now) (a .attributes) (a .q) (a .pc .now) (a .height .now) (a .memory .now) (a .stack .now)
-    (pre .1 .1)
     (load2 .result) (spot (load2 .last .1 .1 .0) (load2 .last .1 .1 .1 .0) (a .memory .now) (load2 .last .1 .0))
     (a .pc .now + 2) (if1 .left) (byte-at .result)
     (byte-form (a .code .now) (a .pc .now) both _ Normal _ 0x85 _
@@ -106,7 +102,6 @@ returns-5 c =
     let a = earlier .before .before .before .before .before .before .before .args in
     let pre = earlier .before .before .before .before .before .before .before .pre in
     load-global-arm (a .code .now) (a .attributes) (a .q) (a .pc .now) (a .height .now) (a .memory .now) (a .stack .now)
-    (pre .1 .1)
     (load3 .result) (spot (load3 .last .1 .1 .0) (load3 .last .1 .1 .1 .0) (a .memory .now) (load3 .last .1 .0))
     (a .pc .now + 2) (if1 .left) (byte-at .result)
     (byte-form (a .code .now) (a .pc .now) both _ Normal _ 0x86 _
@@ -134,7 +129,6 @@ returns-6 c =
     let a = earlier .before .before .before .before .before .before .args in
     let pre = earlier .before .before .before .before .before .before .pre in
     load-popped-arm (a .code .now) (a .attributes) (a .q) (a .pc .now) (a .height .now) (a .memory .now) (a .stack .now)
-    (pre .1 .1)
     (load-popped .result)
     (spot (load-popped .last .1 .1 .0) (load-popped .last .1 .1 .1 .0) (a .memory .now) (load-popped .last .1 .0))
     (a .pc .now + 2) (if1 .left) (byte-at .result)
@@ -147,8 +141,7 @@ pub byte-load-spec : {M : Type 1} → statement M
 byte-load-spec =
     tie.close
     (tie.spec (λ c. search needs) (λ c. search needs) (λ c. search needs) (λ c κs. search needs) (λ c. search needs)
-    (λ c. search needs)
-    (λ c. search needs) (λ c κs. search needs) (λ c. search needs) (λ c. search needs) load-requires (λ c κs. search needs)
+    (λ c. search needs) (λ c. search needs) (λ c. search needs) (λ c. search needs) load-requires (λ c κs. search needs)
     (λ c κs. search needs) (λ c. search needs) (λ c. search needs) (λ c. search needs) load-requires-2 (λ c. search needs)
     (λ c. search needs) (λ c. search needs) load-requires-3 (λ c. search needs) load-popped-requires (λ c. search needs)
     returns-2 (λ c. search needs) returns-3 (λ c. search needs) returns-4 (λ c. search needs) returns-5 (λ c. search needs)

@@ -32,7 +32,6 @@ returns-2 c =
     let a = earlier .before .before .before .before .before .before .before .args in
     let pre = earlier .before .before .before .before .before .before .before .pre in
     store-local-arm (a .code .now) (a .attributes) (a .q) (a .pc .now) (a .height .now) (a .memory .now) (a .stack .now)
-    (pre .1 .1)
     (store .result) (spot (store .last .1 .1 .1 .0) (store .last .1 .1 .1 .1 .0) (store .last .1 .0) (a .stack .now))
     (a .pc .now + 2) (if1 .left) (byte-at .result)
     (byte-form (a .code .now) (a .pc .now) both _ Normal _ 0x94 _
@@ -59,7 +58,6 @@ returns-3 c =
     let a = earlier .before .before .before .before .before .before .before .args in
     let pre = earlier .before .before .before .before .before .before .before .pre in
     store-global-arm (a .code .now) (a .attributes) (a .q) (a .pc .now) (a .height .now) (a .memory .now) (a .stack .now)
-    (pre .1 .1)
     (store2 .result) (spot (store2 .last .1 .1 .1 .0) (store2 .last .1 .1 .1 .1 .0) (store2 .last .1 .0) (a .stack .now))
     (a .pc .now + 2) (if1 .left) (byte-at .result)
     (byte-form (a .code .now) (a .pc .now) both _ Normal _ 0x95 _
@@ -86,7 +84,6 @@ returns-4 c =
     let a = earlier .before .before .before .before .before .before .before .args in
     let pre = earlier .before .before .before .before .before .before .before .pre in
     store-popped-arm (a .code .now) (a .attributes) (a .q) (a .pc .now) (a .height .now) (a .memory .now) (a .stack .now)
-    (pre .1 .1)
     (store-popped .result)
     (spot (store-popped .last .1 .1 .1 .1 .0) (store-popped .last .1 .1 .1 .1 .1 .0) (store-popped .last .1 .1 .0)
     (a .stack .now))
@@ -106,7 +103,6 @@ returns-5 c =
     let a = c .before .before .before .before .before .before .before .before .before .before .args in
     let pre = c .before .before .before .before .before .before .before .before .before .before .pre in
     pop-arm (a .code .now) (a .attributes) (a .q) (a .pc .now) (a .height .now) (a .memory .now) (a .stack .now)
-    (pre .1 .1)
     (drop .result) (spot (drop .last .0) (drop .last .1 .0) (a .memory .now) (a .stack .now))
     (a .pc .now + 2) (if1 .left) (byte-at .result)
     (byte-form (a .code .now) (a .pc .now) normal _ Normal _ 0x9E _

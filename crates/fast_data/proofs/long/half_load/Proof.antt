@@ -18,8 +18,8 @@ use Rattle.fast_data.proofs.long.half_load.Tie as tie
 
 load-requires : tie.Need-load-requires
 load-requires c κs =
-    let a = c .before .before .before .before .before .before .before .before .before .before .before .before .before .before
-    .args in
+    let a = c .before .before .before .before .before .before .before .before .before .before .before .before .before
+    .before .args in
     let pre = c .before .before .before .before .before .before .before .before .before .before .before .before .before
     .before .pre in
     fitting (a .attributes) (stateAt (a .q) (spot (a .pc .now) (a .height .now) (a .memory .now) (a .stack .now))) (pre .1 .1)
@@ -29,7 +29,6 @@ returns-2 : tie.Need-returns-2
 unfolding rowOf halfwordAt
 returns-2 c =
     let load = c .before .before .load in
-    let word-at = c .before .before .before .word-at in
     let earlier = c .before .before .before .before .before .before .before .before in
     let match = earlier .match in
     let pair = earlier .before .pair in
@@ -37,13 +36,12 @@ returns-2 c =
     let a = earlier .before .before .before .before .before .before .before .before .before .args in
     let pre = earlier .before .before .before .before .before .before .before .before .before .pre in
     load-constant-arm (a .code .now) (a .attributes) (a .q) (a .pc .now) (a .height .now) (a .memory .now) (a .stack .now)
-    (pre .1 .1)
     (load .result) (spot (load .last .1 .1 .0) (load .last .1 .1 .1 .0) (a .memory .now) (load .last .1 .0))
     (a .pc .now + 3) (if1 .left) (pair .result)
     (half-form (a .code .now) (a .pc .now) both _ Normal _ 0x81 _
     (started (a .code .now) (a .pc .now) 0x81 (sym (pre .1 .0) ∙ match .keys1) refl)
     (sym (pre .1 .0) ∙ match .keys1) refl refl (pair .ensures) (if1 .left))
-    (rw (word-at .ensures) at (load .ensures))
+    (load .ensures)
 
 returns-3 : tie.Need-returns-3
 unfolding rowOf halfwordAt
@@ -57,7 +55,6 @@ returns-3 c =
     let a = earlier .before .before .before .before .before .before .before .before .args in
     let pre = earlier .before .before .before .before .before .before .before .before .pre in
     constant-arm (a .code .now) (a .attributes) (a .q) (a .pc .now) (a .height .now) (a .memory .now) (a .stack .now)
-    (pre .1 .1)
     (push .result) (spot (push .last .1 .0) (push .last .1 .1 .0) (a .memory .now) (push .last .0))
     (a .pc .now + 3) (if1 .left) (extend-halfword .result)
     (long-form (a .code .now) (a .pc .now) (signed half) normal _ Normal _ _ 0x83 _
@@ -70,7 +67,8 @@ load-popped-requires : tie.Need-load-popped-requires
 load-popped-requires c κs =
     let pair = c .before .before .before .before .before .pair in
     let a = c .before .before .before .before .before .before .before .before .before .before .before .before .before .args in
-    let pre = c .before .before .before .before .before .before .before .before .before .before .before .before .before .pre in
+    let pre = c .before .before .before .before .before .before .before .before .before .before .before .before
+    .before .pre in
     let F = fitting (a .attributes) (stateAt (a .q) (spot (a .pc .now) (a .height .now) (a .memory .now) (a .stack .now)))
     (pre .1 .1) in
     (F .within, (F .height, (pair .ok)))
@@ -86,7 +84,6 @@ returns-4 c =
     let a = earlier .before .before .before .before .before .before .before .before .args in
     let pre = earlier .before .before .before .before .before .before .before .before .pre in
     load-popped-arm (a .code .now) (a .attributes) (a .q) (a .pc .now) (a .height .now) (a .memory .now) (a .stack .now)
-    (pre .1 .1)
     (load-popped .result)
     (spot (load-popped .last .1 .1 .0) (load-popped .last .1 .1 .1 .0) (a .memory .now) (load-popped .last .1 .0))
     (a .pc .now + 3) (if1 .left) (pair .result)
@@ -100,8 +97,8 @@ address-popped-requires c κs =
     let pair = c .before .before .before .before .pair in
     let a = c .before .before .before .before .before .before .before .before .before .before .before .before .args in
     let pre = c .before .before .before .before .before .before .before .before .before .before .before .before .pre in (
-      fitting (a .attributes) (stateAt (a .q) (spot (a .pc .now) (a .height .now) (a .memory .now) (a .stack .now))) (pre .1 .1)
-          .height,
+      fitting (a .attributes) (stateAt (a .q) (spot (a .pc .now) (a .height .now) (a .memory .now) (a .stack .now)))
+          (pre .1 .1) .height,
       (pair .ok),
     )
 
@@ -116,7 +113,6 @@ returns-5 c =
     let a = earlier .before .before .before .before .before .args in
     let pre = earlier .before .before .before .before .before .pre in
     address-popped-arm (a .code .now) (a .attributes) (a .q) (a .pc .now) (a .height .now) (a .memory .now) (a .stack .now)
-    (pre .1 .1)
     (address-popped .result)
     (spot (address-popped .last .1 .0) (address-popped .last .1 .1 .0) (a .memory .now) (address-popped .last .0))
     (a .pc .now + 3) (if1 .left) (pair .result)
@@ -127,21 +123,19 @@ returns-5 c =
 
 cast-push-2 : tie.Need-cast-push-2
 cast-push-2 c =
-    let word-at2 = c .word-at2 in
     let pair = c .before .before .before .before .before .pair in
     let a = c .before .before .before .before .before .before .before .before .before .before .before .before .before .args in
-    let pre = c .before .before .before .before .before .before .before .before .before .before .before .before .before .pre in
+    let pre = c .before .before .before .before .before .before .before .before .before .before .before .before
+    .before .pre in
     record {
-      fits = rw (word-at2 .ensures)
-          (small-constant (a .attributes) (a .q) (spot (a .pc .now) (a .height .now) (a .memory .now) (a .stack .now)) (pre .1 .1)
-          (pair .result) (pair .ok));
+      fits = small-constant (a .attributes) (a .q) (spot (a .pc .now) (a .height .now) (a .memory .now) (a .stack .now))
+          (pre .1 .1) (pair .result) (pair .ok);
     }
 
 returns-6 : tie.Need-returns-6
 unfolding rowOf halfwordAt
 returns-6 c =
     let push2 = c .before .before .push2 in
-    let word-at2 = c .before .before .before .word-at2 in
     let match = c .before .before .before .before .before .before .before .match in
     let earlier = c .before .before .before .before .before .before .before .before in
     let pair = earlier .pair in
@@ -149,7 +143,6 @@ returns-6 c =
     let a = earlier .before .before .before .before .before .before .before .before .args in
     let pre = earlier .before .before .before .before .before .before .before .before .pre in
     address-constant-arm (a .code .now) (a .attributes) (a .q) (a .pc .now) (a .height .now) (a .memory .now) (a .stack .now)
-    (pre .1 .1)
     (push2 .result) (spot (push2 .last .1 .0) (push2 .last .1 .1 .0) (a .memory .now) (push2 .last .0))
     (a .pc .now + 3) (if1 .left) (pair .result)
     (half-form (a .code .now) (a .pc .now) normal _ Normal _ 0x93 _
@@ -157,15 +150,14 @@ returns-6 c =
     (sym (pre .1 .0) ∙ match .keys5) refl refl (pair .ensures) (if1 .left))
     (small-constant (a .attributes) (a .q) (spot (a .pc .now) (a .height .now) (a .memory .now) (a .stack .now)) (pre .1 .1)
     (pair .result) (pair .ok))
-    (rw (word-at2 .ensures) at (push2 .ensures (a .memory .now)))
+    (push2 .ensures (a .memory .now))
 
 pub half-load-spec : {M : Type 1} → statement M
 half-load-spec =
     tie.close
     (tie.spec (λ c. search needs) (λ c. search needs) (λ c. search needs) (λ c. search needs) (λ c. search needs)
     (λ c. search needs) (λ c κs. search needs) (λ c. search needs) (λ c. search needs) (λ c. search needs)
-    (λ c κs. search needs) (λ c. search needs) (λ c. search needs) load-requires (λ c κs. search needs)
-    (λ c κs. search needs) (λ c. search needs) load-popped-requires address-popped-requires (λ c κs. search needs)
-    (λ c. search needs) (λ c. search needs) cast-push-2 (λ c κs. search needs) (λ c. search needs) returns-2
-    (λ c. search needs) returns-3 (λ c. search needs) returns-4 (λ c. search needs) returns-5 (λ c. search needs) returns-6
-    (λ c. search needs))
+    (λ c. search needs) (λ c. search needs) load-requires (λ c κs. search needs) (λ c κs. search needs) (λ c. search needs)
+    load-popped-requires address-popped-requires (λ c. search needs) (λ c. search needs) cast-push-2 (λ c κs. search needs)
+    (λ c. search needs) returns-2 (λ c. search needs) returns-3 (λ c. search needs) returns-4 (λ c. search needs) returns-5
+    (λ c. search needs) returns-6 (λ c. search needs))

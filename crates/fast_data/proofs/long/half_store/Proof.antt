@@ -30,7 +30,6 @@ returns-2 c =
     let a = earlier .before .before .before .before .before .before .before .before .args in
     let pre = earlier .before .before .before .before .before .before .before .before .pre in
     store-popped-arm (a .code .now) (a .attributes) (a .q) (a .pc .now) (a .height .now) (a .memory .now) (a .stack .now)
-    (pre .1 .1)
     (store-popped .result)
     (spot (store-popped .last .1 .1 .1 .1 .0) (store-popped .last .1 .1 .1 .1 .1 .0) (store-popped .last .1 .1 .0)
     (a .stack .now))

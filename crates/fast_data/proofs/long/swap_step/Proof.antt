@@ -26,7 +26,7 @@ returns c =
     let swap = c .before .before .swap in
     let a = c .before .before .before .before .before .before .before .before .before .before .args in
     let pre = c .before .before .before .before .before .before .before .before .before .before .pre in
-    swap-arm (a .code .now) (a .attributes) (a .q) (a .pc .now) (a .height .now) (a .memory .now) (a .stack .now) (pre .1 .1)
+    swap-arm (a .code .now) (a .attributes) (a .q) (a .pc .now) (a .height .now) (a .memory .now) (a .stack .now)
     (swap .result) (spot (swap .last .1 .0) (swap .last .1 .1 .0) (a .memory .now) (swap .last .0))
     (a .pc .now + 1) (pre .0)
     (long-form (a .code .now) (a .pc .now) none normal _ Normal _ _ 0x9F _

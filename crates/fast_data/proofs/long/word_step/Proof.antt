@@ -1,5 +1,5 @@
 -- `fast_data::long::word_step` meets its contract: a word is its own extension.
-use mathlib.Core.Path.{_≡_, _∙_, refl, sym}
+use mathlib.Core.Path.{_≡_, refl}
 use native.Mathlib.Omega.{arith}
 use Prim.Native.Nat.{_+_}
 use borrow.Author.Needs.{needs}
@@ -8,7 +8,7 @@ use Rattle.operand.specs.Operand.{signed, w as word}
 use Rattle.operand.proofs.Extend.{extended-word}
 use Rattle.opcode.specs.Table.{normal, rowOf}
 use Rattle.opcode.specs.declared.instruction.Mode.the-variants.{Normal}
-use Rattle.fast.specs.Fast.{spot, stateAt}
+use Rattle.fast.specs.Fast.{spot}
 use Rattle.fast_double.proofs.Forms.{started, long-form}
 use Rattle.fast_data.proofs.Arms.{constant-arm}
 use Rattle.fast_data.proofs.long.word_step.Statement.{statement}
@@ -26,7 +26,7 @@ returns-2 c =
     let a = earlier .before .before .before .before .before .before .before .before .args in
     let pre = earlier .before .before .before .before .before .before .before .before .pre in
     let same : join .result ≡ wordAt (a .code .now) (a .pc .now + 1) = rw (join .ensures, pair .ensures, pair2 .ensures) refl in
-    constant-arm (a .code .now) (a .attributes) (a .q) (a .pc .now) (a .height .now) (a .memory .now) (a .stack .now) (pre .1 .1)
+    constant-arm (a .code .now) (a .attributes) (a .q) (a .pc .now) (a .height .now) (a .memory .now) (a .stack .now)
     (push .result) (spot (push .last .1 .0) (push .last .1 .1 .0) (a .memory .now) (push .last .0))
     (a .pc .now + 5) (omega (arith, if1 .left)) (join .result)
     (long-form (a .code .now) (a .pc .now) (signed word) normal _ Normal _ _ 0x84 _

@@ -22,7 +22,7 @@ returns c =
     let a = c .before .before .before .before .before .before .before .before .before .before .before .args in
     let pre = c .before .before .before .before .before .before .before .before .before .before .before .pre in
     constant-arm (a .code .now) (a .attributes) (a .q) (a .pc .now) (a .height .now) (a .memory .now) (a .stack .now)
-    (pre .1 .1 .1) (push .result) (spot (push .last .1 .0) (push .last .1 .1 .0) (a .memory .now) (push .last .0))
+    (push .result) (spot (push .last .1 .0) (push .last .1 .1 .0) (a .memory .now) (push .last .0))
     (a .pc .now + 1) (pre .0) (a .b % 16)
     (short-form (a .code .now) (a .pc .now) normal _ Normal _ (a .b) 0 (at-once (λ z. omega (arith, pre .1 .0, pre .1 .1 .0)))
     (pre .1 .0) (pre .1 .1 .0) (match .keys1) refl refl (pre .0))
@@ -32,8 +32,8 @@ load-requires : tie.Need-load-requires
 load-requires c κs =
     let a = c .before .before .before .before .before .before .before .before .before .before .before .args in
     let pre = c .before .before .before .before .before .before .before .before .before .before .before .pre in
-    fitting (a .attributes) (stateAt (a .q) (spot (a .pc .now) (a .height .now) (a .memory .now) (a .stack .now))) (pre .1 .1 .1)
-    .within
+    fitting (a .attributes) (stateAt (a .q) (spot (a .pc .now) (a .height .now) (a .memory .now) (a .stack .now)))
+    (pre .1 .1 .1) .within
 
 returns-2 : tie.Need-returns-2
 returns-2 c =
@@ -43,7 +43,6 @@ returns-2 c =
     let a = earlier .before .before .before .before .before .args in
     let pre = earlier .before .before .before .before .before .pre in
     load-local-arm (a .code .now) (a .attributes) (a .q) (a .pc .now) (a .height .now) (a .memory .now) (a .stack .now)
-    (pre .1 .1 .1)
     (load .result) (spot (load .last .1 .1 .0) (load .last .1 .1 .1 .0) (a .memory .now) (load .last .1 .0))
     (a .pc .now + 1) (pre .0) (a .b % 16)
     (short-form (a .code .now) (a .pc .now) both _ Normal _ (a .b) 1 (at-once (λ z. omega (arith, pre .1 .0, pre .1 .1 .0)))
@@ -54,8 +53,8 @@ load-requires-2 : tie.Need-load-requires-2
 load-requires-2 c κs =
     let a = c .before .before .before .before .before .before .before .before .before .before .before .args in
     let pre = c .before .before .before .before .before .before .before .before .before .before .before .pre in
-    fitting (a .attributes) (stateAt (a .q) (spot (a .pc .now) (a .height .now) (a .memory .now) (a .stack .now))) (pre .1 .1 .1)
-    .within
+    fitting (a .attributes) (stateAt (a .q) (spot (a .pc .now) (a .height .now) (a .memory .now) (a .stack .now)))
+    (pre .1 .1 .1) .within
 
 returns-3 : tie.Need-returns-3
 returns-3 c =
@@ -65,7 +64,6 @@ returns-3 c =
     let a = earlier .before .before .before .before .before .args in
     let pre = earlier .before .before .before .before .before .pre in
     load-global-arm (a .code .now) (a .attributes) (a .q) (a .pc .now) (a .height .now) (a .memory .now) (a .stack .now)
-    (pre .1 .1 .1)
     (load2 .result) (spot (load2 .last .1 .1 .0) (load2 .last .1 .1 .1 .0) (a .memory .now) (load2 .last .1 .0))
     (a .pc .now + 1) (pre .0) (a .b % 16)
     (short-form (a .code .now) (a .pc .now) both _ Normal _ (a .b) 2 (at-once (λ z. omega (arith, pre .1 .0, pre .1 .1 .0)))
@@ -88,7 +86,6 @@ returns-4 c =
     let a = earlier .before .before .before .before .before .args in
     let pre = earlier .before .before .before .before .before .pre in
     load-popped-arm (a .code .now) (a .attributes) (a .q) (a .pc .now) (a .height .now) (a .memory .now) (a .stack .now)
-    (pre .1 .1 .1)
     (load-popped .result) (spot (load-popped .last .1 .1 .0) (load-popped .last .1 .1 .1 .0) (a .memory .now)
     (load-popped .last .1 .0))
     (a .pc .now + 1) (pre .0) (a .b % 16)
@@ -112,7 +109,6 @@ returns-5 c =
     let a = earlier .before .before .before .before .before .args in
     let pre = earlier .before .before .before .before .before .pre in
     store-local-arm (a .code .now) (a .attributes) (a .q) (a .pc .now) (a .height .now) (a .memory .now) (a .stack .now)
-    (pre .1 .1 .1)
     (store .result) (spot (store .last .1 .1 .1 .0) (store .last .1 .1 .1 .1 .0) (store .last .1 .0) (a .stack .now))
     (a .pc .now + 1) (pre .0) (a .b % 16)
     (short-form (a .code .now) (a .pc .now) both _ Normal _ (a .b) 4 (at-once (λ z. omega (arith, pre .1 .0, pre .1 .1 .0)))
@@ -135,7 +131,6 @@ returns-6 c =
     let a = earlier .before .before .before .before .before .args in
     let pre = earlier .before .before .before .before .before .pre in
     store-global-arm (a .code .now) (a .attributes) (a .q) (a .pc .now) (a .height .now) (a .memory .now) (a .stack .now)
-    (pre .1 .1 .1)
     (store2 .result) (spot (store2 .last .1 .1 .1 .0) (store2 .last .1 .1 .1 .1 .0) (store2 .last .1 .0) (a .stack .now))
     (a .pc .now + 1) (pre .0) (a .b % 16)
     (short-form (a .code .now) (a .pc .now) both _ Normal _ (a .b) 5 (at-once (λ z. omega (arith, pre .1 .0, pre .1 .1 .0)))
@@ -157,7 +152,6 @@ returns-7 c =
     let a = earlier .before .before .before .before .before .args in
     let pre = earlier .before .before .before .before .before .pre in
     store-popped-arm (a .code .now) (a .attributes) (a .q) (a .pc .now) (a .height .now) (a .memory .now) (a .stack .now)
-    (pre .1 .1 .1)
     (store-popped .result)
     (spot (store-popped .last .1 .1 .1 .1 .0) (store-popped .last .1 .1 .1 .1 .1 .0) (store-popped .last .1 .1 .0)
     (a .stack .now))

@@ -5,7 +5,6 @@ use Prim.Native.Nat.{_+_}
 use borrow.Author.Needs.{needs}
 use Rattle.operand.specs.Operand.{signed, b}
 use Rattle.opcode.specs.Table.{rowOf}
-use Rattle.registers.specs.Program.{program}
 use Rattle.state.proofs.Fitting.{fitting}
 use Rattle.fast.specs.Fast.{spot, stateAt}
 use Rattle.fast_flow.proofs.Standing.{stands}
@@ -30,7 +29,7 @@ returns c =
     let code = a .code .now in
     let pc = a .pc .now in
     let h = a .height .now in
-    jump-goes (program code A) q pc h m s (fitting A (stateAt q (spot pc h m s)) f .height) _ refl (pc + 2) _
+    jump-goes code A q pc h m s (fitting A (stateAt q (spot pc h m s)) f .height) _ refl (pc + 2) _
     (stands code A pc 0xDA (signed b) _ 2 refl refl (omega arith) (omega arith) (omega (arith, pre .1)) k)
     (go .result) (spot (go .last .0) (go .last .1 .0) m s)
     (rw (place-from .ensures, extend-byte .ensures) at (go .ensures m s))

@@ -14,8 +14,8 @@ returns-3 c =
     let if1 = c .before .before .before .before .before .before .before .if1 in
     let a = c .before .before .before .before .before .before .before .before .before .before .before .args in
     let pre = c .before .before .before .before .before .before .before .before .before .before .before .pre in
-    λ m P q sized stands.
-    jump-c-goes P q (a .pc .now) (a .height .now) m (a .stack .now) (pre .1) (a .size) sized (a .next)
+    λ m code A q sized stands.
+    jump-c-goes code A q (a .pc .now) (a .height .now) m (a .stack .now) (pre .1) (a .size) sized (a .next)
     (a .distance) stands (if1 .left) (if3 .taken) (go .result) (spot (go .last .0) (go .last .1 .0) m (a .stack .now))
     (rw (place-from .ensures) at (go .ensures m (a .stack .now)))
 
@@ -27,8 +27,8 @@ returns-4 c =
     let if1 = c .before .before .before .before .before .before .if1 in
     let a = c .before .before .before .before .before .before .before .before .before .before .args in
     let pre = c .before .before .before .before .before .before .before .before .before .before .pre in
-    λ m P q sized stands.
-    jump-c-stays P q (a .pc .now) (a .height .now) m (a .stack .now) (pre .1) (a .size) sized (a .next)
+    λ m code A q sized stands.
+    jump-c-stays code A q (a .pc .now) (a .height .now) m (a .stack .now) (pre .1) (a .size) sized (a .next)
     (a .distance) stands (if1 .left) (omega (arith, if2 .left, if3 .left)) (go2 .result)
     (spot (go2 .last .0) (go2 .last .1 .0) m (a .stack .now)) (go2 .ensures m (a .stack .now))
 

@@ -4,7 +4,6 @@ use native.Mathlib.Omega.{arith}
 use borrow.Author.Needs.{needs}
 use Rattle.operand.specs.Operand.{signed, b}
 use Rattle.opcode.specs.Table.{rowOf}
-use Rattle.registers.specs.Program.{program}
 use Rattle.fast_flow.proofs.Standing.{stands}
 use Rattle.fast_flow.proofs.jumps.jump_c_b.Statement.{statement}
 use Rattle.fast_flow.proofs.jumps.jump_c_b.Tie as tie
@@ -25,7 +24,7 @@ returns c =
     let code = a .code .now in
     let pc = a .pc .now in
     let jumps = rw (extend-byte .ensures) at (jump-c .ensures m) in
-    jumps (program code A) q refl
+    jumps code A q refl
     (stands code A pc 0xDC (signed b) _ 2 refl refl (omega arith) (omega arith) (omega (arith, pre .1 .0)) k)
 
 pub jump-c-b-spec : {M : Type 1} → statement M

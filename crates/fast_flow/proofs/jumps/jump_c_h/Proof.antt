@@ -4,7 +4,6 @@ use native.Mathlib.Omega.{arith}
 use borrow.Author.Needs.{needs}
 use Rattle.operand.specs.Operand.{signed, h as halfword}
 use Rattle.opcode.specs.Table.{rowOf}
-use Rattle.registers.specs.Program.{program}
 use Rattle.fast_flow.proofs.Standing.{stands}
 use Rattle.fast_flow.proofs.jumps.jump_c_h.Statement.{statement}
 use Rattle.fast_flow.proofs.jumps.jump_c_h.Tie as tie
@@ -26,7 +25,7 @@ returns-2 c =
     let code = a .code .now in
     let pc = a .pc .now in
     let jumps = rw (extend-halfword .ensures, half .ensures) at (jump-c .ensures m) in
-    jumps (program code A) q refl
+    jumps code A q refl
     (stands code A pc 0xDD (signed halfword) _ 3 refl refl (omega arith) (omega arith) (omega (arith, if1 .left)) k)
 
 pub jump-c-h-spec : {M : Type 1} → statement M

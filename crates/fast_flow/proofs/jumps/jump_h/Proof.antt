@@ -5,7 +5,6 @@ use Prim.Native.Nat.{_+_}
 use borrow.Author.Needs.{needs}
 use Rattle.operand.specs.Operand.{signed, h as halfword}
 use Rattle.opcode.specs.Table.{rowOf}
-use Rattle.registers.specs.Program.{program}
 use Rattle.state.proofs.Fitting.{fitting}
 use Rattle.fast.specs.Fast.{spot, stateAt}
 use Rattle.fast_flow.proofs.Standing.{stands}
@@ -31,7 +30,7 @@ returns-2 c =
     let code = a .code .now in
     let pc = a .pc .now in
     let h = a .height .now in
-    jump-goes (program code A) q pc h m s (fitting A (stateAt q (spot pc h m s)) f .height) _ refl (pc + 3) _
+    jump-goes code A q pc h m s (fitting A (stateAt q (spot pc h m s)) f .height) _ refl (pc + 3) _
     (stands code A pc 0xDB (signed halfword) _ 3 refl refl (omega arith) (omega arith) (omega (arith, if1 .left)) k)
     (go .result) (spot (go .last .0) (go .last .1 .0) m s)
     (rw (place-from .ensures, extend-halfword .ensures, half .ensures) at (go .ensures m s))

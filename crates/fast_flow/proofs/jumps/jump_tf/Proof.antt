@@ -3,7 +3,6 @@ use mathlib.Core.Path.{refl}
 use Prim.Native.Nat.{_+_}
 use borrow.Author.Needs.{needs}
 use Rattle.words.specs.Bytes.{byteAt}
-use Rattle.registers.specs.Program.{program}
 use Rattle.fast.specs.Fast.{spot}
 use Rattle.fast_flow.proofs.Jumping.{flag-stands, flag-goes, flag-stays}
 use Rattle.fast_flow.proofs.jumps.jump_tf.Statement.{statement}
@@ -24,7 +23,7 @@ returns-3 c =
     let pc = a .pc .now in
     let s = a .stack .now in
     let stands = flag-stands code A pc (a .truth) (pre .1 .1 .1) (pre .1 .0) k in
-    flag-goes (program code A) q pc (a .height .now) m s (pre .1 .1 .0) _ refl (pc + 2) (a .truth)
+    flag-goes code A q pc (a .height .now) m s (pre .1 .1 .0) _ refl (pc + 2) (a .truth)
     (byteAt code (pc + 1)) (pre .1 .1 .1) stands (if1 .left) (if3 .taken) (go .result)
     (spot (go .last .0) (go .last .1 .0) m s) (rw (place-from .ensures, word .ensures) at (go .ensures m s))
 
@@ -41,7 +40,7 @@ returns-4 c =
     let pc = a .pc .now in
     let s = a .stack .now in
     let stands = flag-stands code A pc (a .truth) (pre .1 .1 .1) (pre .1 .0) k in
-    flag-stays (program code A) q pc (a .height .now) m s (pre .1 .1 .0) _ refl (pc + 2) (a .truth)
+    flag-stays code A q pc (a .height .now) m s (pre .1 .1 .0) _ refl (pc + 2) (a .truth)
     (byteAt code (pc + 1)) (pre .1 .1 .1) stands (if1 .left) (if2 .left) (if3 .left) (go2 .result)
     (spot (go2 .last .0) (go2 .last .1 .0) m s) (go2 .ensures m s)
 

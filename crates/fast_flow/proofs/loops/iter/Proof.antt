@@ -6,9 +6,7 @@ use borrow.Author.Tests.{not-false}
 use borrow.Author.Needs.{needs}
 use Rattle.operand.specs.Operand.{unsigned, h as halfword}
 use Rattle.opcode.specs.Table.{rowOf}
-use Rattle.registers.specs.Program.{program}
-use Rattle.state.proofs.Fitting.{fitting}
-use Rattle.fast.specs.Fast.{spot, stateAt}
+use Rattle.fast.specs.Fast.{spot}
 use Rattle.fast_flow.proofs.Standing.{stands}
 use Rattle.fast_flow.proofs.Looping.{iter-skips, iter-starts}
 use Rattle.fast_flow.proofs.loops.iter.Statement.{statement}
@@ -32,7 +30,7 @@ returns-3 c =
     let pc = a .pc .now in
     let m = a .memory .now in
     let s = a .stack .now in
-    iter-skips (program code (a .attributes)) (a .q) pc (a .height .now) m s (pc + 3) _ refl (pre .1 .1 .0) _
+    iter-skips code (a .attributes) (a .q) pc (a .height .now) m s (pc + 3) _ refl (pre .1 .1 .0) _
     (stands code (a .attributes) pc 0xE0 (unsigned halfword) _ 3 refl refl (omega arith) (omega arith)
     (omega (arith, if1 .left)) k)
     (if2 .left) (sym (is-beyond .ensures) ∙ if3 .taken) (go .result) (spot (go .last .0) (go .last .1 .0) m s)
@@ -61,7 +59,7 @@ returns-6 c =
     let h = a .height .now in
     let m = a .memory .now in
     let s = a .stack .now in
-    iter-starts (program code A) (a .q) pc h m s (pc + 3) (fitting A (stateAt (a .q) (spot pc h m s)) (pre .1 .1 .1 .1))
+    iter-starts code A (a .q) pc h m s (pc + 3)
     (wide .result) (if4 .left) (sym (is-plain .ensures) ∙ not-false (is-plain .result) (if5 .left)) _ _
     (stands code A pc 0xE0 (unsigned halfword) _ 3 refl refl (omega arith) (omega arith) (omega (arith, if1 .left)) k)
     (omega (arith, if1 .left)) (if2 .left) (sym (wide .ensures)) refl (sym (is-beyond .ensures) ∙ if3 .left)

@@ -6,10 +6,7 @@ use borrow.Author.Tests.{not-false}
 use borrow.Author.Needs.{needs}
 use Rattle.operand.specs.Operand.{none}
 use Rattle.opcode.specs.Table.{rowOf}
-use Rattle.registers.specs.Program.{program}
 use Rattle.control.specs.Control.{nextSum}
-use Rattle.state.proofs.Fitting.{fitting}
-use Rattle.fast.specs.Fast.{spot, stateAt}
 use Rattle.fast_flow.proofs.Standing.{stands}
 use Rattle.fast_flow.proofs.Looping.{next-rounds}
 use Rattle.fast_flow.proofs.loops.next.Statement.{statement}
@@ -45,9 +42,9 @@ returns-4 c =
     let h = a .height .now in
     let m = a .memory .now in
     let s = a .stack .now in
-    round .ensures (program code A) q refl
+    round .ensures code A q refl
     (stands code A pc 0xE1 none _ 1 refl refl (omega arith) (omega arith) (omega (arith, pre .0)) k)
-    (next-rounds (program code A) q pc h m s (pc + 1) (fitting A (stateAt q (spot pc h m s)) (pre .1 .1 .1)) (wide .result)
+    (next-rounds code A q pc h m s (pc + 1) (wide .result)
     (if2 .left) (sym (is-plain .ensures) ∙ not-false (is-plain .result) (if3 .left)) _ (if1 .left) (sym (wide .ensures))
     (sym (signed-value .ensures) ∙ sum .given .1))
 

@@ -13,9 +13,9 @@ returns c =
     let is-beyond = c .before .before .before .before .before .before .before .is-beyond in
     let a = c .before .before .before .before .before .before .before .before .before .before .before .before .before .args in
     let pre = c .before .before .before .before .before .before .before .before .before .before .before .before .before .pre in
-    λ P q sized stands e.
+    λ code A q sized stands e.
     let s = a .stack .now in
-    round-ends P q (a .pc .now) (a .height .now) (a .memory .now) s (a .next) (a .size) sized (pre .1 .0)
+    round-ends code A q (a .pc .now) (a .height .now) (a .memory .now) s (a .next) (a .size) sized (pre .1 .0)
     (a .a) (a .x) stands (pre .1 .1) e (sym (is-beyond .ensures) ∙ if1 .taken) (store-and-go .result)
     (spot (store-and-go .last .1 .0) (store-and-go .last .1 .1 .0) (store-and-go .last .0) s) (store-and-go .ensures s)
 
@@ -28,9 +28,9 @@ returns-2 c =
     let is-beyond = earlier .before .is-beyond in
     let a = earlier .before .before .before .before .before .before .before .args in
     let pre = earlier .before .before .before .before .before .before .before .pre in
-    λ P q sized stands e.
+    λ code A q sized stands e.
     let s = a .stack .now in
-    round-turns P q (a .pc .now) (a .height .now) (a .memory .now) s (a .next) (a .size) sized (pre .1 .0)
+    round-turns code A q (a .pc .now) (a .height .now) (a .memory .now) s (a .next) (a .size) sized (pre .1 .0)
     (a .a) (a .x) stands (pre .1 .1) e (sym (is-beyond .ensures) ∙ if1 .left) (store-and-go2 .result)
     (spot (store-and-go2 .last .1 .0) (store-and-go2 .last .1 .1 .0) (store-and-go2 .last .0) s)
     (rw (wide .ensures) at (store-and-go2 .ensures s))

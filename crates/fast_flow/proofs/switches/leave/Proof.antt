@@ -5,7 +5,6 @@ use Prim.Native.Nat.{_+_}
 use borrow.Author.Needs.{needs}
 use Rattle.operand.specs.Operand.{none}
 use Rattle.opcode.specs.Table.{rowOf}
-use Rattle.registers.specs.Program.{program}
 use Rattle.fast.specs.Fast.{spot}
 use Rattle.fast_flow.proofs.Standing.{stands}
 use Rattle.fast_flow.proofs.Jumping.{leave-goes}
@@ -30,7 +29,7 @@ returns-2 c =
     let code = a .code .now in
     let pc = a .pc .now in
     let s = a .stack .now in
-    leave-goes (program code A) q pc (a .height .now) m s (pre .1) _ refl (pc + 1)
+    leave-goes code A q pc (a .height .now) m s (pre .1) _ refl (pc + 1)
     (stands code A pc 0xE4 none _ 1 refl refl (omega arith) (omega arith) (omega (arith, pre .0)) k) (if1 .left)
     (go .result) (spot (go .last .0) (go .last .1 .0) m s) (rw (wide .ensures) at (go .ensures m s))
 

@@ -82,7 +82,7 @@ returns-3 c =
     let F = fitting (a .attributes)
     (framed (a .pc .now) (a .fp) (a .mp .now) (a .gp) (a .height) (a .calls) (a .memory .now) (a .stack .now))
     (pre .1 .1 .1) in
-    alloc-done (program (a .code .now) (a .attributes)) (a .pc .now) (a .fp) (a .mp .now) (a .gp)
+    λ Ms R. alloc-done (program (a .code .now) (a .attributes) Ms) (a .pc .now) (a .fp) (a .mp .now) (a .gp)
     (a .height) (a .calls) (a .memory .now) (a .stack .now) F (a .next) _ (pre .1 .1 .0) (omega (arith, if1 .left)) refl
     (if2 .left) (pre .1 .0)
 

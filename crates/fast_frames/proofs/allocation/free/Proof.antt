@@ -54,7 +54,7 @@ returns-3 c =
     let F = fitting (a .attributes)
     (framed (a .pc .now) (a .fp) (a .mp .now) (a .gp) (a .height .now) (a .calls) (a .memory .now) (a .stack .now))
     (pre .1 .1 .1) in
-    free-done (program (a .code .now) (a .attributes)) (a .pc .now) (a .fp) (a .mp .now) (a .gp)
+    λ Ms R. free-done (program (a .code .now) (a .attributes) Ms) (a .pc .now) (a .fp) (a .mp .now) (a .gp)
     (a .height .now) (a .calls) (a .memory .now) (a .stack .now) F (a .next) _ (pre .1 .1 .0)
     (omega (arith, if1 .left)) refl (if2 .left) (pre .1 .0)
 

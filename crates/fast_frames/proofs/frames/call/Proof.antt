@@ -53,7 +53,7 @@ returns-7 c =
     let F = fitting (a .attributes)
     (framed (a .pc .now) (a .fp .now) (a .mp .now) (a .gp) (a .height) (a .calls .now) (a .memory .now) (a .stack .now))
     (pre .1 .1 .1 .1) in
-    call-done (program (a .code .now) (a .attributes)) (a .pc .now) (a .fp .now) (a .mp .now) (a .gp)
+    λ Ms R. call-done (program (a .code .now) (a .attributes) Ms) (a .pc .now) (a .fp .now) (a .mp .now) (a .gp)
     (a .height) (a .calls .now) (a .memory .now) (a .stack .now) F (a .next) (a .p) (pre .1 .1 .1 .0) (if1 .left)
     (omega (arith, pre .1 .0, if2 .left))
     (if3 .left) (omega (arith, if4 .left)) (pair .result) (pair .ensures ∙ sym (entry-bytes (a .code .now) (a .p))) (if6 .left)

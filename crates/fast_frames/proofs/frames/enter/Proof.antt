@@ -47,8 +47,8 @@ returns-3 c =
     let F = fitting (a .attributes)
     (framed (a .pc .now) (a .fp) (a .mp .now) (a .gp) (a .height .now) (a .calls) (a .memory .now) (a .stack .now))
     (pre .1 .1 .1 .1 .1) in
-    rw (copy-words .ensures)
-    (enter-done (program (a .code .now) (a .attributes)) (a .pc .now) (a .fp) (a .mp .now) (a .gp)
+    λ Ms R. rw (copy-words .ensures)
+    (enter-done (program (a .code .now) (a .attributes) Ms) (a .pc .now) (a .fp) (a .mp .now) (a .gp)
     (a .height .now) (a .calls) (a .memory .now) (a .stack .now) F (a .next) (a .parameters) (a .locals)
     (pre .1 .1 .1 .1 .0) (if1 .left) (if2 .left) (pre .1 .1 .1 .0))
 

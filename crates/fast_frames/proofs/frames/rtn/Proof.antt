@@ -19,7 +19,7 @@ sub-place c =
     (pre .1 .1) in
     omega (
       arith,
-      linked (program (a .code .now) (a .attributes)) (a .pc .now) (a .fp .now) (a .mp .now) (a .gp)
+      linked (a .attributes) (a .pc .now) (a .fp .now) (a .mp .now) (a .gp)
           (a .height) (a .calls .now) (a .memory .now) (a .stack .now) F (if1 .left),
     )
 
@@ -32,7 +32,7 @@ cast-place c =
 cast-fp : tie.Need-cast-fp
 cast-fp c =
     let shared-slice-known2 = c .shared-slice-known2 in
-    let a = c .before .before .before .before .before .before .args in
+    let a = c .before .before .before .before .before .before .before .args in
     record { fits = omega (arith, shared-slice-known2 .given (a .fp .now - 2) .fits) }
 
 mul-place : tie.Need-mul-place
@@ -46,8 +46,8 @@ mul-place c =
 
 mul-fp : tie.Need-mul-fp
 mul-fp c =
-    let a = c .before .before .before .before .before .args in
-    let pre = c .before .before .before .before .before .pre in
+    let a = c .before .before .before .before .before .before .args in
+    let pre = c .before .before .before .before .before .before .pre in
     let F = fitting (a .attributes)
     (framed (a .pc .now) (a .fp .now) (a .mp .now) (a .gp) (a .height) (a .calls .now) (a .memory .now) (a .stack .now))
     (pre .1 .1) in
@@ -63,7 +63,7 @@ shared-slice-read-place c =
     (pre .1 .1) in
     omega (
       arith,
-      linked (program (a .code .now) (a .attributes)) (a .pc .now) (a .fp .now) (a .mp .now) (a .gp)
+      linked (a .attributes) (a .pc .now) (a .fp .now) (a .mp .now) (a .gp)
           (a .height) (a .calls .now) (a .memory .now) (a .stack .now) F (if1 .left),
       F .frame,
       F .within,
@@ -71,62 +71,64 @@ shared-slice-read-place c =
 
 sub-mp : tie.Need-sub-mp
 sub-mp c =
-    let if1 = c .before .before .before .if1 in
-    let a = c .before .before .before .before .before .args in
-    let pre = c .before .before .before .before .before .pre in
+    let if1 = c .before .before .before .before .if1 in
+    let a = c .before .before .before .before .before .before .args in
+    let pre = c .before .before .before .before .before .before .pre in
     let F = fitting (a .attributes)
     (framed (a .pc .now) (a .fp .now) (a .mp .now) (a .gp) (a .height) (a .calls .now) (a .memory .now) (a .stack .now))
     (pre .1 .1) in
     omega (
       arith,
-      linked (program (a .code .now) (a .attributes)) (a .pc .now) (a .fp .now) (a .mp .now) (a .gp)
+      linked (a .attributes) (a .pc .now) (a .fp .now) (a .mp .now) (a .gp)
           (a .height) (a .calls .now) (a .memory .now) (a .stack .now) F (if1 .left),
     )
 
 sub-fp : tie.Need-sub-fp
 sub-fp c =
-    let if1 = c .before .before .before .if1 in
-    let a = c .before .before .before .before .before .args in
-    let pre = c .before .before .before .before .before .pre in
+    let if1 = c .before .before .before .before .if1 in
+    let a = c .before .before .before .before .before .before .args in
+    let pre = c .before .before .before .before .before .before .pre in
     let F = fitting (a .attributes)
     (framed (a .pc .now) (a .fp .now) (a .mp .now) (a .gp) (a .height) (a .calls .now) (a .memory .now) (a .stack .now))
     (pre .1 .1) in
     omega (
       arith,
-      linked (program (a .code .now) (a .attributes)) (a .pc .now) (a .fp .now) (a .mp .now) (a .gp)
+      linked (a .attributes) (a .pc .now) (a .fp .now) (a .mp .now) (a .gp)
           (a .height) (a .calls .now) (a .memory .now) (a .stack .now) F (if1 .left),
     )
 
 shared-slice-read-fp : tie.Need-shared-slice-read-fp
 shared-slice-read-fp c =
-    let if1 = c .before .before .before .before .if1 in
-    let a = c .before .before .before .before .before .before .args in
-    let pre = c .before .before .before .before .before .before .pre in
+    let if1 = c .before .before .before .before .before .if1 in
+    let a = c .before .before .before .before .before .before .before .args in
+    let pre = c .before .before .before .before .before .before .before .pre in
     let F = fitting (a .attributes)
     (framed (a .pc .now) (a .fp .now) (a .mp .now) (a .gp) (a .height) (a .calls .now) (a .memory .now) (a .stack .now))
     (pre .1 .1) in
     omega (
       arith,
-      linked (program (a .code .now) (a .attributes)) (a .pc .now) (a .fp .now) (a .mp .now) (a .gp)
+      linked (a .attributes) (a .pc .now) (a .fp .now) (a .mp .now) (a .gp)
           (a .height) (a .calls .now) (a .memory .now) (a .stack .now) F (if1 .left),
       F .frame,
       F .within,
     )
 
-returns-3 : tie.Need-returns-3
-returns-3 c =
-    let if2 = c .before .if2 in
-    let if1 = c .before .before .before .before .if1 in
-    let a = c .before .before .before .before .before .before .args in
-    let pre = c .before .before .before .before .before .before .pre in
+returns-4 : tie.Need-returns-4
+returns-4 c =
+    let if3 = c .before .if3 in
+    let if2 = c .before .before .if2 in
+    let if1 = c .before .before .before .before .before .if1 in
+    let a = c .before .before .before .before .before .before .before .args in
+    let pre = c .before .before .before .before .before .before .before .pre in
     let F = fitting (a .attributes)
     (framed (a .pc .now) (a .fp .now) (a .mp .now) (a .gp) (a .height) (a .calls .now) (a .memory .now) (a .stack .now))
     (pre .1 .1) in
-    rtn-done (program (a .code .now) (a .attributes)) (a .pc .now) (a .fp .now) (a .mp .now) (a .gp)
-    (a .height) (a .calls .now) (a .memory .now) (a .stack .now) F (a .next) (pre .1 .0) (if1 .left) (if2 .left)
+    λ Ms R. rtn-done (program (a .code .now) (a .attributes) Ms) (a .pc .now) (a .fp .now) (a .mp .now) (a .gp)
+    (a .height) (a .calls .now) (a .memory .now) (a .stack .now) F (a .next) (pre .1 .0) (if1 .left) (pre .0) (if2 .left)
+    (if3 .left)
 
 pub rtn-spec : {M : Type 1} → statement M
 rtn-spec =
     tie.close
-    (tie.spec (λ c. search needs) sub-place mul-place shared-slice-read-place cast-place (λ c. search needs) sub-mp sub-fp
-    mul-fp shared-slice-read-fp cast-fp (λ c. search needs) returns-3)
+    (tie.spec (λ c. search needs) sub-place mul-place shared-slice-read-place cast-place (λ c. search needs)
+    (λ c. search needs) sub-mp sub-fp mul-fp shared-slice-read-fp cast-fp (λ c. search needs) returns-4)

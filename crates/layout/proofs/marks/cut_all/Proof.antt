@@ -4,7 +4,7 @@ use mathlib.Core.Path.{_∙_}
 use native.Mathlib.Omega.{arith}
 use borrow.Author.Needs.{needs}
 use Rattle.layout.proofs.marks.cut_all.Statement.{statement}
-use Rattle.layout.proofs.Bounds.{count-below}
+use Rattle.entries.proofs.Bounds.{count-below}
 use Rattle.layout.proofs.Turns.{Regions, regions-start, regions-last, regions-bad, regions-next}
 use Rattle.layout.proofs.marks.cut_all.Tie as tie
 

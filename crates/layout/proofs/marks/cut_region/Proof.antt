@@ -5,7 +5,7 @@ use native.Mathlib.Omega.{arith}
 use lib.ListN.{length}
 use borrow.Author.Needs.{needs}
 use Rattle.layout.proofs.marks.cut_region.Statement.{statement}
-use Rattle.layout.proofs.Bounds.{region-below}
+use Rattle.entries.proofs.Bounds.{region-below}
 use Rattle.layout.proofs.Turns.{Region, region-start, region-spent, region-over, region-turn, region-next}
 use Rattle.layout.proofs.marks.cut_region.Tie as tie
 

@@ -53,23 +53,32 @@ returns-13 c =
     )
 
 returns-14 : tie.Need-returns-14
-returns-14 c = rw (← c .before .byte-at .ensures, c .match .keys14)
+returns-14 c =
+    rw (
+      ← c .before .before .before .byte-at .ensures,
+      c .before .before .match .keys14,
+      c .before .unsigned-byte5 .ensures,
+      c .second-byte2 .ensures,
+    )
 
 returns-15 : tie.Need-returns-15
-returns-15 c =
+returns-15 c = rw (← c .before .byte-at .ensures, c .match .keys15)
+
+returns-16 : tie.Need-returns-16
+returns-16 c =
     let a = c .before .before .before .args in
     let byte-at = c .before .byte-at in
     rw (
       ← byte-at .ensures,
-      find-rest (take 14 controlTable) (drop 14 controlTable) (byte-at .result) (c .match .rest),
+      find-rest (take 15 controlTable) (drop 15 controlTable) (byte-at .result) (c .match .rest),
     )
     (rest-nop (eqb (byte-at .result) 0xFF) (a .mode) (a .code .now) (a .at))
 
 pub control-form-spec : {M : Type 1} → statement M
 control-form-spec =
     tie.close
-    (tie.spec (λ c κs. search needs) (λ c κs. search needs) (λ c κs. search needs) (λ c κs. search needs)
+    (tie.spec (λ c κs. search needs) (λ c κs. search needs) (λ c κs. search needs) (λ c κs. search needs) (λ c κs. search needs)
     (λ c κs. search needs) (λ c κs. search needs) (λ c κs. search needs) (λ c κs. search needs) (λ c κs. search needs)
-    (λ c κs. search needs) (λ c κs. search needs) (λ c κs. search needs) (λ c κs. search needs) returns returns-2 returns-3
-    returns-4 returns-5 returns-6 returns-7 returns-8 returns-9 returns-10 returns-11 returns-12 returns-13 returns-14
-    returns-15)
+    (λ c κs. search needs) (λ c κs. search needs) (λ c κs. search needs) (λ c κs. search needs) (λ c κs. search needs) returns
+    returns-2 returns-3 returns-4 returns-5 returns-6 returns-7 returns-8 returns-9 returns-10 returns-11 returns-12 returns-13
+    returns-14 returns-15 returns-16)

@@ -4,7 +4,7 @@ use mathlib.Core.Path.{sym}
 use native.Mathlib.Omega.{arith}
 use borrow.Author.Needs.{needs}
 use Rattle.registers.proofs.access.is_link.Statement.{statement}
-use Rattle.registers.proofs.Links.{Walked, walked-start, walked-above, walked-near, walked-next, walked-end}
+use Rattle.registers.proofs.Links.{link-range, Walked, walked-start, walked-above, walked-near, walked-next, walked-end}
 use Rattle.registers.proofs.access.is_link.Tie as tie
 
 abbrev Inv-loop : tie.InvT-loop
@@ -28,23 +28,36 @@ returns c =
 
 returns-2 : tie.Need-returns-2 Inv-loop μ-loop
 returns-2 c =
-    let if1 = c .before .if1 in
-    let loop-test = c .before .before .loop-test in
-    let loop = c .before .before .before .loop in
-    let a = c .before .before .before .before .before .args in
+    let if2 = c .if2 in
+    let link-words = c .before .link-words in
+    let if1 = c .before .before .if1 in
+    let loop-test = c .before .before .before .loop-test in
+    let loop = c .before .before .before .before .loop in
+    let a = c .before .before .before .before .before .before .args in
     sym
     (walked-near (a .m .now) (a .start) (a .fp) (a .calls) (a .a) (loop .frame) (loop .counter) (loop .inv) (loop-test .taken)
-    (if1 .left) (omega arith))
+    (if1 .left) (omega (arith, link-words .ensures, if2 .taken, if1 .left)))
+
+sub-word-at : tie.Need-sub-word-at Inv-loop μ-loop
+sub-word-at c =
+    let if2 = c .if2 in
+    let link-words = c .before .link-words in
+    let frame = c .before .before .before .before .loop .frame in
+    let m = c .before .before .before .before .before .before .args .m .now in
+    omega (arith, link-words .ensures, if2 .left, link-range m frame)
 
 loop-again : tie.Need-loop-again Inv-loop μ-loop
 loop-again c =
     let word-at = c .word-at in
-    let loop-test = c .before .before .before .loop-test in
-    let loop = c .before .before .before .before .loop in
-    let a = c .before .before .before .before .before .before .args in
+    let if2 = c .before .if2 in
+    let link-words = c .before .before .link-words in
+    let if1 = c .before .before .before .if1 in
+    let loop-test = c .before .before .before .before .loop-test in
+    let loop = c .before .before .before .before .before .loop in
+    let a = c .before .before .before .before .before .before .before .args in
     rw (word-at .ensures)
     (walked-next (a .m .now) (a .start) (a .fp) (a .calls) (a .a) (loop .frame) (loop .counter) (loop .inv) (loop-test .taken)
-    (omega arith))
+    (omega (arith, link-words .ensures, if2 .left, if1 .left)))
 
 returns-3 : tie.Need-returns-3 Inv-loop μ-loop
 returns-3 c =
@@ -57,5 +70,5 @@ returns-3 c =
 pub is-link-spec : {M : Type 1} → statement M
 is-link-spec =
     tie.close
-    (tie.spec Inv-loop μ-loop loop-holds returns (λ c. search needs) returns-2 (λ c. search needs) (λ c κs. search needs)
-    (λ c. search needs) (λ c. search needs) (λ c. search needs) loop-again returns-3)
+    (tie.spec Inv-loop μ-loop loop-holds returns (λ c. search needs) (λ c κs. search needs) returns-2 sub-word-at
+    (λ c κs. search needs) (λ c. search needs) (λ c. search needs) (λ c. search needs) loop-again returns-3)

@@ -1,5 +1,4 @@
 -- `step::Machine::step` meets its contract: decoding, the stack words, and what the instruction does.
-use Prim.Native.Nat.{_≤_}
 use mathlib.Core.Path.{_∙_, sym}
 use native.Mathlib.Omega.{arith}
 use lib.ListN.{length}
@@ -8,24 +7,10 @@ use borrow.Author.Needs.{needs}
 use Rattle.opcode.proofs.Found.{ends}
 use Rattle.registers.specs.State.{state}
 use Rattle.shape.specs.Shape.{needed}
-use Rattle.state.proofs.Fitting.{Fitting, fitting}
+use Rattle.state.proofs.Fitting.{fitting}
 use Rattle.step.specs.Step.{perform, stepOf}
 use Rattle.step.proofs.Machine.step.Statement.{statement}
 use Rattle.step.proofs.Machine.step.Tie as tie
-
--- Where an instruction stands, its bytes end within the code.
-within : (c : tie.After-decoded) →
-    let start = c .before .before .before .before .before .before .before .before .before in
-    c .decoded .given .0 .1 .0 ≤ length (start .args .code .now)
-within c =
-    let decode = c .before .before in
-    let a = decode .before .before .before .before .before .before .before .args in
-    ends (a .code .now) (length (a .code .now)) (a .self .registers .pc) (sym (decode .decode .ensures) ∙ c .decoded .given .1) .1
-
-fitted : (c : tie.Start) → Fitting (c .args .attributes) (state (c .args .self .registers) (c .args .memory .now)
-    (c .args .stack .now))
-fitted c = fitting (c .args .attributes) (state (c .args .self .registers) (c .args .memory .now) (c .args .stack .now))
-    (c .pre .1 .1)
 
 returns : tie.Need-returns
 unfolding stepOf perform
@@ -35,8 +20,7 @@ returns c =
     let needed-words = c .before .before .before .needed-words in
     let decoded = c .before .before .before .before .before .decoded in
     let decode = c .before .before .before .before .before .before .before .decode in
-    let a = c .before .before .before .before .before .before .before .before .before .before .before .before .before .before
-    .args in
+    let a = c .before .before .before .before .before .before .before .before .before .before .before .before .before .before .before .before .args in
     rw (
       ← decode .ensures,
       decoded .given .1,
@@ -47,23 +31,32 @@ returns c =
 
 cast-execute : tie.Need-cast-execute
 cast-execute c =
-    let pre = c .before .before .before .before .before .before .before .before .before .before .before .before .before
-    .before .before .pre in
-    record { fits = omega (arith, pre .1 .0, within (c .before .before .before .before .before .before)) }
+    let decoded = c .before .before .before .before .before .before .decoded in
+    let earlier = c .before .before .before .before .before .before .before .before in
+    let decode = earlier .decode in
+    let a = earlier .before .before .before .before .before .before .before .before .before .args in
+    let pre = earlier .before .before .before .before .before .before .before .before .before .pre in
+    let a = a in
+    let within = ends (a .code .now) (length (a .code .now)) (a .self .registers .pc) (sym (decode .ensures) ∙ decoded .given .1) in
+    record { fits = omega (arith, pre .1 .0, within .1) }
 
 execute-requires : tie.Need-execute-requires
 execute-requires c κs =
     let if1 = c .before .before .if1 in
     let needed-words = c .before .before .before .before .needed-words in
-    let tested = c .before .before in
-    let decode = tested .before .before .before .before .before .before in
-    let F = fitted (decode .before .before .before .before .before .before .before) in
-    (F .links, (F .room, omega (arith, needed-words .ensures, if1 .left)))
+    let a = c .before .before .before .before .before .before .before .before .before .before .before .before .before .before .before .before .before .args in
+    let pre = c .before .before .before .before .before .before .before .before .before .before .before .before .before .before .before .before .before .pre in
+    let a = a in
+    let F = fitting (a .attributes) (state (a .self .registers) (a .memory .now) (a .stack .now)) (pre .1 .1 .1 .1) in
+    (pre .1 .1 .0, (F .links, (pre .1 .1 .1 .0, (F .room, omega (arith, needed-words .ensures, if1 .left)))))
 
 apply-requires : tie.Need-apply-requires
 apply-requires c κs =
-    let tested = c .before .before .before .before .before in
-    fitted (tested .before .before .before .before .before .before .before .before .before .before .before .before .before) .deep
+    let a = c .before .before .before .before .before .before .before .before .before .before .before .before .before .before .before .before .before .before .before .before .args in
+    let pre = c .before .before .before .before .before .before .before .before .before .before .before .before .before .before .before .before .before .before .before .before .pre in
+    let a = a in
+    let F = fitting (a .attributes) (state (a .self .registers) (a .memory .now) (a .stack .now)) (pre .1 .1 .1 .1) in
+    (pre .1 .1 .0, F .deep)
 
 returns-2 : tie.Need-returns-2
 unfolding stepOf perform
@@ -91,8 +84,8 @@ returns-4 c =
     let needed-words = earlier .before .before .needed-words in
     let decoded = earlier .before .before .before .before .decoded in
     let decode = earlier .before .before .before .before .before .before .decode in
-    let a = earlier .before .before .before .before .before .before .before .before .before .before .before .before .before
-    .args in
+    let a = earlier .before .before .before .before .before .before .before .before .before .before .before .before .before .before .before .args in
+    let a = a in
     rw (
       ← decode .ensures,
       decoded .given .1,
@@ -103,22 +96,6 @@ returns-4 c =
 pub step-spec : {M : Type 1} → statement M
 step-spec =
     tie.close
-    (tie.spec
-    (λ c. search needs)
-    (λ c κs. search needs)
-    (λ c. search needs)
-    (λ c κs. search needs)
-    (λ c. search needs)
-    (λ c κs. search needs)
-    (λ c. search needs)
-    (λ c κs. search needs)
-    (λ c κs. search needs)
-    returns
-    cast-execute
-    execute-requires
-    apply-requires
-    returns-2
-    returns-3
-    (λ c. search needs)
-    (λ c. search needs)
-    returns-4)
+    (tie.spec (λ c. search needs) (λ c κs. search needs) (λ c. search needs) (λ c κs. search needs) (λ c. search needs)
+    (λ c κs. search needs) (λ c. search needs) (λ c κs. search needs) (λ c κs. search needs) returns cast-execute
+    execute-requires apply-requires returns-2 returns-3 (λ c. search needs) (λ c. search needs) returns-4)

@@ -2,15 +2,11 @@
 use Prim.Native.Nat.{_*_, _<_}
 use native.Mathlib.Omega.{arith}
 use lib.ListN.{length}
-use borrow.Author.Needs.{needs}
 use borrow.Author.Tests.{eq-eqb, ne-eqb, lt-ltb, le-ltb, not-true, not-false}
-use Rattle.verifier.proofs.check.list_number.Statement.{statement}
+use borrow.Author.Needs.{needs}
 use Rattle.verifier.specs.Check.{listNumber}
+use Rattle.verifier.proofs.check.list_number.Statement.{statement}
 use Rattle.verifier.proofs.check.list_number.Tie as tie
-
-returns : tie.Need-returns
-unfolding listNumber
-returns c = rw (← c .before .record-number .ensures, ne-eqb (c .before .record-number .result) 0 (c .if1 .taken))
 
 abbrev Narrow : (c : tie.Then2) → Type 0
 Narrow c = c .before .before .before .before .before .before .args .room < 4 * length (c .before .code-of .result .now)
@@ -24,17 +20,25 @@ unfolding listNumber
 narrow-is-8 less c =
     let code-of = c .before .code-of in
     let if1 = c .before .before .if1 in
-    let record-number = c .before .before .before .record-number in
+    let single-number = c .before .before .before .single-number in
     let a = c .before .before .before .before .before .before .args in
     rw (
-      ← record-number .ensures,
-      eq-eqb (record-number .result) 0 (if1 .left),
+      ← single-number .ensures (a .results .now),
+      eq-eqb (single-number .result) 0 (if1 .left),
       ← code-of .ensures,
       lt-ltb (a .room) (4 * length (code-of .result .now)) (less c),
     )
 
+returns : tie.Need-returns
+unfolding listNumber
+returns c =
+    let if1 = c .if1 in
+    let single-number = c .before .single-number in
+    let a = c .before .before .before .before .args in
+    rw (← single-number .ensures (a .results .now), ne-eqb (single-number .result) 0 (if1 .taken))
+
 returns-2 : tie.Need-returns-2
-returns-2 = narrow-is-8 narrow
+returns-2 c = narrow-is-8 narrow c
 
 returns-3 : tie.Need-returns-3
 unfolding listNumber
@@ -44,11 +48,11 @@ returns-3 c =
     let if2 = c .before .before .if2 in
     let code-of = c .before .before .before .code-of in
     let if1 = c .before .before .before .before .if1 in
-    let record-number = c .before .before .before .before .before .record-number in
+    let single-number = c .before .before .before .before .before .single-number in
     let a = c .before .before .before .before .before .before .before .before .args in
     rw (
-      ← record-number .ensures,
-      eq-eqb (record-number .result) 0 (if1 .left),
+      ← single-number .ensures (a .results .now),
+      eq-eqb (single-number .result) 0 (if1 .left),
       ← code-of .ensures,
       le-ltb (a .room) (4 * length (code-of .result .now)) (omega (arith, if2 .left)),
       ← results-sound .ensures,
@@ -63,11 +67,11 @@ returns-4 c =
     let if2 = c .before .before .if2 in
     let code-of = c .before .before .before .code-of in
     let if1 = c .before .before .before .before .if1 in
-    let record-number = c .before .before .before .before .before .record-number in
+    let single-number = c .before .before .before .before .before .single-number in
     let a = c .before .before .before .before .before .before .before .before .args in
     rw (
-      ← record-number .ensures,
-      eq-eqb (record-number .result) 0 (if1 .left),
+      ← single-number .ensures (a .results .now),
+      eq-eqb (single-number .result) 0 (if1 .left),
       ← code-of .ensures,
       le-ltb (a .room) (4 * length (code-of .result .now)) (omega (arith, if2 .left)),
       ← results-sound .ensures,

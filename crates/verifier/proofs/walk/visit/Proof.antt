@@ -1,27 +1,36 @@
 -- `walk::visit` meets its contract: the offset is marked done, and its ways out are handed on.
 use native.Mathlib.Omega.{arith}
 use borrow.Author.Needs.{needs}
-use Rattle.verifier.proofs.walk.visit.Statement.{statement}
 use Rattle.verifier.specs.Handing.{visitedTop}
+use Rattle.verifier.proofs.walk.visit.Statement.{statement}
 use Rattle.verifier.proofs.walk.visit.Tie as tie
 
--- The place at which the mark was read.
-abbrev held-at : tie.After-hand-ways-arg → tie.After-held
+-- The place at which the mark was read, and the first one.
+abbrev held-at : tie.After-set-half-arg → tie.After-held
 held-at c =
-    let earlier = c .before .before .before .before .before .before .before .before .before in
-    earlier .before .before .before .before .before .before .before .before .before
+    let earlier = c .before .before .before .before .before .before .before .before in
+    earlier .before .before .before .before .before .before
+
+abbrev start-at : tie.After-set-half-arg → tie.Start
+start-at c = held-at c .before .before .before .before .before .before .before .before .before .before
+
+mul-set-half : tie.Need-mul-set-half
+mul-set-half c = let pre = start-at c .pre in record { fits = omega (arith, pre .1 .0, pre .1 .1) }
+
+add-set-half : tie.Need-add-set-half
+add-set-half c = let pre = start-at c .pre in record { fits = omega (arith, pre .1 .0, pre .1 .1) }
 
 add-hand-ways : tie.Need-add-hand-ways
 add-hand-ways c =
-    let pre = held-at c .before .before .before .before .before .before .before .pre in
+    let pre = start-at (c .before .before .before .before) .pre in
     record { fits = omega (arith, pre .1 .0, pre .1 .1) }
 
 hand-ways-requires : tie.Need-hand-ways-requires
 hand-ways-requires c κs =
-    let held = held-at c .held in
-    let half-at = held-at c .before .half-at in
-    let pre = held-at c .before .before .before .before .before .before .before .pre in
-    (pre .1 .0, (omega (arith, half-at .ok, held .ensures), omega (arith, pre .1 .0, pre .1 .1)))
+    let held = held-at (c .before .before .before .before) in
+    let half-at = held .before .half-at in
+    let pre = start-at (c .before .before .before .before) .pre in
+    (pre .1 .0, (omega (arith, half-at .ok, held .held .ensures), omega (arith, pre .1 .0, pre .1 .1)))
 
 returns : tie.Need-returns
 unfolding visitedTop
@@ -60,8 +69,19 @@ returns-3 c =
     let region-end = first .before .before .before .region-end in
     let held = first .before .before .before .before .held in
     let half-at = first .before .before .before .before .before .half-at in
-    rw
-    (← half-at .ensures, ← held .ensures, ← region-end .ensures, ← decode .ensures, i .given .1, ← shape-of .ensures, ← half-at2 .ensures, ← held2 .ensures, ← half-at3 .ensures, ← ways-of .ensures, ← set-half .ensures)
+    rw (
+      ← half-at .ensures,
+      ← held .ensures,
+      ← region-end .ensures,
+      ← decode .ensures,
+      i .given .1,
+      ← shape-of .ensures,
+      ← half-at2 .ensures,
+      ← held2 .ensures,
+      ← half-at3 .ensures,
+      ← ways-of .ensures,
+      ← set-half .ensures,
+    )
     (hand-ways .ensures)
 
 pub visit-spec : {M : Type 1} → statement M
@@ -70,6 +90,5 @@ visit-spec =
     (tie.spec (λ c. search needs) (λ c. search needs) (λ c κs. search needs) (λ c κs. search needs) (λ c κs. search needs)
     (λ c κs. search needs) (λ c. search needs) (λ c. search needs) (λ c. search needs) (λ c. search needs)
     (λ c κs. search needs) (λ c κs. search needs) (λ c. search needs) (λ c. search needs) (λ c κs. search needs)
-    (λ c κs. search needs) (λ c κs. search needs) (λ c. search needs) (λ c. search needs) (λ c κs. search needs)
-    add-hand-ways hand-ways-requires (λ c. search needs) returns (λ c. search needs) returns-2 (λ c. search needs)
-    returns-3)
+    (λ c κs. search needs) (λ c κs. search needs) mul-set-half add-set-half (λ c κs. search needs) add-hand-ways
+    hand-ways-requires (λ c. search needs) returns (λ c. search needs) returns-2 (λ c. search needs) returns-3)

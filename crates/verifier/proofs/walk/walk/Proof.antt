@@ -2,15 +2,17 @@
 use Prim.Native.Nat.{_-_}
 use lib.ListN.{length}
 use borrow.Author.Needs.{needs}
+use Rattle.entries.specs.Libraries.{librariesIn}
 use Rattle.verifier.proofs.walk.walk.Statement.{statement}
 use Rattle.verifier.proofs.Steps.{Walked, walked-start, walked-spent, walked-over, walked-turn, walked-next}
 use Rattle.verifier.proofs.walk.walk.Tie as tie
 
 abbrev Inv-loop : tie.InvT-loop
-Inv-loop formats code results w₀ from₀ counter₀ end w from counter = Walked code results w₀ w from counter
+Inv-loop formats code results libraries records lists w₀ from₀ counter₀ end w from counter =
+    Walked code (librariesIn libraries records lists) results w₀ w from counter
 
 abbrev μ-loop : tie.MeasureT-loop
-μ-loop formats code results w₀ from₀ counter₀ end w from counter = length code - counter
+μ-loop formats code results libraries records lists w₀ from₀ counter₀ end w from counter = length code - counter
 
 loop-holds : tie.Need-loop-holds Inv-loop μ-loop
 loop-holds c = walked-start
@@ -45,7 +47,7 @@ loop-again c =
     let loop-test = earlier .before .before .loop-test in
     let loop = earlier .before .before .before .loop in
     walked-next (loop .inv) (loop-test .taken) (next-waiting .ensures) (if1 .left) (visit .ensures) (low .given .1)
-    (visit .kept .1 .1 .1 .0)
+    (visit .kept .1 .1 .1 .1 .1 .1 .0)
 
 returns-3 : tie.Need-returns-3 Inv-loop μ-loop
 returns-3 c = walked-spent (c .before .loop .inv) (c .loop-test .left)

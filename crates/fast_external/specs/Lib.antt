@@ -1,0 +1,2 @@
+-- Steps that look at other modules, completed or not.
+pub mod External

@@ -1,0 +1,20 @@
+-- The invariant of a run of accepted code, and that a step keeps it.
+pub mod Shares
+pub mod Sizes
+pub mod Tables
+pub mod LabelWords
+pub mod Invariant
+pub mod Framing
+pub mod ProtectedWords
+pub mod Frames
+pub mod BelowShare
+pub mod Application
+pub mod Movement
+pub mod Jumps
+pub mod Labels
+pub mod Numbers
+pub mod FoundWords
+pub mod Slots
+pub mod Places
+pub mod Callers
+pub mod Advance

@@ -1,0 +1,1 @@
+// The invariant of a run of accepted code: definitions and laws alone.

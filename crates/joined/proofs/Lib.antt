@@ -1,0 +1,3 @@
+-- The joined call.
+pub mod Alone
+pub mod JoinedCall

@@ -1,0 +1,20 @@
+-- What the copy of a module's code has in common with the record's.
+pub mod Reading
+pub mod Renumbering
+pub mod External
+pub mod Shapes
+pub mod Copying
+pub mod Places
+pub mod Regions
+pub mod Starts
+pub mod EntryTable
+pub mod Decoding
+pub mod Recutting
+pub mod Modules
+pub mod Tables
+pub mod Faultless
+pub mod Numbers
+pub mod Parameters
+pub mod Labels
+pub mod Maps
+pub mod EveryRegion

@@ -1,0 +1,2 @@
+-- Which runs are taken.
+pub mod Taking
