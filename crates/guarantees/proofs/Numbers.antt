@@ -63,7 +63,7 @@ Given most n = (n ≡ 0) ⊎ UpTo most n
 
 few : (most n : ℕ) → n ≤ most → Given most n
 few most zero h = inl refl
-few most (suc n) h = inr (inl (omega arith, h))
+few most (suc n) h = let some : 1 ≤ suc n = omega arith in inr (inl (some, h))
 
 given : (most n : ℕ) → (n ≡ 0 → ⊥) → Given most n → UpTo most n
 given most n h (inl e) = absurd (h e)

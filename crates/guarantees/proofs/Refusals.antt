@@ -100,12 +100,14 @@ refused-run S copy budget k T n e =
 pub count-within-budget : CountWithinBudget
 count-within-budget S copy budget k T e h =
     let few : e .steps ≤ 0 + budget = rw (run-end S copy budget k T e h) at (run S copy budget k T .few) in
-    omega arith
+    let most : e .steps ≤ budget = omega arith in
+    most
 
 pub spends-budget : SpendsBudget
 spends-budget S copy budget k T e h spent =
     let all : e .ending ≡ Spent → e .steps ≡ 0 + budget = rw (run-end S copy budget k T e h) at (run S copy budget k T .all) in
-    omega (arith, all spent)
+    let just : e .steps ≡ budget = omega (arith, all spent) in
+    just
 
 pub end-named : (S : Members) (copy : List ℕ) (budget k : ℕ) (T : State) (e : Ending) → setRun S copy budget k T .answer ≡ Ended e
     → e .member ≡ numberAt (modulesOf S) (e .registers .gp)

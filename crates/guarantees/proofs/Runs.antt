@@ -41,14 +41,17 @@ module _ (Ms : Modules) (T : State) where
       rw (z, y) (later e)
   step-ends left n T' c Finished e later =
       let same = stays T' (λ w. let z : _≡_ {A = ℕ} 0 1 = cc in omega arith) in
-      record { steps = n; last = T'; completes = c; ending = finish; stops-by = e; within = omega arith; ends = rw same }
+      let before : n < n + suc left = omega arith in
+      record { steps = n; last = T'; completes = c; ending = finish; stops-by = e; within = before; ends = rw same }
   step-ends left n T' c (Trapped k) e later =
       let same = stays T' (λ w. let z : _≡_ {A = ℕ} 0 1 = cc in omega arith) in
-      record { steps = n; last = T'; completes = c; ending = stop k; stops-by = e; within = omega arith; ends = rw same }
+      let before : n < n + suc left = omega arith in
+      record { steps = n; last = T'; completes = c; ending = stop k; stops-by = e; within = before; ends = rw same }
 
   ends-by-steps : (left n : ℕ) (T' : State) → Completes Ms T n T' → BySteps Ms T (n + left) (runFrom Ms left n T')
   ends-by-steps zero n T' c =
-      record { steps = n; last = T'; completes = c; ending = Spent; stops-by = tt; within = omega arith; ends = refl }
+      let all : n ≡ n + 0 = omega arith in
+      record { steps = n; last = T'; completes = c; ending = Spent; stops-by = tt; within = all; ends = refl }
   ends-by-steps (suc left) n T' c =
       step-ends left n T' c (stepIn Ms T' .outcome) refl (λ w. ends-by-steps left (suc n) (stepIn Ms T' .state) (one-more c w))
 
