@@ -12,13 +12,14 @@ use Rattle.verifier.specs.Check.{checkOf}
 use Rattle.verifier.specs.Exact.{AllBytes}
 use Rattle.run.specs.Run.{setRun}
 use Rattle.safety.specs.Demand3.{AllAccepted}
-use Rattle.icode.specs.Bench.{recordState, recordOutcome, setState, setOutcome, recordTaken, setTaken, placedState, BenchLoaded, benchLoad, benchRun, runReply}
+use Rattle.icode.specs.Bench.{recordState, recordOutcome, setState, setOutcome, recordTaken, setTaken, placedState}
+use Rattle.icode.specs.Bench.{BenchLoaded, benchLoad, benchRun, runReply}
 use Rattle.demands.specs.Fresh.{Fresh, loadLeft, loadedState}
 
 -- The calls speak of a fresh run: the same lists, what the load left, and what the run then answers and leaves. Load and run get the set
 -- M, which may lack the results lists of S; states have so many words, and outcomes so many, in a list that is `taken` by its length.
-pub record InTurn (words places : ℕ) (taken : List ℕ → Bool) (S M : Members) (spaces : ℕ → List ℕ) (parameters copy given m s : List ℕ) (L : BenchLoaded)
-    (F : Fresh) : Type 0 where
+pub record InTurn (words places : ℕ) (taken : List ℕ → Bool) (S M : Members)
+    (spaces : ℕ → List ℕ) (parameters copy given m s : List ℕ) (L : BenchLoaded) (F : Fresh) : Type 0 where
   pub members : F .members ≡ S
   pub workspaces : F .spaces ≡ spaces
   pub parameter-words : F .parameters ≡ parameters

@@ -42,8 +42,13 @@ run-rows-requires c κs =
     let none : setNumber One ≡ 0 = sym (single-number .ensures []) ∙ if1 .left in
     let row = single-row .last .1 .0 in
     let code = code-of .result .now in
-    let same : modulesIn row code ≡ modulesOf One = rw (code-of .ensures) (single-row .ensures .1) in
-    (omega (arith, single-row .kept .1 .0), (omega (arith, tabled-count One none row code same, main-there One none), (tabled-frames One none row code same, tabled-short One none row code same)))
+    let same : modulesIn row code ≡ modulesOf One = rw (code-of .ensures) (single-row .ensures .1) in (
+      omega (arith, single-row .kept .1 .0),
+      (
+        omega (arith, tabled-count One none row code same, main-there One none),
+        (tabled-frames One none row code same, tabled-short One none row code same),
+      ),
+    )
 
 returns-2 : tie.Need-returns-2
 returns-2 c =
@@ -60,7 +65,8 @@ returns-2 c =
     let row = single-row .last .1 .0 in
     let same : modulesIn row (code-of .result .now) ≡ modulesOf One = rw (code-of .ensures) (single-row .ensures .1) in
     with-number One (codeOf (a .r .now)) 0 T (a .budget) (a .q) _ _ _
-    ((rw same at (run-rows .ensures)) ∙ run-decided One (codeOf (a .r .now)) 0 T (a .budget) none (alone-copied (a .r .now) none) (main-there One none))
+    ((rw same at (run-rows .ensures)) ∙ run-decided One (codeOf (a .r .now)) 0 T (a .budget) none
+    (alone-copied (a .r .now) none) (main-there One none))
 
 pub run-by-spec : {M : Type 1} → statement M
 run-by-spec =

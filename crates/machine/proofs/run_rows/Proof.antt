@@ -36,15 +36,21 @@ run-steps-requires c κs =
     let a = c .before .before .before .before .before .before .before .before .before .before .before .args in
     let pre = c .before .before .before .before .before .before .before .before .before .before .before .pre in
     let Ms = modulesIn (a .table .now) (a .copy .now) in
-    let T = state (a .q) (a .memory .now) (a .stack .now) in
-    (pre .0, ready-taken Ms (a .member) T (omega (arith, pre .1 .0, modules-length (a .table .now) (a .copy .now))) (rw (← told (c .before .before .before)) (not-false (state-fits .result) (if1 .left))) (pre .1 .1 .1))
+    let T = state (a .q) (a .memory .now) (a .stack .now) in (
+      pre .0,
+      ready-taken Ms (a .member) T (omega (arith, pre .1 .0, modules-length (a .table .now) (a .copy .now)))
+          (rw (← told (c .before .before .before)) (not-false (state-fits .result) (if1 .left))) (pre .1 .1 .1),
+    )
 
 returns-2 : tie.Need-returns-2
 returns-2 c =
     let run-steps = c .before .before .before .before .run-steps in
     let if1 = c .before .before .before .before .before .before .before .if1 in
     let state-fits = c .before .before .before .before .before .before .before .before .state-fits in
-    rw (← told (c .before .before .before .before .before .before .before .before), not-false (state-fits .result) (if1 .left)) (run-steps .ensures)
+    rw (
+      ← told (c .before .before .before .before .before .before .before .before),
+      not-false (state-fits .result) (if1 .left),
+    ) (run-steps .ensures)
 
 pub run-rows-spec : {M : Type 1} → statement M
 run-rows-spec =

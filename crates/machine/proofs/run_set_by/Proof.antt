@@ -36,8 +36,10 @@ is-copy-requires c κs =
     let set-number = c .before .set-number in
     let a = c .before .before .before .before .before .before .before .args in
     let none : (lists : List ℕ) → setNumber (membersOf (a .records .now) lists (a .directory .now)) ≡ 0 =
-    λ lists. sym (set-number .ensures lists) ∙ if1 .left in
-    (set-few (a .records .now) [] (a .directory .now) (none []), λ lists. set-sound (membersOf (a .records .now) lists (a .directory .now)) (none lists) .records)
+    λ lists. sym (set-number .ensures lists) ∙ if1 .left in (
+      set-few (a .records .now) [] (a .directory .now) (none []),
+      λ lists. set-sound (membersOf (a .records .now) lists (a .directory .now)) (none lists) .records,
+    )
 
 returns-2 : tie.Need-returns-2
 returns-2 c =
@@ -50,7 +52,8 @@ returns-2 c =
     let S = membersOf (a .records .now) lists (a .directory .now) in
     let T = state (a .q) (a .memory .now) (a .stack .now) in
     with-number S (a .copy .now) (a .member) T (a .budget) (a .q) _ _ _
-    (run-uncopied S (a .copy .now) (a .member) T (a .budget) (sym (set-number .ensures lists) ∙ if1 .left) (sym (is-copy .ensures lists) ∙ not-true (is-copy .result) (if2 .taken)))
+    (run-uncopied S (a .copy .now) (a .member) T (a .budget) (sym (set-number .ensures lists) ∙ if1 .left)
+    (sym (is-copy .ensures lists) ∙ not-true (is-copy .result) (if2 .taken)))
 
 returns-3 : tie.Need-returns-3
 returns-3 c =
@@ -66,7 +69,9 @@ returns-3 c =
     let T = state (a .q) (a .memory .now) (a .stack .now) in
     let many = count .ensures (a .records .now) lists in
     with-number S (a .copy .now) (a .member) T (a .budget) (a .q) _ _ _
-    (run-outside S (a .copy .now) (a .member) T (a .budget) (sym (set-number .ensures lists) ∙ if1 .left) (sym (is-copy .ensures lists) ∙ not-false (is-copy .result) (if2 .left)) (omega (arith, modules-length S, many, if3 .taken)))
+    (run-outside S (a .copy .now) (a .member) T (a .budget) (sym (set-number .ensures lists) ∙ if1 .left)
+    (sym (is-copy .ensures lists) ∙ not-false (is-copy .result) (if2 .left))
+    (omega (arith, modules-length S, many, if3 .taken)))
 
 fill-table-requires : tie.Need-fill-table-requires
 fill-table-requires c κs =
@@ -110,7 +115,13 @@ slice-aggregate-run-rows c =
     let a = earlier .before .before .before .before .before .before .before .args in
     let none = sym (set-number .ensures []) ∙ if1 .left in
     let S = membersOf (a .records .now) [] (a .directory .now) in
-    omega (arith, count .ensures (a .records .now) [], rows-few S none, fill-table .kept .1 .1 .0, length-take (5 * count .result) (fill-table .last .1 .1 .0))
+    omega (
+      arith,
+      count .ensures (a .records .now) [],
+      rows-few S none,
+      fill-table .kept .1 .1 .0,
+      length-take (5 * count .result) (fill-table .last .1 .1 .0),
+    )
 
 run-rows-requires : tie.Need-run-rows-requires
 run-rows-requires c κs =
@@ -129,8 +140,13 @@ run-rows-requires c κs =
     let rows = fill-table .last .1 .1 .0 in
     let copied : begins (copyOf S) (a .copy .now) ≡ true = sym (is-copy .ensures []) ∙ not-false (is-copy .result) (if2 .left) in
     let t = take (5 * count .result) rows in
-    let same : modulesIn t (a .copy .now) ≡ modulesOf S = rw many (fill-table .ensures .1 [] (a .copy .now) copied) in
-    (omega (arith, many, rows-few S none, length-take (5 * count .result) rows), (omega (arith, many, modules-length S, tabled-count S none t (a .copy .now) same, if3 .left), (tabled-frames S none t (a .copy .now) same, tabled-short S none t (a .copy .now) same)))
+    let same : modulesIn t (a .copy .now) ≡ modulesOf S = rw many (fill-table .ensures .1 [] (a .copy .now) copied) in (
+      omega (arith, many, rows-few S none, length-take (5 * count .result) rows),
+      (
+        omega (arith, many, modules-length S, tabled-count S none t (a .copy .now) same, if3 .left),
+        (tabled-frames S none t (a .copy .now) same, tabled-short S none t (a .copy .now) same),
+      ),
+    )
 
 returns-4 : tie.Need-returns-4
 returns-4 c =
@@ -151,11 +167,13 @@ returns-4 c =
     let none : setNumber S ≡ 0 = sym (set-number .ensures lists) ∙ if1 .left in
     let many = count .ensures (a .records .now) lists in
     let rows = fill-table .last .1 .1 .0 in
-    let copied : begins (copyOf S) (a .copy .now) ≡ true = sym (is-copy .ensures lists) ∙ not-false (is-copy .result) (if2 .left) in
+    let copied : begins (copyOf S) (a .copy .now) ≡ true =
+    sym (is-copy .ensures lists) ∙ not-false (is-copy .result) (if2 .left) in
     let same : modulesIn (take (5 * count .result) rows) (a .copy .now) ≡ modulesOf S =
     rw many (fill-table .ensures .1 lists (a .copy .now) copied) in
     with-number S (a .copy .now) (a .member) T (a .budget) (a .q) _ _ _
-    ((rw same at (run-rows .ensures)) ∙ run-decided S (a .copy .now) (a .member) T (a .budget) none copied (omega (arith, modules-length S, many, if3 .left)))
+    ((rw same at (run-rows .ensures)) ∙ run-decided S (a .copy .now) (a .member) T (a .budget) none copied
+    (omega (arith, modules-length S, many, if3 .left)))
 
 pub run-set-by-spec : {M : Type 1} → statement M
 run-set-by-spec =
