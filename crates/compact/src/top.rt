@@ -4,7 +4,7 @@ ghost use Rattle.stackmap.specs.Ways.{is_iter, is_switch};
 ghost use Rattle.compact.specs.Tops.{label_height, origin_under, poppable, labelled, lowered, lowered_by};
 
 // `origin` is 1 plus the offset of the topmost label's origin, 0 if there is no label.
-#[derive(Drop)]
+#[derive(Clone, Copy)]
 pub struct Top {
     pub height: u32,
     pub origin: u16,

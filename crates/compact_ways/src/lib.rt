@@ -1,4 +1,5 @@
 // What an instruction gives to its successors.
+#![tactic(auto)]
 ghost use Rattle.std.specs.Prelude.{◌≡◌, ◌<◌};
 ghost use Rattle.entries.specs.Libraries.{libraries_in};
 ghost use Rattle.stackmap.specs.Ways.{parameters_in, results_in};
@@ -9,14 +10,14 @@ use compact::top::Top;
 use shape::{Shape, Table};
 
 // A successor, and the list that it is given.
-#[derive(Drop)]
+#[derive(Clone, Copy)]
 pub struct Way {
     pub place: usize,
     pub height: usize,
     pub origin: u16,
 }
 
-#[derive(Drop)]
+#[derive(Clone, Copy)]
 pub enum Ways {
     // the list is not as the instruction must find it
     Broken,

@@ -1,16 +1,17 @@
 // A cursor: a record and a place in it, kept together. Its functions take it apart and call `words` on the slice and the place.
+#![tactic(auto)]
 ghost use Rattle.std.specs.Prelude.{◌≡◌};
 ghost use Rattle.words.specs.Bytes.{word_at};
 ghost use Rattle.cursor.specs.Cursor.{place_after, pair_at};
 
-#[derive(Drop)]
+#[derive(Clone, Copy)]
 pub struct Cursor<'a> {
     pub record: &'a [u8],
     pub at: usize,
 }
 
 // Two words that stand one after the other.
-#[derive(Drop)]
+#[derive(Clone, Copy)]
 pub struct Pair {
     pub first: u32,
     pub second: u32,

@@ -3,7 +3,7 @@
 use registers::Registers;
 
 // The words that it pushes, the first one lower.
-#[derive(Drop)]
+#[derive(Clone, Copy)]
 pub enum Push {
     NoPush,
     PushOne(u32),
@@ -11,7 +11,7 @@ pub enum Push {
 }
 
 // The words that it writes to memory, from an address on. WritePopped writes the stack words that go.
-#[derive(Drop)]
+#[derive(Clone, Copy)]
 pub enum Write {
     NoWrite,
     WriteOne(u32, u32),
@@ -22,7 +22,7 @@ pub enum Write {
 
 // A trap; the finish; or: so many stack words go, these are pushed, these are written, and the registers are then so (but for the
 // height, which the words give).
-#[derive(Drop)]
+#[derive(Clone, Copy)]
 pub enum Effect {
     Trap(u32),
     Finish,

@@ -1,4 +1,5 @@
 // Completes loads and stores in two words: the codes behind DOUBLE.
+#![tactic(auto)]
 ghost use Rattle.std.specs.Prelude.{◌≡◌, true, ◌+◌, ◌<◌, length};
 ghost use Rattle.words.specs.Bytes.{byte_at};
 ghost use Rattle.registers.specs.Program.{program};

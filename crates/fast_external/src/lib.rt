@@ -1,4 +1,5 @@
 // Completes steps that look at other modules, or writes nothing.
+#![tactic(auto)]
 ghost use Rattle.std.specs.Prelude.{◌≡◌, ◌≤◌, ◌<◌, length};
 ghost use Rattle.words.specs.Bytes.{byte_at};
 ghost use Rattle.opcode.specs.declared.instruction.Instruction.TheVariants.{Load, LoadAddress, Store, CallExternal, Rtn};
@@ -14,7 +15,7 @@ ghost use Rattle.fast_external.specs.External.{Passed};
 use registers::{Attributes, Registers, access, table};
 
 // Whether a step was completed, and the registers after it.
-#[derive(Drop)]
+#[derive(Clone, Copy)]
 pub struct Tried {
     pub done: bool,
     pub registers: Registers,

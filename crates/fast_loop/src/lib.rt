@@ -1,4 +1,5 @@
 // Completes steps one after the other, as many as it can do at once: the fast loop.
+#![tactic(auto)]
 ghost use Rattle.std.specs.Prelude.{◌≡◌, true, ◌+◌, ◌≤◌, ◌<◌, length};
 ghost use Rattle.registers.specs.Modules.{modules_in};
 ghost use Rattle.registers.specs.Program.{program};
@@ -77,7 +78,7 @@ fn data_steps(
 }
 
 // Holds what is left of the budget, and the registers that were reached.
-#[derive(Drop)]
+#[derive(Clone, Copy)]
 pub struct Reached {
     pub left: u32,
     pub registers: Registers,

@@ -1,2 +1,3 @@
 // Completes operations on words.
+#![tactic(auto)]
 pub mod operations;

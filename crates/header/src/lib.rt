@@ -1,9 +1,10 @@
 // The header, and where each part of the record lies.
+#![tactic(auto)]
 ghost use Rattle.std.specs.Prelude.{◌≡◌};
 ghost use Rattle.header.specs.Header.{header_of, sizes_fit, code_at, constants_at, relocation_at, versions_at, sources_at, record_length, code_of};
 
 // The sizes that the seven header words give: code in bytes, the others in words.
-#[derive(Drop)]
+#[derive(Clone, Copy)]
 pub struct Header {
     pub imports: u32,
     pub code: u32,

@@ -13,7 +13,7 @@ use mir.Facts.{to_z-of_z, to_z_pos}
 
 -- A 64-bit number that was stored reads back.
 pub kept : (z : ℤ) → mag z < 0x8000_0000_0000_0000 → to_z w64 (of_z w64 z) ≡ z
-kept z h = to_z-of_z (record { sfits = h })
+kept z h = to_z-of_z {w = w64} {z = z} (record { sfits = h })
 
 abbrev shifted_up : ℕ → ℕ
 shifted_up n = (n + 0x8000_0000) % 0x1_0000_0000

@@ -1,1 +1,2 @@
 // The invariant of a run of accepted code: definitions and laws alone.
+#![tactic(auto)]

@@ -1,4 +1,5 @@
 // Load: the copy of the code, memory with the data frames of the modules, and the registers at the start.
+#![tactic(auto)]
 ghost use Rattle.std.specs.Prelude.{◌≡◌, true, ◌&&◌, List, ℕ, ◌≤◌, leb, length};
 ghost use Rattle.module_set.specs.Members.{members_of};
 ghost use Rattle.relocation.specs.Relocation.{set_number, copy_of, begins};
@@ -13,7 +14,7 @@ use registers::Registers;
 pub mod frames;
 pub mod table;
 
-#[derive(Drop)]
+#[derive(Clone, Copy)]
 pub enum Loaded {
     Refused(u32),
     Ready(Registers),

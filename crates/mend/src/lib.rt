@@ -1,4 +1,5 @@
 // Mends a record whose version word or source table is damaged: a new record without the words that refuse it (5, 6).
+#![tactic(auto)]
 ghost use Rattle.std.specs.Prelude.{◌≡◌, ◌≤◌, length, take, drop};
 ghost use Rattle.std.proofs.lemmas.List.Edits.{sets};
 ghost use Rattle.header.specs.Header.{header_of, sources_at, record_length};
@@ -9,7 +10,7 @@ ghost use Rattle.mend.specs.Mend.{pair_bytes, dropped_words, mended_record, mend
 use header::Header;
 
 // What mending answers: the number that refuses it, or the bytes of the new record and how many words were dropped.
-#[derive(Drop)]
+#[derive(Clone, Copy)]
 pub enum Mending {
     Refused(u32),
     Mended(usize, usize),

@@ -1,4 +1,5 @@
 // What a listing shows of an instruction, as numbers.
+#![tactic(auto)]
 ghost use Rattle.std.specs.Prelude.{◌≡◌, ◌+◌, ◌<◌};
 ghost use Rattle.mnemonic.specs.Mnemonic.{arithmetic_place, order_place, set_place, operation_number, mode_place};
 ghost use Rattle.mnemonic.specs.Mnemonic.{parts, based, parts_of};
@@ -6,7 +7,7 @@ ghost use Rattle.mnemonic.specs.Mnemonic.{parts, based, parts_of};
 use opcode::instruction::{Arithmetic, Base, Instruction, Mode, Operation, Order, SetOperation};
 
 // The number of the mnemonic; the mode, 1 where DOUBLE stands before it; the operand and the second one, 0 where there is none.
-#[derive(Drop)]
+#[derive(Clone, Copy)]
 pub struct Parts {
     pub number: u32,
     pub mode: u32,

@@ -1,14 +1,14 @@
 // The served instructions, grouped so that what differs only in a length or in the place of an operand is one case.
 
 // 5.2.1: the modes that are served.
-#[derive(Drop)]
+#[derive(Clone, Copy)]
 pub enum Mode {
     Normal,
     Double,
 }
 
 // What an address is counted from: FP, GP, the constants, an address that is popped, or the globals of a library.
-#[derive(Drop)]
+#[derive(Clone, Copy)]
 pub enum Base {
     Local,
     Global,
@@ -18,7 +18,7 @@ pub enum Base {
     External(u32),
 }
 
-#[derive(Drop)]
+#[derive(Clone, Copy)]
 pub enum Arithmetic {
     Add,
     Subtract,
@@ -27,7 +27,7 @@ pub enum Arithmetic {
     Modulus,
 }
 
-#[derive(Drop)]
+#[derive(Clone, Copy)]
 pub enum Order {
     Less,
     Greater,
@@ -36,7 +36,7 @@ pub enum Order {
 }
 
 // ADD_S, SUB_S, MUL_S; LEQ_S, GEQ_S, TEST.
-#[derive(Drop)]
+#[derive(Clone, Copy)]
 pub enum SetOperation {
     Union,
     Difference,
@@ -47,7 +47,7 @@ pub enum SetOperation {
 }
 
 // What takes words and gives one word: 5.2.4.7 to 5.2.4.9.
-#[derive(Drop)]
+#[derive(Clone, Copy)]
 pub enum Operation {
     Signed(Arithmetic),
     Unsigned(Arithmetic),
@@ -61,7 +61,7 @@ pub enum Operation {
 }
 
 // Operands are words: a signed one is the word that holds it.
-#[derive(Drop)]
+#[derive(Clone, Copy)]
 pub enum Instruction {
     LoadConstant(u32),
     Load(Base, Mode, u32),

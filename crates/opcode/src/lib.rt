@@ -1,4 +1,5 @@
 // Instruction decoding: what stands at a place of the code, within a limit.
+#![tactic(auto)]
 ghost use Rattle.std.specs.Prelude.{◌≡◌, ◌<◌};
 ghost use Rattle.opcode.specs.Sheet.{Sheet};
 ghost use Rattle.opcode.specs.Decode.{decoded_number, decode_in, decode_at};
@@ -11,7 +12,7 @@ pub mod instruction;
 pub mod length;
 
 // An unserved instruction; one that runs past the limit; or the instruction and the place after it.
-#[derive(Drop)]
+#[derive(Clone, Copy)]
 pub enum Decoded {
     Unserved,
     Past,

@@ -1,4 +1,5 @@
 // Prints the sheet of the 256 codes, from the table that lengths are read from: code, mnemonic, length in bytes, marks.
+#![tactic(auto)]
 ghost use Rattle.opcode.specs.Sheet.{Sheet};
 
 use libc::STDOUT_FILENO;

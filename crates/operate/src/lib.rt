@@ -1,4 +1,5 @@
 // The operations on words: a word, or the trap that stands in its place.
+#![tactic(auto)]
 ghost use Rattle.std.specs.Prelude.{◌≡◌};
 ghost use Rattle.operate.specs.Value.{signed_word, truth_of};
 
@@ -7,7 +8,7 @@ pub mod compare;
 pub mod operation;
 pub mod sets;
 
-#[derive(Drop)]
+#[derive(Clone, Copy)]
 pub enum Value {
     Word(u32),
     Trap(u32),

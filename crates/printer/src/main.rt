@@ -1,4 +1,5 @@
 // The page printer: a run file on standard input, its page on standard output.
+#![tactic(auto)]
 ghost use Rattle.std.specs.Prelude.{◌≡◌, ◌≤◌, length};
 ghost use Rattle.report.specs.Report.{output, printed, text_of};
 ghost use Rattle.printer.specs.Input.{Within};
@@ -6,7 +7,7 @@ ghost use Rattle.printer.specs.Input.{Within};
 use libc::{STDIN_FILENO, STDOUT_FILENO};
 
 // Tells what reading gave: so many bytes at the start of the buffer, or that a read failed.
-#[derive(Drop)]
+#[derive(Clone, Copy)]
 enum Input {
     Read(usize),
     Failed,

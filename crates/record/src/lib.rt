@@ -1,4 +1,5 @@
 // The record of 5.1: which number refuses it, and which source line an offset belongs to.
+#![tactic(auto)]
 ghost use Rattle.std.specs.Prelude.{◌≡◌};
 ghost use Rattle.record.specs.Number.{size_number, record_number, reading_of, reading_number, line_span, line_number};
 
@@ -6,14 +7,14 @@ use header::Header;
 use source::Lookup;
 
 // What reading a record answers: the number that refuses it, or its header.
-#[derive(Drop)]
+#[derive(Clone, Copy)]
 pub enum Reading {
     Refused(u32),
     Sound(Header),
 }
 
 // What the line lookup answers: the number that refuses the record, or the lookup.
-#[derive(Drop)]
+#[derive(Clone, Copy)]
 pub enum Line {
     Refused(u32),
     At(Lookup),

@@ -1,5 +1,6 @@
 // Reads cases on standard input and prints, a line each, the number that refuses the record and the span and line of the offset. A case is
 // the record's length in two bytes, the record, and an offset in four.
+#![tactic(auto)]
 use libc::STDOUT_FILENO;
 use record::Line;
 use source::Lookup;

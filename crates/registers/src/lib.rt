@@ -1,4 +1,5 @@
 // The registers, by value.
+#![tactic(auto)]
 ghost use Rattle.std.specs.Prelude.{◌≡◌, ◌≤◌, ◌<◌, ◌+◌};
 ghost use Rattle.registers.specs.Memory.{link_words};
 ghost use Rattle.registers.specs.Changes.{moved, sized, raised, called, returned};
@@ -6,7 +7,7 @@ ghost use Rattle.registers.specs.Changes.{moved, sized, raised, called, returned
 pub mod access;
 pub mod table;
 
-#[derive(Drop)]
+#[derive(Clone, Copy)]
 pub struct Registers {
     pub pc: u32,
     pub fp: u32,
@@ -18,7 +19,7 @@ pub struct Registers {
 
 // What a run knows of the running module besides its code: where its globals and its constants begin, where the frames of calls
 // begin, and whether unsigned results wrap.
-#[derive(Drop)]
+#[derive(Clone, Copy)]
 pub struct Attributes {
     pub globals: u32,
     pub constants: u32,

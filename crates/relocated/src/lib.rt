@@ -1,1 +1,2 @@
 // What the copy of a code has in common with the record's: laws only.
+#![tactic(auto)]

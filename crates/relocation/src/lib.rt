@@ -1,4 +1,5 @@
 // Relocation: the number 18, the number of a set of modules, and the copy of their code.
+#![tactic(auto)]
 
 pub mod copy;
 mod marks;

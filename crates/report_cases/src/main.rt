@@ -1,4 +1,5 @@
 // Reads run files on standard input, each behind its length in two bytes, and prints their pages one after the other.
+#![tactic(auto)]
 use libc::STDOUT_FILENO;
 
 fn print_page(f: &[u8]) {

@@ -1,11 +1,12 @@
 // How runs end, and what they answer.
+#![tactic(auto)]
 ghost use Rattle.std.specs.Prelude.{◌≡◌};
 ghost use Rattle.run.specs.Run.{end_number};
 
 use registers::Registers;
 
 // How a run ended.
-#[derive(Drop)]
+#[derive(Clone, Copy)]
 pub enum End {
     Finished,
     Spent,
@@ -13,7 +14,7 @@ pub enum End {
 }
 
 // The end, the completed steps, and the registers then: the place is PC in this member of the set.
-#[derive(Drop)]
+#[derive(Clone, Copy)]
 pub struct Ended {
     pub ending: End,
     pub steps: u32,
@@ -21,7 +22,7 @@ pub struct Ended {
     pub registers: Registers,
 }
 
-#[derive(Drop)]
+#[derive(Clone, Copy)]
 pub enum Answer {
     Refused(u32),
     Ended(Ended),

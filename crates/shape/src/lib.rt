@@ -1,4 +1,5 @@
 // What an instruction finds on the stack, and its shape for the check.
+#![tactic(auto)]
 ghost use Rattle.std.specs.Prelude.{◌≡◌};
 ghost use Rattle.shape.specs.Counts.{popped, words_in, operands};
 ghost use Rattle.shape.specs.Shape.{shape_of, finds, needed};
@@ -6,14 +7,14 @@ ghost use Rattle.shape.specs.Shape.{shape_of, finds, needed};
 use opcode::instruction::{Base, Instruction, Mode, Operation};
 
 // Whose table stands behind a switch: SWITCH has branches, SWITCH_X has ranges.
-#[derive(Drop)]
+#[derive(Clone, Copy)]
 pub enum Table {
     Branches,
     Ranges,
 }
 
 // How an instruction deals with the stack and where it goes.
-#[derive(Drop)]
+#[derive(Clone, Copy)]
 pub enum Shape {
     // pops so many words, pushes so many, goes on
     Straight(u32, u32),

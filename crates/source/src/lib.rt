@@ -1,4 +1,5 @@
 // The source table: pairs of an offset and a line; the span of a line.
+#![tactic(auto)]
 ghost use Rattle.std.specs.Prelude.{◌≡◌};
 ghost use Rattle.source.specs.Source.{source_offsets, source_sound, covering, pair_of};
 ghost use Rattle.source.specs.Span.{end_of, lookup_at};
@@ -7,7 +8,7 @@ use cursor::Pair;
 use header::Header;
 
 // The offsets that belong to a source line: from `first` to `last`.
-#[derive(Drop)]
+#[derive(Clone, Copy)]
 pub struct Span {
     pub first: u32,
     pub last: u32,
@@ -15,7 +16,7 @@ pub struct Span {
 }
 
 // What the line lookup answers for an offset.
-#[derive(Drop)]
+#[derive(Clone, Copy)]
 pub enum Lookup {
     Found(Span),
     Outside,

@@ -1,4 +1,5 @@
 // A step: decode, find the stack words, work out the effect, and carry it out.
+#![tactic(auto)]
 ghost use Rattle.std.specs.Prelude.{◌≡◌, true, ◌≤◌, ◌<◌, ◌-◌, length, take, drop};
 ghost use Rattle.std.proofs.lemmas.List.Edits.{sets};
 ghost use Rattle.opcode.specs.Sheet.{Sheet};
@@ -123,13 +124,13 @@ fn code_size(table: &[u32], copy: &[u8], code: &[u8], attributes: Attributes, gp
 }
 
 // The machine: its registers. A step is a method here, since a method stands in the crate of its type.
-#[derive(Drop)]
+#[derive(Clone, Copy)]
 pub struct Machine {
     pub registers: Registers,
 }
 
 // How a step ended.
-#[derive(Drop)]
+#[derive(Clone, Copy)]
 pub enum Outcome {
     Went,
     Finished,
@@ -137,7 +138,7 @@ pub enum Outcome {
 }
 
 // A step's outcome, and the machine after it.
-#[derive(Drop)]
+#[derive(Clone, Copy)]
 pub struct Stepped {
     pub outcome: Outcome,
     pub machine: Machine,

@@ -9,7 +9,7 @@ use layout::marks;
 use shape::Table;
 
 // It broke; or nothing waits below an offset.
-#[derive(Drop)]
+#[derive(Clone, Copy)]
 pub enum Handed {
     Stuck,
     From(usize),

@@ -1,4 +1,5 @@
 // The check of a record, or of one module of a set, before it runs.
+#![tactic(auto)]
 
 pub mod check;
 pub mod codes;
