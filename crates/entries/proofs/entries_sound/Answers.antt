@@ -14,6 +14,45 @@ use Rattle.words.proofs.Left.{one_left}
 use Rattle.entries.proofs.entries_sound.Goals.{At-loop-p}
 use Rattle.entries.proofs.entries_sound.Goals as goal
 
+pub returns-then-not-count_sound : goal.returns-then-not-count_sound
+unfolding entries_sound
+returns-then-not-count_sound c = rw (← c.count_sound.ensures, c.if-not-count_sound.true)
+
+pub loop-p-init : goal.loop-p-init
+loop-p-init c = refl
+
+-- At the loop's head what is left decides.
+left-decides : (c : At-loop-p) →
+    let code = c.args.code.now in
+    entries_sound code
+    ≡ rising_from (length code) c.loop-p.least
+    (entries_from code c.loop-p.p (c.entry_count-count.result - c.loop-p.p) ++ (entry_at code 0 ∷ []))
+unfolding entries_sound entries_in_order
+left-decides c =
+    rw (
+      ← c.count_sound.ensures,
+      c.if-not-count_sound.false,
+      ← c.entry_count-count.ensures,
+    )
+    c.loop-p.invariant
+
+pub returns-then-entry-least : goal.returns-then-entry-least
+returns-then-entry-least c = rw (
+  left-decides (goal.at.returns-then-entry-least c).At-loop-p,
+  one_left _ _ c.loop-p-test.true,
+  ← c.entry_at-entry.ensures,
+  lt-leb _ _ c.if-entry-least.true,
+)
+
+pub returns-then-code-entry : goal.returns-then-code-entry
+returns-then-code-entry c = rw (
+  left-decides (goal.at.returns-then-code-entry c).At-loop-p,
+  one_left _ _ c.loop-p-test.true,
+  ← c.entry_at-entry.ensures,
+  le-leb _ _ c.if-entry-least.false,
+  le-ltb _ _ c.if-code-entry.true,
+)
+
 pub loop-p-preserved : goal.loop-p-preserved
 loop-p-preserved c = c.loop-p.invariant
     ∙ rw (
@@ -23,3 +62,19 @@ loop-p-preserved c = c.loop-p.invariant
       lt-ltb _ _ c.if-code-entry.false,
     )
 
+pub returns-then-last-least : goal.returns-then-last-least
+returns-then-last-least c = rw (
+  left-decides (goal.at.returns-then-last-least c).At-loop-p,
+  sub-eq-zero_of_le c.loop-p-test.false,
+  ← c.entry_at-last.ensures,
+  lt-leb _ _ c.if-last-least.true,
+)
+
+pub returns : goal.returns
+returns c = rw (
+  left-decides (goal.at.returns c).At-loop-p,
+  sub-eq-zero_of_le c.loop-p-test.false,
+  ← c.entry_at-last.ensures,
+  le-leb _ _ c.if-last-least.false,
+  and-true,
+)

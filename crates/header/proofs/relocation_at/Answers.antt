@@ -1,0 +1,13 @@
+-- `header::relocation_at` meets its contract: sizes of 32 bits make a place that fits.
+use native.Mathlib.Omega.{arith}
+use borrow.Author.Rules.{rules}
+use Rattle.header.specs.Header.{code_at, constants_at, relocation_at}
+use Rattle.header.proofs.relocation_at.Goals as goal
+
+pub overflow_add-result : goal.overflow_add-result
+unfolding code_at constants_at
+overflow_add-result c = omega arith
+
+pub returns : goal.returns
+unfolding relocation_at
+returns c = omega arith
