@@ -5,9 +5,10 @@ use mathlib.Core.Path.{◌≡◌, subst}
 use Prim.Native.Nat.{ℕ}
 use Rattle.stackmap.specs.Slots.{Slot}
 use Rattle.stackmap.specs.Ways.{Subject, Way}
-use Rattle.stackmap.specs.StackMap.{Map, GivesEach, gives_one, IsMap, Among, here, there, Reached, entered, stepped}
+use Rattle.stackmap.specs.StackMap.{Map, GivesEach, gives_none, gives_one, IsMap, Among, here, there, Reached, entered, stepped}
 
 gives-among : {π : Map} {t : ℕ} {l : List Slot} {ws : List Way} → GivesEach π ws → Among t l ws → π t ≡ some l
+gives-among gives_none a = elim a [ ]
 gives-among (gives_one e g) here = e
 gives-among (gives_one e g) (there a) = gives-among g a
 
