@@ -2,7 +2,7 @@
 -- a test of every place is one of every offset that asks nothing where no place is.
 use mathlib.Core.Bool.{Bool, true, false, cond, not, ◌&&◌, ◌||◌, false≢true}
 use mathlib.Core.List.{List}
-use mathlib.Core.Path.{◌≡◌, ◌∙◌, refl, sym}
+use mathlib.Core.Path.{◌≡◌, ◌∙◌, refl, subst, sym}
 use Prim.Native.Nat.{ℕ, zero, suc, ◌+◌, ◌<◌, ◌≤◌}
 use native.Mathlib.Omega.{arith}
 use lib.Dec.{eqb}
@@ -41,7 +41,9 @@ offset-has at (suc n) x a b = by (eqb at x) refl (λ (q : at + 1 ≤ x). offset-
 
 offset-below : (at n : ℕ) → Below (at + n) (series (λ (i : ℕ). i) 1 at n)
 offset-below at zero = tt
-offset-below at (suc n) = let z : at + suc n ≡ at + 1 + n = omega arith in (omega arith, rw z (offset-below (at + 1) n))
+offset-below at (suc n) =
+    let z : at + 1 + n ≡ at + suc n = omega arith in
+    (omega arith, subst (λ m. Below m (series (λ (i : ℕ). i) 1 (at + 1) n)) z (offset-below (at + 1) n))
 
 pub implied : (a b : Bool) → (not a || b) ≡ true → a ≡ true → b ≡ true
 implied true b h q = h
