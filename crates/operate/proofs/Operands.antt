@@ -14,7 +14,7 @@ use Rattle.operate.specs.Value.{signed_word}
 use Rattle.operate.proofs.Sizes.{result_fits}
 
 pub stays : {z : ℤ} → SFits w32 z → to_z w64 (of_z w64 z) ≡ z
-stays f = to_z-of_z (sfits_widen tt f)
+stays {z = z} f = to_z-of_z {w = w64} {z = z} (sfits_widen {w = w32} {w' = w64} {z = z} (tt {0}) f)
 
 nonzero : (z : ℤ) → SFits w32 z → (of_z w32 z ≡ 0 → ⊥) → 0 < of_z w64 z
 nonzero (pos n) f h = omega arith

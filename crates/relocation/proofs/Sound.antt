@@ -2,7 +2,7 @@
 -- a test of every place is one of every offset that asks nothing where no place is.
 use mathlib.Core.Bool.{Bool, true, false, cond, not, ◌&&◌, ◌||◌, false≢true}
 use mathlib.Core.List.{List}
-use mathlib.Core.Path.{◌≡◌, ◌∙◌, refl, subst, sym}
+use mathlib.Core.Path.{◌≡◌, ◌∙◌, refl, sym, subst}
 use Prim.Native.Nat.{ℕ, zero, suc, ◌+◌, ◌<◌, ◌≤◌}
 use native.Mathlib.Omega.{arith}
 use lib.Dec.{eqb}
@@ -43,7 +43,7 @@ offset-below : (at n : ℕ) → Below (at + n) (series (λ (i : ℕ). i) 1 at n)
 offset-below at zero = tt
 offset-below at (suc n) =
     let z : at + 1 + n ≡ at + suc n = omega arith in
-    (omega arith, subst (λ m. Below m (series (λ (i : ℕ). i) 1 (at + 1) n)) z (offset-below (at + 1) n))
+    (omega arith, subst (λ (w : ℕ). Below w (series (λ (i : ℕ). i) 1 (at + 1) n)) z (offset-below (at + 1) n))
 
 pub implied : (a b : Bool) → (not a || b) ≡ true → a ≡ true → b ≡ true
 implied true b h q = h
