@@ -6,6 +6,7 @@ use lib.ListN.{length}
 use lib.Seq.{length-sets}
 use Rattle.effect.specs.declared.effect.Write.{Write}
 use Rattle.effect.specs.declared.effect.Write.TheVariants.{NoWrite, WriteOne, WriteTwo, WriteThree, WritePopped}
+use Rattle.execute.specs.Execute.{top_words}
 use Rattle.registers.specs.Program.{Program}
 use Rattle.registers.specs.State.{State}
 use Rattle.step.specs.Step.{pushed, written, step_of}
@@ -22,7 +23,8 @@ module _ (P : Program) (S : State) where
   pub memory_kept : length (step_of P S).state.memory ≡ length S.memory
   memory_kept =
       step-leaves P S (λ a. length a.state.memory ≡ length S.memory) (λ e. Unit {0}) (λ o n. refl)
-      (λ pops push write q e room. written-length S.memory _ write) (λ i next d. tt)
+      (λ pops push write q e room. written-length S.memory (top_words pops S.registers.height S.stack) write)
+      (λ i next d. tt)
 
   pub stack-kept : length (step_of P S).state.stack ≡ length S.stack
   stack-kept =

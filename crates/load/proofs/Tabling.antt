@@ -2,7 +2,7 @@
 -- says, for the copy begins with the codes in turn.
 use mathlib.Core.Bool.{Bool, true, false, cond, and-eq-true_iff}
 use mathlib.Core.List.{List, [], ◌∷◌, ◌++◌, append_assoc}
-use mathlib.Core.Path.{◌≡◌, ◌∙◌, refl, sym}
+use mathlib.Core.Path.{◌≡◌, ◌∙◌, refl, sym, subst}
 use Prim.Native.Nat.{ℕ, suc, ◌+◌, ◌-◌, ◌*◌, ◌/◌, ◌<◌, ◌≤◌}
 use native.Mathlib.Numerals.{add-one}
 use native.Mathlib.Omega.{arith}
@@ -63,11 +63,10 @@ rows_back S (M ∷ T) pre copy at k l b =
     let rest : begins (copies_from S T) (drop (at + size) copy) ≡ true =
     rw (drop-drop (length own) at copy, relocated-length S r) at both.1 in
     let long : length (pre ++ row_of r at) ≡ 5 * (k + 1) = omega (arith, length-append pre (row_of r at)) in
-    rw (
-      row_back pre more copy r own at k l code,
-      ← append_assoc pre (row_of r at) more,
-      rows_back S T (pre ++ row_of r at) copy (at + size) (k + 1) long rest,
-    )
+    let behind : rows_from (pre ++ (row_of r at ++ more)) copy (k + 1) (length T) ≡ modules_from S T =
+    subst (λ (w : List ℕ). rows_from w copy (k + 1) (length T) ≡ modules_from S T) (append_assoc pre (row_of r at) more)
+    (rows_back S T (pre ++ row_of r at) copy (at + size) (k + 1) long rest) in
+    rw (row_back pre more copy r own at k l code, behind)
 
 pub table-back : (S : Members) (copy : List ℕ) → begins (copy_of S) copy ≡ true → modules_in (rows_over S 0) copy ≡ modules_of S
 unfolding modules_in modules_of copy_of

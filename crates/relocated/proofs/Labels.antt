@@ -33,6 +33,7 @@ pub data Given (P : ℕ → Type 0) : List Way → Type 0 where
 
 module _ (P : ℕ → Type 0) where
   pub given-among : {t : ℕ} {l : List Slot} {ws : List Way} → Given P ws → Among t l ws → Labels P l
+  given-among given-none a = elim a [ ]
   given-among (given-one L G) here = L
   given-among (given-one L G) (there a) = given-among G a
 
