@@ -1,0 +1,51 @@
+-- `marks::cut_region` meets its contract: each turn marks one instruction, and what is left decides. The measure is the turns left.
+use Prim.Native.Nat.{◌-◌}
+use mathlib.Core.Path.{◌∙◌, sym}
+use native.Mathlib.Omega.{arith}
+use lib.ListN.{length}
+use borrow.Author.Rules.{rules}
+use Rattle.entries.proofs.Bounds.{region-below}
+use Rattle.layout.proofs.Turns.{Region, region-start, region-spent, region-over, region-turn, region-next}
+use Rattle.layout.proofs.marks.cut_region.Goals as goal
+
+pub loop-init : goal.loop-init
+loop-init c =
+    let a = c.args in
+    let e = c.entry_at-at in
+    region-start a.code.now a.p a.w.now e.result e.ensures (omega (arith, e.type_inv))
+
+pub returns-then-limit-at : goal.returns-then-limit-at
+returns-then-limit-at c =
+    let a = c.args in
+    let l = c.loop in
+    let e = c.region_end-limit in
+    region-over a.code.now a.p a.w.now l.w l.at l.counter l.invariant
+    e.result e.ensures c.loop-test.true c.if-limit-at.true
+
+pub returns-in-Unserved : goal.returns-in-Unserved
+returns-in-Unserved c =
+    let a = c.args in
+    let l = c.loop in
+    let e = c.region_end-limit in
+    rw (c.decoded_number.ensures, c.in-Unserved.is)
+    (region-turn a.code.now a.p a.w.now l.w l.at l.counter l.invariant
+    e.result e.ensures c.loop-test.true _
+    c.if-limit-at.false
+    (sym c.decode-decoded.ensures ∙ c.in-Unserved.is))
+
+pub returns-in-Past : goal.returns-in-Past
+returns-in-Past c =
+    let a = c.args in
+    let l = c.loop in
+    let e = c.region_end-limit in
+    rw (c.decoded_number-in-Past.ensures, c.in-Past.is)
+    (region-turn a.code.now a.p a.w.now l.w l.at l.counter l.invariant
+    e.result e.ensures c.loop-test.true _
+    c.if-limit-at.false
+    (sym c.decode-decoded.ensures ∙ c.in-Past.is))
+
+pub returns : goal.returns
+returns c =
+    let a = c.args in
+    let l = c.loop in
+    region-spent a.code.now a.p a.w.now l.w l.at l.counter l.invariant c.loop-test.false

@@ -1,0 +1,15 @@
+-- `operate::compare::unsigned_test` meets its contract: the order of an arm, on x and y or on y and x.
+use borrow.Author.Rules.{rules}
+use Rattle.operate.proofs.compare.unsigned_test.Goals as goal
+
+pub returns-in-Less : goal.returns-in-Less
+returns-in-Less c = rw c.in-Less.is
+
+pub returns-in-Greater : goal.returns-in-Greater
+returns-in-Greater c = rw c.in-Greater.is
+
+pub returns-in-LessEqual : goal.returns-in-LessEqual
+returns-in-LessEqual c = rw c.in-LessEqual.is
+
+pub returns-in-GreaterEqual : goal.returns-in-GreaterEqual
+returns-in-GreaterEqual c = rw c.in-GreaterEqual.is
