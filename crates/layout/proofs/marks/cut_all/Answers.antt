@@ -12,6 +12,19 @@ loop-p-init c =
     let a = c.args in
     regions-start a.code.now a.w.now
 
+pub cut_region-number-requires : goal.cut_region-number-requires
+cut_region-number-requires c =
+    let loop-test = c.loop-p-test in
+    let entry-count = c.entry_count-count in
+    let a = c.args in
+    let pre = c.requires in
+    let below = count-below a.code.now (λ k. omega (arith, c.type_inv.code k)) in
+    record {
+      sheet = pre.sheet;
+      code_len_bound = pre.code_len_bound;
+      p_bound = omega (arith, entry-count.ensures, loop-test.true);
+    }
+
 pub returns-then-number-ne0 : goal.returns-then-number-ne0
 returns-then-number-ne0 c =
     let if1 = c.if-number-ne0 in
@@ -25,6 +38,20 @@ returns-then-number-ne0 c =
     let r = cut-region in
     regions-bad a.code.now a.w.now l.w l.p l.invariant (rw entry-count.ensures at loop-test.true)
     r.result _ r.ensures if1.true
+
+pub loop-p-preserved : goal.loop-p-preserved
+loop-p-preserved c =
+    let if1 = c.if-number-ne0 in
+    let cut-region = c.cut_region-number in
+    let loop-test = c.loop-p-test in
+    let loop = c.loop-p in
+    let entry-count = c.entry_count-count in
+    let args = c.args in
+    let a = args in
+    let l = loop in
+    let r = cut-region in
+    regions-next a.code.now a.w.now l.w l.p l.invariant (rw entry-count.ensures at loop-test.true)
+    r.result _ r.ensures if1.false r.auto.w
 
 pub returns : goal.returns
 returns c =

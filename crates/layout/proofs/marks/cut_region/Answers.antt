@@ -44,6 +44,23 @@ returns-in-Past c =
     c.if-limit-at.false
     (sym c.decode-decoded.ensures ∙ c.in-Past.is))
 
+pub loop-preserved : goal.loop-preserved
+loop-preserved c =
+    let set-half = c.set_half in
+    let decode = c.decode-decoded in
+    let if1 = c.if-limit-at in
+    let loop-test = c.loop-test in
+    let loop = c.loop in
+    let region-end = c.region_end-limit in
+    let args = c.args in
+    let pre = c.requires in
+    let a = args in
+    let l = loop in
+    let e = region-end in
+    region-next a.code.now a.p a.w.now l.w l.at l.counter l.invariant e.result e.ensures
+    loop-test.true _ _ _ if1.false (sym decode.ensures ∙ c.in-At.is)
+    (rw e.ensures (region-below a.code.now (λ k. omega (arith, c.type_inv.code k)) a.p pre.code_len_bound)) set-half.ensures
+
 pub returns : goal.returns
 returns c =
     let a = c.args in

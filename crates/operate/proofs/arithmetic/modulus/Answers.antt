@@ -36,9 +36,34 @@ nonzero_rem-rest c = (
       c.ranges.y c.signed-divisor.ensures,
 )
 
+pub returns-then-rest-eq0 : goal.returns-then-rest-eq0
+returns-then-rest-eq0 c = let d : After-signed = (goal.at.returns-then-rest-eq0 c).After-signed in
+    c.signed_word.ensures ∙ divided d _ (rest-zero (first d) (second d) c.if-rest-eq0.true)
+
+pub returns-then-divisor-lt0 : goal.returns-then-divisor-lt0
+returns-then-divisor-lt0 c = let d : After-signed = (goal.at.returns-then-divisor-lt0 c).After-signed in
+    c.signed_word-then-divisor-lt0.ensures ∙ divided d _
+    (rest-same (first d) (second d) (c.if-rest-lt0.true ∙ sym c.if-divisor-lt0.true))
+
 pub overflow_add-rest : goal.overflow_add-rest
 overflow_add-rest c = sum_fits (first (goal.at.overflow_add-rest c).After-signed) (second (goal.at.overflow_add-rest c).After-signed)
+
+pub returns-then-rest-lt0 : goal.returns-then-rest-lt0
+returns-then-rest-lt0 c = let d : After-signed = (goal.at.returns-then-rest-lt0 c).After-signed in
+    c.signed_word-then-rest-lt0.ensures ∙ divided d _
+    (rest-other (first d) (second d) c.if-rest-eq0.false
+    (c.if-rest-lt0.true ∙ sym (ap not c.if-divisor-lt0.false)))
 
 pub overflow_add-rest-then-divisor-lt0-2 : goal.overflow_add-rest-then-divisor-lt0-2
 overflow_add-rest-then-divisor-lt0-2 c = sum_fits (first (goal.at.overflow_add-rest-then-divisor-lt0-2 c).After-signed) (second (goal.at.overflow_add-rest-then-divisor-lt0-2 c).After-signed)
 
+pub returns-then-divisor-lt0-2 : goal.returns-then-divisor-lt0-2
+returns-then-divisor-lt0-2 c = let d : After-signed = (goal.at.returns-then-divisor-lt0-2 c).After-signed in
+    c.signed_word-then-divisor-lt0-2.ensures ∙ divided d _
+    (rest-other (first d) (second d) c.if-rest-eq0.false
+    (c.if-rest-lt0.false ∙ sym (ap not c.if-divisor-lt0-2.true)))
+
+pub returns : goal.returns
+returns c = let d : After-signed = (goal.at.returns c).After-signed in
+    c.signed_word-2.ensures ∙ divided d _
+    (rest-same (first d) (second d) (c.if-rest-lt0.false ∙ sym c.if-divisor-lt0-2.false))
