@@ -31,6 +31,14 @@ returns-then-frame-a-2 c =
     (walked_near a.m.now a.start a.fp a.calls a.a loop.frame loop.counter loop.invariant loop-test.true
     if1.false (omega (arith, link-words.ensures, if2.true, if1.false)))
 
+pub overflow_sub-frame-in-loop : goal.overflow_sub-frame-in-loop
+overflow_sub-frame-in-loop c =
+    let if2 = c.if-frame-a-2 in
+    let link-words = c.link_words in
+    let frame = c.loop.frame in
+    let m = c.args.m.now in
+    omega (arith, link-words.ensures, if2.false, link-range m frame)
+
 pub loop-preserved : goal.loop-preserved
 loop-preserved c =
     let word_at = c.word_at-frame in

@@ -41,3 +41,19 @@ overflow_cast-result-3 c =
     let a = c.args in
     let pre = c.requires in
     omega (arith, c.data_start-frames.ensures.0 [], rows_end a.table.now [], pre.by_index [])
+
+pub returns : goal.returns
+returns c copy =
+    let row-word2 = c.row_word-2 in
+    let data-start2 = c.data_start-frames in
+    let row_word = c.row_word in
+    let data-start = c.data_start-globals in
+    let a = c.args in
+    let pre = c.requires in
+    rw (
+      data-start.ensures.0 copy,
+      row_word.ensures.0,
+      data-start2.ensures.0 copy ∙ rows_end a.table.now copy,
+      row-word2.ensures.0,
+      module-row a.table.now copy a.k pre.k_in_bounds,
+    )

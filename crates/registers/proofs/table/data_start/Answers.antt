@@ -17,6 +17,26 @@ overflow_add-start c =
     let inv = c.loop-i.invariant in
     omega (arith, inv.count, inv.small, pre.k_bound, c.loop-i-test.true)
 
+pub overflow_add-start-in-loop-i : goal.overflow_add-start-in-loop-i
+overflow_add-start-in-loop-i c =
+    let pre = c.requires in
+    let inv = c.loop-i.invariant in
+    omega (arith, inv.count, inv.small, pre.k_bound, c.loop-i-test.true, c.row_word.ensures.1)
+
+pub overflow_add-start-in-loop-i-2 : goal.overflow_add-start-in-loop-i-2
+overflow_add-start-in-loop-i-2 c =
+    let pre = c.requires in
+    let inv = c.loop-i.invariant in
+    omega (
+      arith,
+      inv.count,
+      inv.small,
+      pre.k_bound,
+      c.loop-i-test.true,
+      c.row_word.ensures.1,
+      c.row_word-in-loop-i.ensures.1,
+    )
+
 pub loop-i-preserved : goal.loop-i-preserved
 loop-i-preserved c =
     let row-word2 = c.row_word-in-loop-i in

@@ -15,6 +15,17 @@ overflow_add-globals c =
     let inv = c.loop-k.invariant in
     omega (arith, inv.count, inv.small, c.requires, c.loop-k-test.true)
 
+pub returns-then-is_between : goal.returns-then-is_between
+unfolding modules_in
+returns-then-is_between c copy =
+    let is-between = c.is_between in
+    let loop-test = c.loop-k-test in
+    let loop = c.loop-k in
+    let a = c.args in
+    sym
+    (seeking-header a.table.now _ a.a loop.start loop.k loop.invariant loop-test.true
+    (sym is-between.ensures ∙ c.if-is_between.true) copy)
+
 pub overflow_add-constants : goal.overflow_add-constants
 overflow_add-constants c =
     let inv = c.loop-k.invariant in
@@ -35,6 +46,22 @@ overflow_add-end c =
       c.row_word-in-loop-k.ensures.1,
     )
 
+pub returns-then-is_between-2 : goal.returns-then-is_between-2
+unfolding modules_in
+returns-then-is_between-2 c copy =
+    let is-between2 = c.is_between-in-loop-k in
+    let row-word2 = c.row_word-in-loop-k in
+    let row_word = c.row_word in
+    let if1 = c.if-is_between in
+    let is-between = c.is_between in
+    let loop-test = c.loop-k-test in
+    let loop = c.loop-k in
+    let a = c.args in
+    sym
+    (seeking-constant a.table.now _ a.a loop.start loop.k loop.invariant loop-test.true
+    (sym is-between.ensures ∙ if1.false)
+    (rw (← row_word.ensures.0, ← row-word2.ensures.0) (sym is-between2.ensures ∙ c.if-is_between-2.true)) copy)
+
 pub loop-k-preserved : goal.loop-k-preserved
 loop-k-preserved c =
     let is-between2 = c.is_between-in-loop-k in
@@ -50,3 +77,10 @@ loop-k-preserved c =
     (sym is-between.ensures ∙ if1.false)
     (rw (← row_word.ensures.0, ← row-word2.ensures.0) (sym is-between2.ensures ∙ c.if-is_between-2.false))
     (rw row_word.ensures.0 at row_word.ensures.1) (rw row-word2.ensures.0 at row-word2.ensures.1))
+
+pub returns : goal.returns
+unfolding modules_in
+returns c copy =
+    let loop = c.loop-k in
+    let a = c.args in
+    sym (seeking-end a.table.now _ a.a loop.start loop.k loop.invariant c.loop-k-test.false copy)
