@@ -3,14 +3,12 @@
 
   edits.py lint               before a check: every batch applies, every public function has two edits of its body, every statement one
                               that falsifies it, and docs/PROMISES.md names just these edits
-  edits.py run TREE ENDED     tries every batch, over the crates that `rt` is proving in the folder TREE, each as soon as it is proved;
-                              the file ENDED stands once no more will be
-  edits.py logs               after `run`, or `rt ci`: reads the batches' logs; each function or theorem that an edit names is refused
-                              for a fact of its own
-  edits.py try CRATE [BATCH]  tries the batches of one crate alone, and reads their logs
+  edits.py logs               after `rt ci`: reads the batches' logs; each function or theorem that an edit names is refused for a
+                              fact of its own
+  edits.py try CRATE [BATCH]  tries the batches of one crate alone, after `rt check`, and reads their logs
   edits.py each CRATE BATCH   tries each edit of a batch by itself: is it this edit that breaks what it names?
 
-A batch is a file crates/CRATE/must-fail/BATCH.edit, all of which is applied to a copy of the crate. An edit in it is
+A batch is a file crates/CRATE/must-fail/BATCH.edit; `rt` applies all of it to a copy of the crate. An edit in it is
 
   edit: NAME
   function: MODULE::FUNCTION      or   theorem: FILE.NAME, of proofs/FILE.antt
@@ -26,13 +24,13 @@ its edits names a clause of its own, once a clause.
 """
 
 import re
+import shutil
+import subprocess
 import sys
 import tempfile
 from collections import Counter
 from dataclasses import dataclass, field
 from pathlib import Path
-
-import edit_runs
 
 ROOT = Path(__file__).resolve().parent.parent
 EDITS_OF_A_FUNCTION = 2
@@ -316,10 +314,10 @@ def refusal(edit, crate, log, root=ROOT):
     return f"it has no error of its own ({verdict[:120]})"
 
 
-def read_logs(found, logs, root=ROOT):
-    """Goes through every edit of some batches: (batch/edit, what is wrong or nothing)."""
-    for batch in found:
-        path = edit_runs.log_of(logs, batch)
+def read_logs(root=ROOT):
+    """Goes through every edit: (batch/edit, what is wrong or nothing)."""
+    for batch in batches(root):
+        path = root / "target/must-fail" / batch.crate / batch.label / ".log"
         log = path.read_text(errors="replace") if path.is_file() else None
         for edit in batch.edits:
             wrong = "there is no log" if log is None else refusal(edit, batch.crate, log, root)
@@ -339,27 +337,43 @@ def tell(results):
 # ---- one crate alone
 
 
-def tried(found):
-    """Tries batches of one crate of this repository, and keeps their logs."""
-    logs = Path(tempfile.mkdtemp(prefix="logs."))
-    edit_runs.try_crate(ROOT, ROOT / "crates", found, logs)
-    good = tell(read_logs(found, logs))
-    print(f"logs: {logs}")
+def side_copy(crate, keep):
+    """A copy of the repository, with what is proved, that has just the batches `keep` of one crate."""
+    side = Path(tempfile.mkdtemp(prefix=f"edits.{ROOT.name}.{crate}."))
+    shutil.copy(ROOT / "crates.txt", side)
+    shutil.copytree(ROOT / "crates", side / "crates", ignore=shutil.ignore_patterns("must-fail"))
+    for part in ("rlib", "stamp", "obj", "bin", "log"):
+        if (ROOT / "target" / part).exists():
+            shutil.copytree(ROOT / "target" / part, side / "target" / part)
+    folder = side / "crates" / crate / "must-fail"
+    folder.mkdir()
+    for label, text in keep.items():
+        (folder / f"{label}.edit").write_text(text)
+    return side
+
+
+def tried(crate, keep):
+    side = side_copy(crate, keep)
+    run = subprocess.run(["rt", "must-fail", crate], cwd=side, capture_output=True, text=True, check=False)
+    print(*[line for line in run.stdout.splitlines() if line.startswith("rt: must-fail") or "FAILED" in line], sep="\n")
+    good = tell(read_logs(side))
+    print(f"logs: {side}/target/must-fail/{crate}")
     return good
 
 
-def of_crate(crate, labels=()):
-    """Some batches of a crate, or all."""
-    found = [batch for batch in batches() if batch.crate == crate and (not labels or batch.label in labels)]
-    if not found or {*labels} - {batch.label for batch in found}:
-        raise Fault(f"{crate} has no such batch: {' '.join(labels) or 'none at all'}")
-    return found
+def texts_of(crate, labels):
+    paths = sorted((ROOT / "crates" / crate / "must-fail").glob("*.edit"))
+    return {path.stem: path.read_text() for path in paths if not labels or path.stem in labels}
 
 
-def alone(batch):
-    """Makes a batch of each edit of a batch; whatever it breaks of its function or theorem counts."""
+def each(crate, label):
+    """Makes a batch of each edit of a batch."""
+    batch = parse(crate, label, texts_of(crate, [label])[label])
+    alone = {}
     for edit in batch.edits:
-        yield Batch(batch.crate, edit.name, [Edit(edit.name, edit.kind, edit.breaks, pairs=edit.pairs)])
+        pairs = [f"file: {file}\nold: {old}\nnew: {new}\n" for file, old, new in edit.pairs]
+        alone[edit.name] = f"edit: {edit.name}\n{edit.kind}: {edit.breaks}\n" + "".join(pairs)
+    return alone
 
 
 def main(words):
@@ -368,17 +382,12 @@ def main(words):
             faults = lint()
             print(*faults, sep="\n", end="\n" if faults else "")
             return not faults
-        case ["run", tree, ended]:
-            logs = ROOT / "target/must-fail"
-            faults = edit_runs.try_all(Path(tree).resolve(), ROOT / "crates", batches(), logs, Path(ended))
-            print(*faults, sep="\n", end="\n" if faults else "")
-            return not faults
         case ["logs"]:
-            return tell(read_logs(batches(), ROOT / "target/must-fail"))
+            return tell(read_logs())
         case ["try", crate, *labels]:
-            return tried(of_crate(crate, labels))
+            return tried(crate, texts_of(crate, labels))
         case ["each", crate, label]:
-            return tried(list(alone(*of_crate(crate, [label]))))
+            return tried(crate, each(crate, label))
         case _:
             print(__doc__, file=sys.stderr)
             return False

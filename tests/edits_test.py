@@ -1,16 +1,10 @@
 #!/usr/bin/env python3
-"""Tries the reading of edits and logs on what must fail it, and the trying of batches: edits.py itself is held to its word."""
+"""Tries the reading of edits and logs on what must fail it: edits.py itself is held to its word."""
 
-import contextlib
-import io
-import os
 import tempfile
-import threading
 import unittest
 from pathlib import Path
-from unittest import mock
 
-import edit_runs
 import edits
 
 CODE = """// A crate.
@@ -209,104 +203,14 @@ class After(unittest.TestCase):
 
     def test_log_that_is_missing(self):
         with tempfile.TemporaryDirectory() as folder:
-            root, logs = repository(folder), Path(folder, "logs")
-            path = logs / "one/code_1/.log"
+            root = repository(folder)
+            path = root / "target/must-fail/one/code_1/.log"
             path.parent.mkdir(parents=True)
             path.write_text(REFUSED)
-            results = dict(edits.read_logs(edits.batches(root), logs, root))
+            results = dict(edits.read_logs(root))
         self.assertEqual(results["one/code_1: low_adds_2: low"], "")
         self.assertEqual(results["one/code_2: low_adds_0: low"], "there is no log")
         self.assertEqual(len(results), 5)
-
-
-# Stands for rt: says how often it was called in its folder, what the crate has, and what stands beside the crate.
-RT = """#!/bin/sh
-[ "$1" = dev ] && mkdir -p "target/inc/$2" && echo called >>"target/inc/$2/calls" || exit 2
-echo "call $(wc -l <"target/inc/$2/calls")"
-cat "crates/$2/src/lib.rt" "crates/$2/specs/Order.antt" crates/other/src/lib.rt crates.txt
-ls target/rlib
-echo said >&2
-"""
-
-
-class Tried(unittest.TestCase):
-    """Batches that are tried in a tree, where a program in the place of rt tells what it was given."""
-
-    def setUp(self):
-        folder = self.enterContext(tempfile.TemporaryDirectory())
-        self.root = repository(folder)
-        self.logs, self.ended = Path(folder, "logs"), Path(folder, "ended")
-        for name, text in {"crates.txt": "one: other\n", "crates/other/src/lib.rt": "// The other.\n", "bin/rt": RT}.items():
-            (self.root / name).parent.mkdir(parents=True, exist_ok=True)
-            (self.root / name).write_text(text)
-        (self.root / "bin/rt").chmod(0o755)
-        self.enterContext(mock.patch.dict(os.environ, {"PATH": f"{folder}/bin:{os.environ['PATH']}"}))
-        self.enterContext(contextlib.redirect_stdout(io.StringIO()))
-
-    def prove(self, crate):
-        for place in (f"target/rlib/{crate}.rlib/format", f"target/stamp/{crate}"):
-            (self.root / place).parent.mkdir(parents=True, exist_ok=True)
-            (self.root / place).write_text(crate)
-
-    def try_all(self):
-        return edit_runs.try_all(self.root, self.root / "crates", edits.batches(self.root), self.logs, self.ended)
-
-    def log(self, label):
-        return (self.logs / "one" / label / ".log").read_text()
-
-    def test_each_batch_is_applied_by_itself(self):
-        self.prove("one")
-        self.assertEqual(self.try_all(), [])
-        self.assertIn("x + 2\n", self.log("code_1"))
-        self.assertIn("self.a + 4", self.log("code_1"))
-        self.assertIn("x + 0", self.log("code_2"))
-        self.assertIn("self.a + 3", self.log("definitions_1"))
-        self.assertIn("suc n < n", self.log("definitions_1"))
-        self.assertNotIn("suc n < n", self.log("code_1"))
-
-    def test_the_tree_stays_as_it_was(self):
-        self.prove("one")
-        self.try_all()
-        self.assertEqual((self.root / "crates/one/src/lib.rt").read_text(), CODE)
-        self.assertEqual((self.root / "crates/one/specs/Order.antt").read_text(), SPECS)
-        self.assertFalse((self.root / "target/inc").exists())
-
-    def test_what_the_checker_is_given(self):
-        self.prove("one")
-        self.try_all()
-        for text in ("The other.", "one: other", "one.rlib", "said"):
-            self.assertIn(text, self.log("code_1"))
-
-    def test_batches_of_a_crate_share_a_folder_the_smallest_first(self):
-        self.prove("one")
-        self.try_all()
-        self.assertIn("call 1\n", self.log("definitions_1"))
-        self.assertEqual({self.log("code_1")[:6], self.log("code_2")[:6]}, {"call 2", "call 3"})
-
-    def test_a_crate_is_waited_for(self):
-        later = threading.Timer(0.2, self.prove, ["one"])
-        later.start()
-        self.assertEqual(self.try_all(), [])
-        self.assertIn("x + 2", self.log("code_1"))
-
-    def test_a_crate_that_is_never_proved(self):
-        self.prove("other")
-        self.ended.write_text("")
-        self.assertEqual(self.try_all(), ["edits: one is not proved: its edits were not tried"])
-        results = dict(edits.read_logs(edits.batches(self.root), self.logs, self.root))
-        self.assertEqual({*results.values()}, {"there is no log"})
-
-    def test_a_batch_that_does_not_apply(self):
-        repository(self.root, code_1=BATCH.replace("old: x + 1", "old: x + 9"))
-        self.prove("one")
-        self.assertIn("stands 0 times", "\n".join(self.try_all()))
-
-    def test_no_checker(self):
-        (self.root / "bin/rt").write_text("#!/bin/sh\nexit 2\n")
-        self.prove("one")
-        self.try_all()
-        results = dict(edits.read_logs(edits.batches(self.root), self.logs, self.root))
-        self.assertTrue(all("no error of its own" in wrong for wrong in results.values()))
 
 
 if __name__ == "__main__":
