@@ -375,6 +375,29 @@ def tell(results):
 # ---- the checks for it
 
 
+NUMBER = r"\b(?:0x[\dA-Fa-f_]+|\d[\d_]*)\b"
+COMPARED = re.compile(rf"(?<![=<>-])(?:[<>]=?|[=!]=)\s*({NUMBER})|({NUMBER})\s*(?:[<>]=?|[=!]=)(?![<>]|\s*\d)")
+
+
+def compared(text):
+    """The numbers that stand in comparisons."""
+    return [int(one or other, 0) for one, other in COMPARED.findall(text)]
+
+
+def followed(edit, crate, root):
+    """The proof files of a function, with the names of the goals behind a test in which an edit changes a number: `returns-then-b-lt128`
+    is `returns-then-b-lt129` where the test is `b < 129`. Else the file would not fit, and nothing else could be seen."""
+    pairs = [(compared(old), compared(new)) for file, old, new in edit.pairs if edit.kind == "function" and file.startswith("src/")]
+    changed = [(one, other) for old, new in pairs if len(old) == len(new) for one, other in zip(old, new) if one != other]
+    folder = root / "crates" / crate / "proofs" / edit.breaks.replace("::", "/")
+    for path in sorted(folder.glob("*.antt")) if changed else ():
+        text = path.read_text()
+        for one, other in changed:
+            text = re.sub(rf"(?<=[a-z])(-(?:lt|le|gt|ge|eq|ne)){one}(?!\d)", rf"\g<1>{other}", text)
+        if text != path.read_text():
+            yield path.relative_to(root / "crates" / crate).as_posix(), text
+
+
 def texts_of(batch, root=ROOT):
     """The texts of the files that a batch changes."""
     faults = list(applied(batch, root))
@@ -382,6 +405,7 @@ def texts_of(batch, root=ROOT):
         raise Fault("\n".join(faults))
     texts = {}
     for edit in batch.edits:
+        texts |= dict(followed(edit, batch.crate, root))
         for file, old, new in edit.pairs:
             text = texts.get(file) or (root / "crates" / batch.crate / file).read_text()
             texts[file] = text.replace(old, new)
@@ -398,10 +422,30 @@ def logs_of(found, root=ROOT):
     return logs
 
 
+def alone(batch, edit):
+    """A batch of one edit of a batch; whatever it breaks of its function or theorem counts."""
+    return Batch(batch.crate, f"{batch.label}.{edit.name}", [Edit(edit.name, edit.kind, edit.breaks, pairs=edit.pairs)])
+
+
+def checked_and_read(found, root=ROOT):
+    """Checks some batches and goes through their edits. One that is not seen to be refused for a fact, for example as the checker tries no goal
+    of a function while another edit breaks what that calls, is checked by itself."""
+    results = list(read_logs(found, logs_of(found, root), root))
+    edits = [(batch, edit) for batch in found for edit in batch.edits]
+    again = [alone(*pair) for pair, (_, wrong) in zip(edits, results) if wrong]
+    if not again:
+        return results
+    wrong_alone = dict(read_logs(again, logs_of(again, root), root))
+    for number, (batch, edit) in enumerate(edits):
+        name = f"{alone(batch, edit).name}: {edit.name}: {edit.breaks}"
+        if name in wrong_alone:
+            results[number] = results[number][0], wrong_alone[name]
+    return results
+
+
 def tried(found):
     """Checks some batches and reads what is said."""
-    found = list(found)
-    return tell(read_logs(found, logs_of(found)))
+    return tell(checked_and_read(list(found)))
 
 
 def of_crate(crate, labels=()):
@@ -410,12 +454,6 @@ def of_crate(crate, labels=()):
     if not found or {*labels} - {batch.label for batch in found}:
         raise Fault(f"{crate} has no such batch: {' '.join(labels) or 'none at all'}")
     return found
-
-
-def alone(batch):
-    """Makes a batch of each edit of a batch; whatever it breaks of its function or theorem counts."""
-    for edit in batch.edits:
-        yield Batch(batch.crate, edit.name, [Edit(edit.name, edit.kind, edit.breaks, pairs=edit.pairs)])
 
 
 # ---- which batches were read
@@ -444,7 +482,7 @@ def read_new(keep):
     found, known = list(batches()), read_before()
     sums = {batch.name: sum_of(batch) for batch in found}
     new = [batch for batch in found if known.get(batch.name) != sums[batch.name]]
-    results = list(read_logs(new, logs_of(new)))
+    results = checked_and_read(new)
     print(f"{len(new)} of {len(found)} batches were checked; the others are as they were when they were read ({READ})")
     if keep:
         failed = {name.split(":")[0] for name, wrong in results if wrong}
@@ -467,7 +505,8 @@ def main(words):
         case ["try", crate, *labels]:
             return tried(of_crate(crate, labels))
         case ["each", crate, label]:
-            return tried(alone(*of_crate(crate, [label])))
+            (batch,) = of_crate(crate, [label])
+            return tried(alone(batch, edit) for edit in batch.edits)
         case _:
             print(__doc__, file=sys.stderr)
             return False

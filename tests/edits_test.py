@@ -226,6 +226,19 @@ class After(unittest.TestCase):
         self.assertEqual(results["one/code_2: low_adds_0: low"], "there is no log")
         self.assertEqual(len(results), 5)
 
+    def test_proof_file_follows_a_test(self):
+        code = CODE.replace("    x + 1\n", "    if x < 0x80 { 1 } else { 2 }\n")
+        batch = "edit: low_below_129\nfunction: low\nfile: src/lib.rt\nold: x < 0x80\nnew: x < 129\n"
+        with tempfile.TemporaryDirectory() as folder:
+            root = repository(folder, code=code, code_1=batch)
+            path = root / "crates/one/proofs/low/Answers.antt"
+            path.parent.mkdir()
+            path.write_text("returns-then-x-lt128 c = f 128 c.if-x-lt128 c.if-x-lt1280")
+            texts = edits.texts_of(next(edits.batches(root)), root)
+        self.assertEqual(texts.pop("proofs/low/Answers.antt"), "returns-then-x-lt129 c = f 128 c.if-x-lt129 c.if-x-lt1280")
+        self.assertEqual(texts, {"src/lib.rt": code.replace("0x80", "129")})
+        self.assertEqual(edits.compared("7 < x && y >= 0x10 => z >> 8 == 1_000 / 3"), [7, 16, 1000])
+
     def test_what_the_gate_says(self):
         with tempfile.TemporaryDirectory() as folder:
             root = repository(folder, definitions_2=FALSE.replace("falls", "falls_2"))
