@@ -11,7 +11,7 @@ fn main() {
     if !archive.is_file() {
         let path = archive.display();
         println!(
-            "cargo::error={path} is missing; run `rt staticlib icode` in the repository first"
+            "cargo::error={path} is missing; run `include/build` in the repository first"
         );
         return;
     }

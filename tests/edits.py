@@ -3,18 +3,18 @@
 
   edits.py lint               before a check: every batch applies, every public function has two edits of its body, every statement one
                               that falsifies it, and docs/PROMISES.md names just these edits
-  edits.py run TREE ENDED     tries every batch, over the crates that `rt` is proving in the folder TREE, each as soon as it is proved;
-                              the file ENDED stands once no more will be
-  edits.py logs               after `run`, or `rt ci`: reads the batches' logs; each function or theorem that an edit names is refused
-                              for a fact of its own
-  edits.py try CRATE [BATCH]  tries the batches of one crate alone, and reads their logs
+  edits.py said FILE          after `rt ci`, of which FILE has the output: every batch was refused, and not for a text that cannot be read,
+                              a proof file that no longer fits or a limit of the checker
+  edits.py logs [--keep]      after `rt ci`: each function or theorem that an edit names is refused for a fact of its own. Checks each
+                              batch that tests/edits.read does not name as it now is; --keep writes there which were read
+  edits.py try CRATE [BATCH]  the same for the batches of one crate, after `rt check`, whatever was read before
   edits.py each CRATE BATCH   tries each edit of a batch by itself: is it this edit that breaks what it names?
 
-A batch is a file crates/CRATE/must-fail/BATCH.edit, all of which is applied to a copy of the crate. An edit in it is
+A batch is a file crates/CRATE/must-fail/BATCH.edit; `rt` applies all of it to a copy of the crate. An edit in it is
 
   edit: NAME
   function: MODULE::FUNCTION      or   theorem: FILE.NAME, of proofs/FILE.antt
-  clause: NAME                    of the function's proof, or the need that a search for it does not close, or the field of a theorem
+  clause: NAME                    the goal of the function's proof that fails, or the clause of its `ensures`, or the field of a theorem
                                   that is a record; only where the batch has other edits of this function or theorem
   file: src/lib.rt
   old: text that stands there once
@@ -25,14 +25,14 @@ is changed in a contract or a definition may break more than the edit names. It 
 its edits names a clause of its own, once a clause.
 """
 
+import hashlib
 import re
 import sys
-import tempfile
 from collections import Counter
 from dataclasses import dataclass, field
 from pathlib import Path
 
-import edit_runs
+import edit_checks
 
 ROOT = Path(__file__).resolve().parent.parent
 EDITS_OF_A_FUNCTION = 2
@@ -261,12 +261,13 @@ def lint(root=ROOT):
 
 # ---- after the check
 
-# What the checker says of a need that does not hold: a goal that is another one than what was proved, or that nothing proves.
+# What the checker says of an answer that does not hold: a goal that is another one than what was proved, or that nothing proves.
 FACT = re.compile(
     r"the two (types|values|indices)|^expected type|does not follow|no proof of|give a proof of that|no occurrence of the path's"
 )
 # What it says where a proof file does not fit the code, or rests on something that is not proved. Whatever is in neither list is no fact.
 UNFIT = re.compile(r"was not admitted|can be named from here|has no field|`: module|on the face `κs = 1`|not in scope")
+PROOF_FILES = ("Answers.antt", "Invariants.antt", "Proof.antt")
 
 
 def errors_in(log, file):
@@ -287,9 +288,33 @@ def field_at(path, line):
     return ""
 
 
-def unclosed(verdict):
-    """The needs that the search does not close, of a function without a proof file."""
-    return re.findall(r"`([^`]+)`", verdict.partition("`search` does not close")[2]) if verdict.startswith("no proof") else []
+def unproved(verdict):
+    """The goals of a function that the search does not prove, of those that no proof file answers."""
+    return re.findall(r"`([^`]+)`", verdict.partition("`search` did not prove ")[2].partition(";")[0])
+
+
+def is_of(clause, goal):
+    """Whether a goal is the one that an edit names, or shows the clause that it names; any is, where it names none."""
+    return clause in ("", goal) or goal.endswith(f"-clause-{clause}")
+
+
+# What the checker adds where it knows values for which a goal does not hold. Goals are named by the tests of the code: where an edit changes
+# a test, a proof file may name a goal that is no more, and this alone shows that the new one is false.
+FALSE = re.compile(r"^note: (src/\S+?):(\d+):\d+: .*\(`([^`]+)`\).*the facts known there allow values at which this goal is false")
+
+
+def false_goals(crate, name, log, root=ROOT):
+    """The goals of a function that do not hold for values which the checker knows. An edit leaves the number of lines as it was."""
+    spans = {}
+    for one, function, _, file, begin, end in functions(root):
+        if (one, function) == (crate, name):
+            text = (root / "crates" / crate / file).read_text()
+            head = text.rfind(f"fn {name.split('::')[-1]}", 0, begin)
+            spans[file] = text.count("\n", 0, head) + 1, text.count("\n", 0, end) + 2
+    for line in log.splitlines():
+        found = FALSE.match(line)
+        if found and found.group(1) in spans and spans[found.group(1)][0] <= int(found.group(2)) <= spans[found.group(1)][1]:
+            yield found.group(3)
 
 
 def refusal(edit, crate, log, root=ROOT):
@@ -301,11 +326,11 @@ def refusal(edit, crate, log, root=ROOT):
         own = [message for line, message in found if not edit.clause or edit.clause == field_at(path, line)]
         verdict = "not proved"
     else:
-        found = errors_in(log, f"proofs/{edit.breaks.replace('::', '/')}/Proof.antt")
-        own = [message for _, declared, message in found if edit.clause in ("", declared)]
+        files = [f"proofs/{edit.breaks.replace('::', '/')}/{name}" for name in PROOF_FILES]
+        own = [message for file in files for _, declared, message in errors_in(log, file) if is_of(edit.clause, declared)]
         said = re.search(rf"^fn {re.escape(crate)}::{re.escape(edit.breaks)}: (.*)$", log, re.M)
         verdict = said.group(1) if said else "no verdict"
-        if any(edit.clause in ("", need) for need in unclosed(verdict)):
+        if any(is_of(edit.clause, goal) for goal in [*unproved(verdict), *false_goals(crate, edit.breaks, log, root)]):
             return ""
     if verdict.startswith("proved"):
         return "it is still proved"
@@ -317,13 +342,24 @@ def refusal(edit, crate, log, root=ROOT):
 
 
 def read_logs(found, logs, root=ROOT):
-    """Goes through every edit of some batches: (batch/edit, what is wrong or nothing)."""
+    """Goes through every edit of some batches, whose logs are given by (crate, label): (batch/edit, what is wrong or nothing)."""
     for batch in found:
-        path = edit_runs.log_of(logs, batch)
-        log = path.read_text(errors="replace") if path.is_file() else None
         for edit in batch.edits:
+            log = logs.get((batch.crate, batch.label))
             wrong = "there is no log" if log is None else refusal(edit, batch.crate, log, root)
             yield f"{batch.name}: {edit.name}: {edit.breaks}", wrong
+
+
+# What `rt ci` says of a batch that the checker refuses, but not for what the code or a definition says.
+NO_FACT = re.compile(r"BAD EDIT|NOT TRIED|NOT REFUSED|only because a proof file|only by a limit")
+
+
+def read_said(output, root=ROOT):
+    """Goes through every batch by what `rt ci` printed of it: (batch, what is wrong or nothing)."""
+    said = dict(re.findall(r"^rt: must-fail (\S+)\.edit: (.*)$", output, re.M))
+    for batch in batches(root):
+        line = said.get(batch.name, "rt ci says nothing of it")
+        yield batch.name, "" if line.startswith("refused") and not NO_FACT.search(line) else line
 
 
 def tell(results):
@@ -336,16 +372,80 @@ def tell(results):
     return bad == 0 and bool(results)
 
 
-# ---- one crate alone
+# ---- the checks for it
+
+
+NUMBER = r"\b(?:0x[\dA-Fa-f_]+|\d[\d_]*)\b"
+COMPARED = re.compile(rf"(?<![=<>-])(?:[<>]=?|[=!]=)\s*({NUMBER})|({NUMBER})\s*(?:[<>]=?|[=!]=)(?![<>]|\s*\d)")
+
+
+def compared(text):
+    """The numbers that stand in comparisons."""
+    return [int(one or other, 0) for one, other in COMPARED.findall(text)]
+
+
+def followed(edit, crate, root):
+    """The proof files of a function, with the names of the goals behind a test in which an edit changes a number: `returns-then-b-lt128`
+    is `returns-then-b-lt129` where the test is `b < 129`. Else the file would not fit, and nothing else could be seen."""
+    pairs = [(compared(old), compared(new)) for file, old, new in edit.pairs if edit.kind == "function" and file.startswith("src/")]
+    changed = [(one, other) for old, new in pairs if len(old) == len(new) for one, other in zip(old, new) if one != other]
+    folder = root / "crates" / crate / "proofs" / edit.breaks.replace("::", "/")
+    for path in sorted(folder.glob("*.antt")) if changed else ():
+        text = path.read_text()
+        for one, other in changed:
+            text = re.sub(rf"(?<=[a-z])(-(?:lt|le|gt|ge|eq|ne)){one}(?!\d)", rf"\g<1>{other}", text)
+        if text != path.read_text():
+            yield path.relative_to(root / "crates" / crate).as_posix(), text
+
+
+def texts_of(batch, root=ROOT):
+    """The texts of the files that a batch changes."""
+    faults = list(applied(batch, root))
+    if faults:
+        raise Fault("\n".join(faults))
+    texts = {}
+    for edit in batch.edits:
+        texts |= dict(followed(edit, batch.crate, root))
+        for file, old, new in edit.pairs:
+            text = texts.get(file) or (root / "crates" / batch.crate / file).read_text()
+            texts[file] = text.replace(old, new)
+    return texts
+
+
+def logs_of(found, root=ROOT):
+    """What the checker says of some batches, which is kept in target/must-fail too."""
+    logs = edit_checks.checked_all({(batch.crate, batch.label): texts_of(batch, root) for batch in found}, root)
+    for (crate, label), log in logs.items():
+        path = root / "target/must-fail" / crate / f"{label}.log"
+        path.parent.mkdir(parents=True, exist_ok=True)
+        path.write_text(log)
+    return logs
+
+
+def alone(batch, edit):
+    """A batch of one edit of a batch; whatever it breaks of its function or theorem counts."""
+    return Batch(batch.crate, f"{batch.label}.{edit.name}", [Edit(edit.name, edit.kind, edit.breaks, pairs=edit.pairs)])
+
+
+def checked_and_read(found, root=ROOT):
+    """Checks some batches and goes through their edits. One that is not seen to be refused for a fact, for example as the checker tries no goal
+    of a function while another edit breaks what that calls, is checked by itself."""
+    results = list(read_logs(found, logs_of(found, root), root))
+    edits = [(batch, edit) for batch in found for edit in batch.edits]
+    again = [alone(*pair) for pair, (_, wrong) in zip(edits, results) if wrong]
+    if not again:
+        return results
+    wrong_alone = dict(read_logs(again, logs_of(again, root), root))
+    for number, (batch, edit) in enumerate(edits):
+        name = f"{alone(batch, edit).name}: {edit.name}: {edit.breaks}"
+        if name in wrong_alone:
+            results[number] = results[number][0], wrong_alone[name]
+    return results
 
 
 def tried(found):
-    """Tries batches of one crate of this repository, and keeps their logs."""
-    logs = Path(tempfile.mkdtemp(prefix="logs."))
-    edit_runs.try_crate(ROOT, ROOT / "crates", found, logs)
-    good = tell(read_logs(found, logs))
-    print(f"logs: {logs}")
-    return good
+    """Checks some batches and reads what is said."""
+    return tell(checked_and_read(list(found)))
 
 
 def of_crate(crate, labels=()):
@@ -356,10 +456,40 @@ def of_crate(crate, labels=()):
     return found
 
 
-def alone(batch):
-    """Makes a batch of each edit of a batch; whatever it breaks of its function or theorem counts."""
-    for edit in batch.edits:
-        yield Batch(batch.crate, edit.name, [Edit(edit.name, edit.kind, edit.breaks, pairs=edit.pairs)])
+# ---- which batches were read
+
+READ = "tests/edits.read"
+
+
+def sum_of(batch, root=ROOT):
+    """A sum of what the reading of a batch rests on: the kit, the crate's own files and the batch. What the crates below promise is left out."""
+    folder = root / "crates" / batch.crate
+    files = sorted(path for part in edit_checks.PARTS for path in (folder / part).rglob("*") if path.is_file())
+    found = hashlib.sha256((edit_checks.kit() / "KIT-ID").read_bytes())
+    for path in [*files, folder / "must-fail" / f"{batch.label}.edit"]:
+        found.update(repr((path.relative_to(folder).as_posix(), path.read_bytes())).encode())
+    return found.hexdigest()[:32]
+
+
+def read_before(root=ROOT):
+    """The batches that were read, with their sums."""
+    path = root / READ
+    return dict(line.split() for line in path.read_text().splitlines()) if path.is_file() else {}
+
+
+def read_new(keep):
+    """Checks and reads each batch that was not read as it now is."""
+    found, known = list(batches()), read_before()
+    sums = {batch.name: sum_of(batch) for batch in found}
+    new = [batch for batch in found if known.get(batch.name) != sums[batch.name]]
+    results = checked_and_read(new)
+    print(f"{len(new)} of {len(found)} batches were checked; the others are as they were when they were read ({READ})")
+    if keep:
+        failed = {name.split(":")[0] for name, wrong in results if wrong}
+        lines = [f"{name} {value}\n" for name, value in sums.items() if name not in failed]
+        (ROOT / READ).write_text("".join(lines))
+    before = [(f"{batch.name}: {edit.name}", "") for batch in found if batch not in new for edit in batch.edits]
+    return tell(before + results)
 
 
 def main(words):
@@ -368,17 +498,15 @@ def main(words):
             faults = lint()
             print(*faults, sep="\n", end="\n" if faults else "")
             return not faults
-        case ["run", tree, ended]:
-            logs = ROOT / "target/must-fail"
-            faults = edit_runs.try_all(Path(tree).resolve(), ROOT / "crates", batches(), logs, Path(ended))
-            print(*faults, sep="\n", end="\n" if faults else "")
-            return not faults
-        case ["logs"]:
-            return tell(read_logs(batches(), ROOT / "target/must-fail"))
+        case ["said", file]:
+            return tell(read_said(Path(file).read_text(errors="replace")))
+        case ["logs"] | ["logs", "--keep"]:
+            return read_new("--keep" in words)
         case ["try", crate, *labels]:
             return tried(of_crate(crate, labels))
         case ["each", crate, label]:
-            return tried(list(alone(*of_crate(crate, [label]))))
+            (batch,) = of_crate(crate, [label])
+            return tried(alone(batch, edit) for edit in batch.edits)
         case _:
             print(__doc__, file=sys.stderr)
             return False

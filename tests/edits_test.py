@@ -1,16 +1,10 @@
 #!/usr/bin/env python3
-"""Tries the reading of edits and logs on what must fail it, and the trying of batches: edits.py itself is held to its word."""
+"""Tries the reading of edits and logs on what must fail it: edits.py itself is held to its word."""
 
-import contextlib
-import io
-import os
 import tempfile
-import threading
 import unittest
 from pathlib import Path
-from unittest import mock
 
-import edit_runs
 import edits
 
 CODE = """// A crate.
@@ -52,18 +46,25 @@ PROMISES = "## one\n\n| function | promise | definition | must-fail edits |\n|--
 PROMISES += "| `Pair::high` | .. | .. | high_adds_4, high_adds_0 |\n| `Order.rises` | .. | .. | falls |\n"
 
 # What the checker writes, shortened.
-AT = "/t/one/code_1/proofs"
-REFUSED = f"{AT}/low/Proof.antt:9:5: error: `returns`: as printed, the two types first differ where one has `2`\nfn one::low: not proved\n"
-REFUSED += f"{AT}/Pair/high/Proof.antt:7:3: error: `high-spec`: `search`: no proof of `Post`\nfn one::Pair::high: not proved\n"
-UNCLOSED = "fn one::low: no proof: expected `low-spec` in proofs/low/Proof.antt; `search` does not close `returns`\n"
-CALLEE = f"{AT}/low/Proof.antt:9:5: error: `low-spec`: `close` was not admitted (it has holes), so this cannot be checked\n"
+REFUSED = "./proofs/low/Answers.antt:9:5: error: `returns`: as printed, the two types first differ where one has `2`\nfn one::low: not proved\n"
+REFUSED += "./proofs/Pair/high/Answers.antt:7:3: error: `returns`: `search`: no proof of `Post`\nfn one::Pair::high: not proved\n"
+UNCLOSED = "fn one::low: no proof: expected answers in ./proofs/low/Answers.antt; `search` did not prove `returns`\n"
+CLAUSED = UNCLOSED.replace("`returns`", "`returns-then-x-lt2-clause-bound`; it calls `one::hidden`, which is not proved")
+CALLEE = "./proofs/low/Answers.antt:9:5: error: `returns`: `close` was not admitted (it has holes), so this cannot be checked\n"
 CALLEE += "fn one::low: not proved; it calls `one::hidden`, which is not proved\n"
-UNFIT = f"{AT}/low/Proof.antt:4:1: error: `returns-2`: `tie` has no `Need-returns-2` that can be named from here\nfn one::low: not proved\n"
-WRONG_NEED = f"{AT}/low/Proof.antt:4:1: error: `low-spec`: on the face `κs = 1` this λ's body is expected, the two types differ\n"
-UNKNOWN = f"{AT}/low/Proof.antt:4:1: error: `low-spec`: something that nobody has read yet\nfn one::low: not proved\n"
-FALSIFIED = "/t/one/definitions_1/proofs/Order.antt:2:1: error: `rises`: `omega`: the goal does not follow from what it read.\n"
-LAW_BELOW = "/t/one/definitions_1/proofs/Order.antt:2:1: error: `rises`: `below` was not admitted (it was rejected)\n"
+UNFIT = "./proofs/low/Answers.antt:4:1: error: `goal.returns-2`: module `Rattle.one.proofs.low.Goals` has no `returns-2` that can be named\n"
+UNFIT += "fn one::low: not proved\n"
+WRONG_GOAL = "./proofs/low/Answers.antt:4:1: error: `returns`: on the face `κs = 1` this λ's body is expected, the two types differ\n"
+UNKNOWN = "./proofs/low/Answers.antt:4:1: error: `returns`: something that nobody has read yet\n"
+NOT_SHOWN = "note: src/lib.rt:2:1: it is not proved that what the function ensures holds when it returns (`returns-2`)"
+NOT_TRUE = f"{NOT_SHOWN}; the facts known there allow values at which this goal is false\n"
+FALSIFIED = "./proofs/Order.antt:2:1: error: `rises`: `omega`: the goal does not follow from what it read.\n"
+LAW_BELOW = "./proofs/Order.antt:2:1: error: `rises`: `below` was not admitted (it was rejected)\n"
 OTHER_LAW = FALSIFIED.replace("`rises`", "`below`")
+SAID = """rt: must-fail one/code_1.edit: refused, as it must be: ./proofs/low/Answers.antt:9:5: error: `returns`: ..
+rt: must-fail one/code_2.edit: BAD EDIT: an 'old:' text is in src/lib.rt 0 times, and not once
+rt: must-fail one/definitions_1.edit: refused, as it must be (only because a proof file names what the edit took away, ..): ..
+"""
 
 
 def repository(folder, **changed):
@@ -161,8 +162,8 @@ class After(unittest.TestCase):
     """Logs that do not show that what an edit names is refused for a fact of its own."""
 
     def wrong(self, log, batch=BATCH, label="code_1"):
-        edit = edits.parse("one", label, batch).edits[0]
-        return edits.refusal(edit, "one", log)
+        with tempfile.TemporaryDirectory() as folder:
+            return edits.refusal(edits.parse("one", label, batch).edits[0], "one", log, repository(folder))
 
     def test_refused_for_the_fact(self):
         self.assertEqual(self.wrong(REFUSED), "")
@@ -173,23 +174,33 @@ class After(unittest.TestCase):
     def test_another_clause_is_refused(self):
         named = BATCH.replace("function: low\n", "function: low\nclause: returns\n")
         self.assertEqual(self.wrong(REFUSED, named), "")
+        self.assertEqual(self.wrong(UNCLOSED, named), "")
         other = named.replace("clause: returns", "clause: returns-2")
         self.assertIn("no error of its own", self.wrong(REFUSED, other))
-        self.assertEqual(self.wrong(UNCLOSED, named), "")
         self.assertIn("no error of its own", self.wrong(UNCLOSED, other))
+        bound = named.replace("clause: returns", "clause: bound")
+        self.assertEqual(self.wrong(CLAUSED, bound), "")
+        self.assertIn("no error of its own", self.wrong(UNCLOSED, bound))
 
     def test_still_proved(self):
         self.assertIn("still proved", self.wrong("fn one::low: proved\nlogic=not-proved\n"))
 
     def test_no_proof_for_another_reason(self):
         self.assertIn("no error of its own", self.wrong(UNCLOSED[: UNCLOSED.index(";")] + "\n"))
+        self.assertIn("no error of its own", self.wrong(CLAUSED.replace("`search` did not prove `returns-then-x-lt2-clause-bound`; ", "")))
 
     def test_only_the_callee_is_not_proved(self):
         self.assertIn("no fact of its own", self.wrong(CALLEE))
 
     def test_proof_file_that_does_not_fit(self):
-        for log in (UNFIT, WRONG_NEED, UNKNOWN):
+        for log in (UNFIT, WRONG_GOAL, UNKNOWN, UNFIT + NOT_SHOWN):
             self.assertIn("no fact of its own", self.wrong(log))
+
+    def test_goal_that_is_false(self):
+        self.assertEqual(self.wrong(UNFIT + NOT_TRUE), "")
+        for line in (1, 7, 8, 15):
+            self.assertIn("no fact of its own", self.wrong(UNFIT + NOT_TRUE.replace(":2:", f":{line}:")))
+        self.assertIn("no fact of its own", self.wrong(UNFIT + NOT_TRUE.replace("lib.rt", "other.rt")))
 
     def test_another_function_is_refused(self):
         self.assertIn("no error of its own", self.wrong(REFUSED.replace("/low/", "/slow/").replace("::low", "::slow")))
@@ -209,104 +220,43 @@ class After(unittest.TestCase):
 
     def test_log_that_is_missing(self):
         with tempfile.TemporaryDirectory() as folder:
-            root, logs = repository(folder), Path(folder, "logs")
-            path = logs / "one/code_1/.log"
-            path.parent.mkdir(parents=True)
-            path.write_text(REFUSED)
-            results = dict(edits.read_logs(edits.batches(root), logs, root))
+            root = repository(folder)
+            results = dict(edits.read_logs(edits.batches(root), {("one", "code_1"): REFUSED}, root))
         self.assertEqual(results["one/code_1: low_adds_2: low"], "")
         self.assertEqual(results["one/code_2: low_adds_0: low"], "there is no log")
         self.assertEqual(len(results), 5)
 
+    def test_proof_file_follows_a_test(self):
+        code = CODE.replace("    x + 1\n", "    if x < 0x80 { 1 } else { 2 }\n")
+        batch = "edit: low_below_129\nfunction: low\nfile: src/lib.rt\nold: x < 0x80\nnew: x < 129\n"
+        with tempfile.TemporaryDirectory() as folder:
+            root = repository(folder, code=code, code_1=batch)
+            path = root / "crates/one/proofs/low/Answers.antt"
+            path.parent.mkdir()
+            path.write_text("returns-then-x-lt128 c = f 128 c.if-x-lt128 c.if-x-lt1280")
+            texts = edits.texts_of(next(edits.batches(root)), root)
+        self.assertEqual(texts.pop("proofs/low/Answers.antt"), "returns-then-x-lt129 c = f 128 c.if-x-lt129 c.if-x-lt1280")
+        self.assertEqual(texts, {"src/lib.rt": code.replace("0x80", "129")})
+        self.assertEqual(edits.compared("7 < x && y >= 0x10 => z >> 8 == 1_000 / 3"), [7, 16, 1000])
 
-# Stands for rt: says how often it was called in its folder, what the crate has, and what stands beside the crate.
-RT = """#!/bin/sh
-[ "$1" = dev ] && mkdir -p "target/inc/$2" && echo called >>"target/inc/$2/calls" || exit 2
-echo "call $(wc -l <"target/inc/$2/calls")"
-cat "crates/$2/src/lib.rt" "crates/$2/specs/Order.antt" crates/other/src/lib.rt crates.txt
-ls target/rlib
-echo said >&2
-"""
+    def test_what_the_gate_says(self):
+        with tempfile.TemporaryDirectory() as folder:
+            root = repository(folder, definitions_2=FALSE.replace("falls", "falls_2"))
+            results = dict(edits.read_said(SAID, root))
+        self.assertEqual(results.pop("one/code_1"), "")
+        self.assertEqual(set(results), {"one/code_2", "one/definitions_1", "one/definitions_2"})
+        self.assertTrue(all(results.values()))
 
-
-class Tried(unittest.TestCase):
-    """Batches that are tried in a tree, where a program in the place of rt tells what it was given."""
-
-    def setUp(self):
-        folder = self.enterContext(tempfile.TemporaryDirectory())
-        self.root = repository(folder)
-        self.logs, self.ended = Path(folder, "logs"), Path(folder, "ended")
-        for name, text in {"crates.txt": "one: other\n", "crates/other/src/lib.rt": "// The other.\n", "bin/rt": RT}.items():
-            (self.root / name).parent.mkdir(parents=True, exist_ok=True)
-            (self.root / name).write_text(text)
-        (self.root / "bin/rt").chmod(0o755)
-        self.enterContext(mock.patch.dict(os.environ, {"PATH": f"{folder}/bin:{os.environ['PATH']}"}))
-        self.enterContext(contextlib.redirect_stdout(io.StringIO()))
-
-    def prove(self, crate):
-        for place in (f"target/rlib/{crate}.rlib/format", f"target/stamp/{crate}"):
-            (self.root / place).parent.mkdir(parents=True, exist_ok=True)
-            (self.root / place).write_text(crate)
-
-    def try_all(self):
-        return edit_runs.try_all(self.root, self.root / "crates", edits.batches(self.root), self.logs, self.ended)
-
-    def log(self, label):
-        return (self.logs / "one" / label / ".log").read_text()
-
-    def test_each_batch_is_applied_by_itself(self):
-        self.prove("one")
-        self.assertEqual(self.try_all(), [])
-        self.assertIn("x + 2\n", self.log("code_1"))
-        self.assertIn("self.a + 4", self.log("code_1"))
-        self.assertIn("x + 0", self.log("code_2"))
-        self.assertIn("self.a + 3", self.log("definitions_1"))
-        self.assertIn("suc n < n", self.log("definitions_1"))
-        self.assertNotIn("suc n < n", self.log("code_1"))
-
-    def test_the_tree_stays_as_it_was(self):
-        self.prove("one")
-        self.try_all()
-        self.assertEqual((self.root / "crates/one/src/lib.rt").read_text(), CODE)
-        self.assertEqual((self.root / "crates/one/specs/Order.antt").read_text(), SPECS)
-        self.assertFalse((self.root / "target/inc").exists())
-
-    def test_what_the_checker_is_given(self):
-        self.prove("one")
-        self.try_all()
-        for text in ("The other.", "one: other", "one.rlib", "said"):
-            self.assertIn(text, self.log("code_1"))
-
-    def test_batches_of_a_crate_share_a_folder_the_smallest_first(self):
-        self.prove("one")
-        self.try_all()
-        self.assertIn("call 1\n", self.log("definitions_1"))
-        self.assertEqual({self.log("code_1")[:6], self.log("code_2")[:6]}, {"call 2", "call 3"})
-
-    def test_a_crate_is_waited_for(self):
-        later = threading.Timer(0.2, self.prove, ["one"])
-        later.start()
-        self.assertEqual(self.try_all(), [])
-        self.assertIn("x + 2", self.log("code_1"))
-
-    def test_a_crate_that_is_never_proved(self):
-        self.prove("other")
-        self.ended.write_text("")
-        self.assertEqual(self.try_all(), ["edits: one is not proved: its edits were not tried"])
-        results = dict(edits.read_logs(edits.batches(self.root), self.logs, self.root))
-        self.assertEqual({*results.values()}, {"there is no log"})
-
-    def test_a_batch_that_does_not_apply(self):
-        repository(self.root, code_1=BATCH.replace("old: x + 1", "old: x + 9"))
-        self.prove("one")
-        self.assertIn("stands 0 times", "\n".join(self.try_all()))
-
-    def test_no_checker(self):
-        (self.root / "bin/rt").write_text("#!/bin/sh\nexit 2\n")
-        self.prove("one")
-        self.try_all()
-        results = dict(edits.read_logs(edits.batches(self.root), self.logs, self.root))
-        self.assertTrue(all("no error of its own" in wrong for wrong in results.values()))
+    def test_batch_that_was_read_as_it_was(self):
+        with tempfile.TemporaryDirectory() as folder:
+            root = repository(folder)
+            one, two, _ = edits.batches(root)
+            before = edits.sum_of(one, root), edits.sum_of(two, root)
+            (root / "crates/one/must-fail/code_1.edit").write_text(BATCH + "\n")
+            self.assertNotEqual(edits.sum_of(one, root), before[0])
+            self.assertEqual(edits.sum_of(two, root), before[1])
+            (root / "crates/one/specs/Order.antt").write_text(SPECS + "\n")
+            self.assertNotEqual(edits.sum_of(two, root), before[1])
 
 
 if __name__ == "__main__":

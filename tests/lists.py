@@ -17,7 +17,6 @@ from pathlib import Path
 import edits
 
 ROOT = Path(__file__).resolve().parent.parent
-KIT = {"std", "check", "io", "libc", "os", "bytes"}
 
 
 def text(name):
@@ -106,6 +105,7 @@ def listed():
             layer = line[2:].split(":")[0]
         elif line.strip():
             name, _, others = line.partition(":")
+            name = name.split()[0]  # `staticlib` may stand behind it
             layers[name], depends[name] = layer, others.split()
     return layers, depends
 
@@ -123,17 +123,18 @@ def names_in(crate, others):
     found = set()
     for path in (ROOT / "crates" / crate).rglob("*"):
         if path.suffix == ".antt":
-            found |= set(re.findall(r"Rattle·(\w+)\.", path.read_text()))
+            found |= set(re.findall(r"\bRattle\.(\w+)\.", path.read_text()))
         elif path.suffix == ".rt":
             code = re.sub(r"//.*", "", path.read_text())
-            found |= set(re.findall(r"Rattle·(\w+)\.", code)) | {name for name in re.findall(r"(?<![:\w])(\w+)::", code) if name in others | KIT}
+            found |= set(re.findall(r"\bRattle\.(\w+)\.", code)) | {name for name in re.findall(r"(?<![:\w])(\w+)::", code) if name in others}
     return found - {crate, "std"}
 
 
 def dependencies():
     _, depends = listed()
+    known = {*depends, *(name for others in depends.values() for name in others)}
     for crate, others in depends.items():
-        named = names_in(crate, set(depends))
+        named = names_in(crate, known)
         for name in sorted(named ^ set(others)):
             yield f"crates.txt: {crate}: {name} is {'named, not listed' if name in named else 'listed, not named'}"
 

@@ -1,37 +1,35 @@
 // Prints the sheet of the 256 codes, from the table that lengths are read from: code, mnemonic, length in bytes, marks.
 #![tactic(auto)]
+
 ghost use Rattle.opcode.specs.Sheet.{Sheet};
 
-use libc::STDOUT_FILENO;
 use opcode::Decoded;
 use opcode::instruction::Instruction;
+use std::io;
 
 mod names;
 
-fn write(text: &[u8]) {
-    io::write_all(STDOUT_FILENO, text);
+fn write(rt: &impl Print, text: &[u8]) -> io::Result<()> {
+    rt.write_all(text)
 }
 
-fn write_number(n: usize) {
-    io::print_decimal(STDOUT_FILENO, n as u64);
+fn write_number(rt: &impl Print, n: usize) -> io::Result<()> {
+    rt.print(n)
 }
 
 // How an operand is given: in the code's last digit, or in one, two or four bytes.
-fn write_size(code: u8, length: usize) {
+fn write_size(rt: &impl Print, code: u8, length: usize) -> io::Result<()> {
     if length == 1 {
-        write(b".");
-        write_number((code % 16) as usize);
-        return;
+        write(rt, b".")?;
+        return write_number(rt, (code % 16) as usize);
     }
     if length == 2 {
-        write(b".b");
-        return;
+        return write(rt, b".b");
     }
     if length == 3 {
-        write(b".h");
-        return;
+        return write(rt, b".h");
     }
-    write(b".w");
+    write(rt, b".w")
 }
 
 // Character `k` of a mnemonic; a space past its end.
@@ -39,89 +37,91 @@ fn character(name: u32, k: u32) -> u8 {
     words::byte_at(&names::NAMES, (name as usize) * 8 + (k as usize))
 }
 
-fn write_mnemonic(code: u8, i: Instruction, length: usize) {
+fn write_mnemonic(rt: &impl Print, code: u8, i: Instruction, length: usize) -> io::Result<()> {
     let name = mnemonic::parts_of(i).number;
     for k in 0..8 {
         let character = [character(name, k)];
         if character[0] != b' ' {
-            write(&character);
+            write(rt, &character)?;
         }
     }
     if name < names::SIZED {
-        write_size(code, length);
+        write_size(rt, code, length)?;
     }
+    Ok(())
 }
 
 // The fixed bytes, and those that each entry of a switch's table adds.
-fn write_length(format: u16) {
-    write(b" ");
-    write_number((format % 16) as usize);
+fn write_length(rt: &impl Print, format: u16) -> io::Result<()> {
+    write(rt, b" ")?;
+    write_number(rt, (format % 16) as usize)?;
     let each = format % 0x8000 / 32;
     if 0 < each {
-        write(b"+");
-        write_number(each as usize);
-        write(b"n");
+        write(rt, b"+")?;
+        write_number(rt, each as usize)?;
+        write(rt, b"n")?;
     }
+    Ok(())
 }
 
 // A switch, and the modes that a code is served in.
-fn write_marks(format: u16) {
+fn write_marks(rt: &impl Print, format: u16) -> io::Result<()> {
     if 32 <= format {
-        write(b" switch");
+        write(rt, b" switch")?;
     }
-    write(b" normal");
+    write(rt, b" normal")?;
     if format / 16 % 2 == 1 {
-        write(b" double");
+        write(rt, b" double")?;
     }
+    Ok(())
 }
 
 // The mnemonic is that of the instruction which the code and operands of zeros make.
-fn write_served(formats: &[u16], code: u8, format: u16)
+fn write_served(rt: &impl Print, formats: &[u16], code: u8, format: u16) -> io::Result<()>
     requires { Sheet formats.now }
 {
     let bytes = [code, 0, 0, 0, 0, 0, 0, 0, 0, 0];
     let decoded = opcode::decode(formats, &bytes, 10, 0);
     match decoded {
         Decoded::At(i, length) => {
-            write(b" ");
-            write_mnemonic(code, i, length);
-            write_length(format);
-            write_marks(format);
+            write(rt, b" ")?;
+            write_mnemonic(rt, code, i, length)?;
+            write_length(rt, format)?;
+            write_marks(rt, format)
         }
-        Decoded::Unserved => write(b" -"),
-        Decoded::Past => write(b" past"),
+        Decoded::Unserved => write(rt, b" -"),
+        Decoded::Past => write(rt, b" past"),
     }
 }
 
-fn write_row(formats: &[u16], code: u8)
+fn write_row(rt: &impl Print, formats: &[u16], code: u8) -> io::Result<()>
     requires { Sheet formats.now }
 {
     let format = opcode::format::format_of(formats, code);
     if format == 0 {
-        write(b" - unserved");
-        return;
+        return write(rt, b" - unserved");
     }
     if 0x8000 <= format {
-        write(b" DOUBLE");
-        write_length(format);
-        write(b" prefix");
-        return;
+        write(rt, b" DOUBLE")?;
+        write_length(rt, format)?;
+        return write(rt, b" prefix");
     }
-    write_served(formats, code, format);
+    write_served(rt, formats, code, format)
 }
 
-fn write_code(code: u8) {
+fn write_code(rt: &impl Print, code: u8) -> io::Result<()> {
     let digits = b"0123456789ABCDEF";
     let first = words::byte_at(digits, (code / 16) as usize);
     let last = words::byte_at(digits, (code % 16) as usize);
-    write(&[first, last]);
+    write(rt, &[first, last])
 }
 
-fn main() {
+fn main(rt: HostRuntime) -> io::Result<()> {
     let formats = opcode::format::formats();
     for code in 0..=255u8 {
-        write_code(code);
-        write_row(&formats, code);
-        write(b"\n");
+        write_code(&rt, code)?;
+        write_row(&rt, &formats, code)?;
+        write(&rt, b"\n")?;
     }
+    Ok(())
 }

@@ -1,2 +1,2 @@
--- What reading and printing answer.
+-- What printing answers.
 pub mod Answers

@@ -1,36 +1,36 @@
 // The page printer: a run file on standard input, its page on standard output.
 #![tactic(auto)]
+
 ghost use Rattle.std.specs.Prelude.{◌≡◌, ◌≤◌, length};
 ghost use Rattle.report.specs.Report.{output, printed, text_of};
 ghost use Rattle.printer.specs.Input.{Within};
 
-use libc::{STDIN_FILENO, STDOUT_FILENO};
+use std::io::Read;
 
 // Tells what reading gave: so many bytes at the start of the buffer, or that a read failed.
-#[derive(Clone, Copy)]
+#[derive(Drop)]
 enum Input {
     Read(usize),
     Failed,
 }
 
-// Reads once. A read that a signal interrupts before a byte has come counts as one that failed, as in io.
-fn read_some(buf: &mut [u8]) -> Input
+// Reads once. A read that a signal interrupts before a byte has come counts as one that failed.
+fn read_some<R: Read>(reader: &mut R, buf: &mut [u8]) -> Input
     ensures { Within result (length buf.old) }
 {
-    let got = libc::read(STDIN_FILENO, buf);
-    if got < 0 {
-        return Input::Failed;
+    match reader.read(buf) {
+        Ok(n) => Input::Read(n),
+        Err(_) => Input::Failed,
     }
-    Input::Read(io::count(got, buf))
 }
 
 // Reads until the buffer is full or the input ends.
-fn read_input(buf: &mut [u8]) -> Input
+fn read_input<R: Read>(reader: &mut R, buf: &mut [u8]) -> Input
     ensures { Within result (length buf.old) }
 {
     let mut done = 0;
     while done < buf.len() {
-        let some = read_some(&mut buf[done..]);
+        let some = read_some(reader, &mut buf[done..]);
         let Input::Read(more) = some else {
             return Input::Failed;
         };
@@ -54,17 +54,17 @@ fn page_of(file: &[u8], page: &mut [u8]) -> usize
     report::report(file, &mut workspace, &mut memory, &mut stack, page)
 }
 
-fn main() {
+fn main(rt: HostRuntime) {
     // One byte more than a run file may have: a longer input fills it, and is 16.
     let mut input = [0u8; 8193];
-    let read = read_input(&mut input);
+    let read = read_input(&mut rt.stdin(), &mut input);
     let Input::Read(length) = read else {
-        io::write_all(2, b"printer: the input could not be read\n");
+        let _ = eprintln!(rt; "printer: the input could not be read");
         return;
     };
     let mut page = [0u8; 32768];
     let written = page_of(&input[..length], &mut page);
-    if !io::write_all(STDOUT_FILENO, &page[..written]) {
-        io::write_all(2, b"printer: the page could not be written\n");
+    if rt.write_all(&page[..written]).is_err() {
+        let _ = eprintln!(rt; "printer: the page could not be written");
     }
 }

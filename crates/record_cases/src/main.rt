@@ -1,49 +1,50 @@
 // Reads cases on standard input and prints, a line each, the number that refuses the record and the span and line of the offset. A case is
 // the record's length in two bytes, the record, and an offset in four.
 #![tactic(auto)]
-use libc::STDOUT_FILENO;
+
 use record::Line;
 use source::Lookup;
+use std::io;
+use std::io::Read;
 
-fn print_lookup(lookup: Lookup) {
+fn print_lookup(rt: &impl Print, lookup: Lookup) -> io::Result<()> {
     let Lookup::Found(span) = lookup else {
-        io::write_all(STDOUT_FILENO, b"outside");
-        return;
+        return print!(rt; "outside");
     };
-    io::print_decimal(STDOUT_FILENO, span.first as u64);
-    io::write_all(STDOUT_FILENO, b" ");
-    io::print_decimal(STDOUT_FILENO, span.last as u64);
-    io::write_all(STDOUT_FILENO, b" ");
-    io::print_decimal(STDOUT_FILENO, span.line as u64);
+    let first = span.first;
+    let last = span.last;
+    let line = span.line;
+    print!(rt; "{first} {last} {line}")
 }
 
-fn print_case(r: &[u8], offset: u32) {
-    io::print_decimal(STDOUT_FILENO, record::record_number(r) as u64);
-    io::write_all(STDOUT_FILENO, b" ");
+fn print_case(rt: &impl Print, r: &[u8], offset: u32) -> io::Result<()> {
+    let number = record::record_number(r);
+    print!(rt; "{number} ")?;
     let answer = record::line_span(r, offset);
     match answer {
-        Line::Refused(_) => {
-            io::write_all(STDOUT_FILENO, b"-");
-        }
-        Line::At(lookup) => print_lookup(lookup),
+        Line::Refused(_) => print!(rt; "-")?,
+        Line::At(lookup) => print_lookup(rt, lookup)?,
     }
-    io::write_all(STDOUT_FILENO, b"\n");
+    println!(rt; "")
 }
 
-fn print_cases(cases: &[u8]) {
+fn print_cases(rt: &impl Print, cases: &[u8]) -> io::Result<()> {
     let mut at = 0;
     while at < cases.len() {
         let length = words::halfword_at(cases, at) as usize;
         print_case(
+            rt,
             words::part(cases, at + 2, length),
             words::word_at(cases, at + 2 + length),
-        );
+        )?;
         at += 6 + length;
     }
+    Ok(())
 }
 
-fn main() {
-    let mut input = io::large_buffer();
-    let n = io::read_full(0, &mut input);
-    print_cases(&input[..n]);
+// At most 65,536 bytes are read.
+fn main(rt: HostRuntime) -> io::Result<()> {
+    let mut input = Vec::new(rt.alloc());
+    rt.stdin().take(65536).read_to_end(&mut input)?;
+    print_cases(&rt, &input)
 }
