@@ -1,0 +1,23 @@
+-- `mend::list_pairs` meets its contract. The loop's invariant: both words of those dropped of the pairs passed are listed, and
+-- the place is behind them. The measure is what is left.
+use Prim.Native.Nat.{◌+◌, ◌*◌, ◌-◌, ◌≤◌}
+use mathlib.Core.Path.{◌≡◌, ◌∙◌, refl, sym}
+use mathlib.Core.Logic.{⊎_elim}
+use native.Mathlib.Omega.{arith}
+use native.Mathlib.Nat.{add-zero}
+use lib.ListN.{length, length-append}
+use lib.Seq.{sets, length-sets}
+use borrow.Author.Rules.{rules}
+use Rattle.words.proofs.Sets.{sets_behind}
+use Rattle.header.specs.Header.{sources_at}
+use Rattle.mend.specs.Mend.{word_places, dropped_pairs}
+use Rattle.mend.proofs.Passing.{Passed, passed_start, passed-kept, passed-dropped, passed_over}
+use Rattle.mend.proofs.list_pairs.Given as goal
+
+abbrev pub invariant-loop : goal.invariant-loop
+invariant-loop l =
+    Passed (λ kept dropped. (l.places ≡ sets l.initial.places l.to dropped) × (l.next ≡ l.to + length dropped)) l.r l.h l.initial.at l.end l.at l.least l.counter
+
+abbrev pub decreases-loop : goal.decreases-loop
+decreases-loop l = l.end - l.counter
+

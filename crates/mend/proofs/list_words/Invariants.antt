@@ -1,0 +1,19 @@
+-- `mend::list_words` meets its contract. The loop's invariant: the stores of the places that are left give those of all. The
+-- measure is what is left.
+use Prim.Native.Nat.{suc, ◌+◌, ◌*◌, ◌-◌}
+use mathlib.Core.Path.{◌≡◌, ◌∙◌, sym}
+use native.Mathlib.Omega.{arith}
+use native.Mathlib.Nat.{add-zero, sub-zero, sub-eq-zero_of_le}
+use lib.Seq.{sets, length-sets}
+use borrow.Author.Rules.{rules}
+use Rattle.words.proofs.Left.{one_left}
+use Rattle.mend.specs.Mend.{word_places}
+use Rattle.mend.proofs.list_words.Given as goal
+
+abbrev pub invariant-loop-k : goal.invariant-loop-k
+invariant-loop-k l =
+    (l.place ≡ l.at + 4 * l.k) × (sets l.initial.places l.to (word_places l.at l.n) ≡ sets l.places (l.to + l.k) (word_places l.place (l.n - l.k)))
+
+abbrev pub decreases-loop-k : goal.decreases-loop-k
+decreases-loop-k l = l.n - l.k
+
