@@ -65,14 +65,6 @@ record_of-r-requires c =
     let loop = c.loop-k in
     omega (arith, loop.invariant.0, loop-test.true)
 
-pub is_relocated-requires : goal.is_relocated-requires
-is_relocated-requires c =
-    let pre = c.requires in
-    record {
-      directory_len_bound = pre.directory_len_bound;
-      r_value = sound (goal.at.is_relocated-requires c).After-record_of-r;
-    }
-
 pub returns-then-not-is_relocated : goal.returns-then-not-is_relocated
 returns-then-not-is_relocated c =
     let if1 = c.if-not-is_relocated in
@@ -85,39 +77,6 @@ returns-then-not-is_relocated c =
     sym (loop.invariant.2 lists ∙ same-fails S a.copy.now loop.at loop.k (below (goal.at.returns-then-not-is_relocated c).After-record_of-r lists)
     record_of.result.now (record_of.ensures lists) is-relocated.result (compared (goal.at.returns-then-not-is_relocated c).After-is_relocated lists)
     (if1.true))
-
-pub overflow_add-at : goal.overflow_add-at
-overflow_add-at c =
-    let code_of_lem = c.code_of-code in
-    let record_of = c.record_of-r in
-    let loop-test = c.loop-k-test in
-    let loop = c.loop-k in
-    omega (
-      arith,
-      loop.invariant.0,
-      loop.invariant.1,
-      loop-test.true,
-      sound-code record_of.result.now (sound (goal.at.overflow_add-at c).After-record_of-r),
-      ap length code_of_lem.ensures,
-    )
-
-pub loop-k-preserved : goal.loop-k-preserved
-loop-k-preserved c =
-    let code_of_lem = c.code_of-code in
-    let if1 = c.if-not-is_relocated in
-    let is-relocated = c.is_relocated in
-    let record_of = c.record_of-r in
-    let loop = c.loop-k in
-    let a = c.args in
-    let size = ap length code_of_lem.ensures in (
-      loop.invariant.0,
-      omega (arith, loop.invariant.1, sound-code record_of.result.now (sound (goal.at.loop-k-preserved c).After-record_of-r), size),
-      λ lists.
-          let S = members_of a.records.now lists a.directory.now in
-          rw size (loop.invariant.2 lists ∙ same_next S a.copy.now loop.at loop.k (below (goal.at.loop-k-preserved c).After-record_of-r lists)
-          record_of.result.now (record_of.ensures lists) is-relocated.result (compared (goal.at.loop-k-preserved c).After-is_relocated lists)
-          (if1.false)),
-    )
 
 pub returns : goal.returns
 returns c =
