@@ -1,17 +1,8 @@
 -- `mend::copy_pairs` meets its contract. The loop's invariant: those kept of the pairs passed are copied, and the place is
 -- behind them. The measure is what is left.
-use Prim.Native.Nat.{◌+◌, ◌*◌, ◌-◌, ◌≤◌}
-use mathlib.Core.Path.{◌≡◌, ◌∙◌, refl, sym}
-use mathlib.Core.Logic.{⊎_elim}
-use native.Mathlib.Omega.{arith}
-use native.Mathlib.Nat.{add-zero}
-use lib.ListN.{length}
-use lib.Seq.{sets, length-sets}
-use borrow.Author.Rules.{rules}
-use Rattle.header.specs.Header.{code_at, constants_at, relocation_at, versions_at, sources_at, record_length}
-use Rattle.mend.specs.Mend.{pair_bytes, kept_pairs}
-use Rattle.mend.proofs.Passing.{Passed, passed_start, passed-kept, passed-dropped, passed_over}
-use Rattle.mend.proofs.Sifting.{Copied, one-pair-copied, pairs-most}
+use Prim.Native.Nat.{◌-◌}
+use Rattle.mend.proofs.Passing.{Passed}
+use Rattle.mend.proofs.Sifting.{Copied}
 use Rattle.mend.proofs.copy_pairs.Given as goal
 
 abbrev pub invariant-loop : goal.invariant-loop
@@ -20,4 +11,3 @@ invariant-loop l =
 
 abbrev pub decreases-loop : goal.decreases-loop
 decreases-loop l = l.end - l.counter
-

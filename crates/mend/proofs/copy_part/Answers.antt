@@ -1,12 +1,11 @@
 -- `mend::copy_part` meets its contract. The loop's invariant: the stores of what is left give those of the whole part. The
 -- measure is what is left.
-use Prim.Native.Nat.{suc, ◌+◌, ◌-◌, ◌≤◌}
+use Prim.Native.Nat.{suc, ◌+◌}
 use mathlib.Core.Path.{◌≡◌, ◌∙◌, refl, sym}
 use native.Mathlib.Omega.{arith}
 use native.Mathlib.Nat.{add-zero}
-use lib.ListN.{length, drop, drop_of_length-le}
-use lib.Seq.{sets, length-sets}
-use borrow.Author.Rules.{rules}
+use lib.ListN.{drop_of_length-le}
+use lib.Seq.{sets}
 use Rattle.words.proofs.Slices.{drop-one}
 use Rattle.mend.proofs.copy_part.Goals.{After-loop-i}
 use Rattle.mend.proofs.copy_part.Goals as goal

@@ -1,17 +1,10 @@
 -- `mend::list_pairs` meets its contract. The loop's invariant: both words of those dropped of the pairs passed are listed, and
 -- the place is behind them. The measure is what is left.
-use Prim.Native.Nat.{◌+◌, ◌*◌, ◌-◌, ◌≤◌}
-use mathlib.Core.Path.{◌≡◌, ◌∙◌, refl, sym}
-use mathlib.Core.Logic.{⊎_elim}
-use native.Mathlib.Omega.{arith}
-use native.Mathlib.Nat.{add-zero}
-use lib.ListN.{length, length-append}
-use lib.Seq.{sets, length-sets}
-use borrow.Author.Rules.{rules}
-use Rattle.words.proofs.Sets.{sets_behind}
-use Rattle.header.specs.Header.{sources_at}
-use Rattle.mend.specs.Mend.{word_places, dropped_pairs}
-use Rattle.mend.proofs.Passing.{Passed, passed_start, passed-kept, passed-dropped, passed_over}
+use Prim.Native.Nat.{◌+◌, ◌-◌}
+use mathlib.Core.Path.{◌≡◌}
+use lib.ListN.{length}
+use lib.Seq.{sets}
+use Rattle.mend.proofs.Passing.{Passed}
 use Rattle.mend.proofs.list_pairs.Given as goal
 
 abbrev pub invariant-loop : goal.invariant-loop
@@ -20,4 +13,3 @@ invariant-loop l =
 
 abbrev pub decreases-loop : goal.decreases-loop
 decreases-loop l = l.end - l.counter
-

@@ -1,11 +1,10 @@
 -- `mend::list_words` meets its contract. The loop's invariant: the stores of the places that are left give those of all. The
 -- measure is what is left.
-use Prim.Native.Nat.{suc, ◌+◌, ◌*◌, ◌-◌}
+use Prim.Native.Nat.{suc, ◌+◌}
 use mathlib.Core.Path.{◌≡◌, ◌∙◌, sym}
 use native.Mathlib.Omega.{arith}
 use native.Mathlib.Nat.{add-zero, sub-zero, sub-eq-zero_of_le}
-use lib.Seq.{sets, length-sets}
-use borrow.Author.Rules.{rules}
+use lib.Seq.{sets}
 use Rattle.words.proofs.Left.{one_left}
 use Rattle.mend.specs.Mend.{word_places}
 use Rattle.mend.proofs.list_words.Goals.{After-loop-k}

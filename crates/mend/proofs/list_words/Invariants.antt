@@ -1,12 +1,8 @@
 -- `mend::list_words` meets its contract. The loop's invariant: the stores of the places that are left give those of all. The
 -- measure is what is left.
-use Prim.Native.Nat.{suc, ◌+◌, ◌*◌, ◌-◌}
-use mathlib.Core.Path.{◌≡◌, ◌∙◌, sym}
-use native.Mathlib.Omega.{arith}
-use native.Mathlib.Nat.{add-zero, sub-zero, sub-eq-zero_of_le}
-use lib.Seq.{sets, length-sets}
-use borrow.Author.Rules.{rules}
-use Rattle.words.proofs.Left.{one_left}
+use Prim.Native.Nat.{◌+◌, ◌*◌, ◌-◌}
+use mathlib.Core.Path.{◌≡◌}
+use lib.Seq.{sets}
 use Rattle.mend.specs.Mend.{word_places}
 use Rattle.mend.proofs.list_words.Given as goal
 
@@ -16,4 +12,3 @@ invariant-loop-k l =
 
 abbrev pub decreases-loop-k : goal.decreases-loop-k
 decreases-loop-k l = l.n - l.k
-

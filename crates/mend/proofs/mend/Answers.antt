@@ -4,7 +4,6 @@ use Prim.Native.Nat.{◌+◌, ◌*◌, ◌-◌, ◌/◌, ◌≤◌, ◌<◌}
 use mathlib.Core.Path.{◌≡◌, ◌∙◌, sym}
 use native.Mathlib.Omega.{arith}
 use lib.ListN.{length}
-use borrow.Author.Rules.{rules}
 use Rattle.header.specs.Header.{versions_at}
 use Rattle.record.specs.Number.{size_number}
 use Rattle.mend.specs.Mend.{mended_record, dropped_words}
@@ -25,7 +24,6 @@ none c = sym c.size_number-number.ensures ∙ c.if-number-ne0.false
 
 -- What is known of the sizes once they are counted.
 known : (c : After-versions_at) → (size_number c.args.r.now ≡ 0) →
-   
     let h = c.header_of-h.result in
     Measures c.args.r.now h
     × (c.versions_left-versions.result ≤ h.versions)
@@ -41,7 +39,6 @@ known c has-none =
     )
 
 record-length : (c : After-versions_at) → (size_number c.args.r.now ≡ 0) →
-   
     c.versions_at.result + 4 * c.versions_left-versions.result + 8 * c.pairs_kept-pairs.result
     ≡ length (mended_record c.args.r.now)
 record-length c has-none =
@@ -49,7 +46,6 @@ record-length c has-none =
     (sym (mended-length c.args.r.now (has-none)))
 
 list_length : (c : After-versions_at) → (size_number c.args.r.now ≡ 0) →
-   
     let h = c.header_of-h.result in
     h.versions - c.versions_left-versions.result + (h.sources - 2 * c.pairs_kept-pairs.result)
     ≡ length (dropped_words c.args.r.now)
@@ -65,25 +61,21 @@ overflow_add-length-2 c = let k = known (goal.at.overflow_add-length-2 c).After-
 
 -- What the tests tell of the new record and of the list.
 record-long : (c : Then-out-length) → (c.versions_at.result + 4 * c.versions_left-versions.result + 8 * c.pairs_kept-pairs.result ≡ length (mended_record c.args.r.now)) →
-   
     let a = c.args in
     length a.out.now < length (mended_record a.r.now)
 record-long c has-record-length = omega (arith, has-record-length, c.if-out-length.true)
 
 record-fits : (c : Else-out-length) → (c.versions_at.result + 4 * c.versions_left-versions.result + 8 * c.pairs_kept-pairs.result ≡ length (mended_record c.args.r.now)) →
-   
     let a = c.args in
     length (mended_record a.r.now) ≤ length a.out.now
 record-fits c has-record-length = omega (arith, has-record-length, c.if-out-length.false)
 
 list-long : (c : Then-places-dropped) → (let h = c.header_of-h.result in h.versions - c.versions_left-versions.result + (h.sources - 2 * c.pairs_kept-pairs.result) ≡ length (dropped_words c.args.r.now)) →
-   
     let a = c.args in
     length a.places.now < length (dropped_words a.r.now)
 list-long c has-list_length = omega (arith, has-list_length, c.if-places-dropped.true)
 
 list-fits : (c : Else-places-dropped) → (let h = c.header_of-h.result in h.versions - c.versions_left-versions.result + (h.sources - 2 * c.pairs_kept-pairs.result) ≡ length (dropped_words c.args.r.now)) →
-   
     let a = c.args in
     length (dropped_words a.r.now) ≤ length a.places.now
 list-fits c has-list_length = omega (arith, has-list_length, c.if-places-dropped.false)

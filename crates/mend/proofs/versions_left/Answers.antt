@@ -1,5 +1,4 @@
 -- `mend::versions_left` meets its contract: all words where the first is well formed, else none.
-use borrow.Author.Rules.{rules}
 use Rattle.mend.proofs.versions_left.Goals as goal
 
 pub returns-then-version_sound : goal.returns-then-version_sound

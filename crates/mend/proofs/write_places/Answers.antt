@@ -2,7 +2,6 @@
 use Prim.Native.Nat.{◌/◌, ◌≤◌}
 use mathlib.Core.Path.{◌≡◌}
 use native.Mathlib.Omega.{arith}
-use borrow.Author.Rules.{rules}
 use Rattle.header.specs.Header.{sources_at}
 use Rattle.mend.proofs.Measuring.{Measures, measures, dropped-stored}
 use Rattle.mend.proofs.write_places.Goals.{After-list_words-arg-2-1, Start}
@@ -37,7 +36,6 @@ list_pairs-requires c =
 
 -- Before the odd word is listed.
 last : (c : After-list_words-arg-2-1) → (let a = c.args in Measures a.r.now a.h × (a.versions ≤ a.h.versions) × (a.pairs ≤ a.h.sources / 2)) →
-   
     let a = c.args in
     Measures a.r.now a.h × (a.pairs ≤ a.h.sources / 2) × (c.sources_at-table.result ≡ sources_at a.h)
 last c has-known =

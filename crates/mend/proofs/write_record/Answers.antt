@@ -2,7 +2,6 @@
 use Prim.Native.Nat.{◌≤◌}
 use mathlib.Core.Path.{◌≡◌}
 use native.Mathlib.Omega.{arith}
-use borrow.Author.Rules.{rules}
 use Rattle.header.specs.Header.{record_length, versions_at}
 use Rattle.mend.proofs.Measuring.{Measures, measures, mended-stored}
 use Rattle.mend.proofs.write_record.Goals.{After-versions_at}
