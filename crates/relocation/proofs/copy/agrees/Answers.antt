@@ -1,14 +1,8 @@
 -- `copy::agrees` meets its contract: the bytes from an offset on decide, for every set with this directory. The measure is the
 -- bytes left.
-use Prim.Native.Nat.{ℕ, ◌-◌}
-use mathlib.Core.List.{List}
-use mathlib.Core.Path.{◌≡◌, ◌∙◌, sym}
+use mathlib.Core.Path.{◌∙◌, sym}
 use native.Mathlib.Nat.{sub-zero}
-use lib.ListN.{length, drop}
-use borrow.Author.Rules.{rules}
-use Rattle.words.specs.Series.{series}
 use Rattle.module_set.specs.Members.{members_of}
-use Rattle.relocation.specs.Relocation.{begins}
 use Rattle.relocation.specs.Marks.{marked_byte}
 use Rattle.relocation.proofs.Copying.{agree-over, agree-short, agree-fails, agree-next}
 use Rattle.relocation.proofs.copy.agrees.Goals as goal

@@ -2,15 +2,12 @@
 -- bytes left.
 use Prim.Native.Nat.{ℕ, ◌-◌}
 use mathlib.Core.List.{List}
-use mathlib.Core.Path.{◌≡◌, ◌∙◌, sym}
-use native.Mathlib.Nat.{sub-zero}
+use mathlib.Core.Path.{◌≡◌}
 use lib.ListN.{length, drop}
-use borrow.Author.Rules.{rules}
 use Rattle.words.specs.Series.{series}
 use Rattle.module_set.specs.Members.{members_of}
 use Rattle.relocation.specs.Relocation.{begins}
 use Rattle.relocation.specs.Marks.{marked_byte}
-use Rattle.relocation.proofs.Copying.{agree-over, agree-short, agree-fails, agree-next}
 use Rattle.relocation.proofs.copy.agrees.Given as goal
 
 abbrev pub invariant-loop-at : goal.invariant-loop-at
@@ -21,4 +18,3 @@ invariant-loop-at l =
 
 abbrev pub decreases-loop-at : goal.decreases-loop-at
 decreases-loop-at l = length l.code - l.at
-

@@ -1,17 +1,16 @@
 -- `copy::copy_size` meets its contract: the sizes so far and those of the members from one on make the whole. The measure is
 -- the modules left.
-use Prim.Native.Nat.{ℕ, ◌-◌, ◌≤◌, ◌<◌}
-use mathlib.Core.List.{List, []}
+use Prim.Native.Nat.{◌≤◌, ◌<◌}
+use mathlib.Core.List.{[]}
 use mathlib.Core.Path.{◌≡◌, ◌∙◌, ap}
 use native.Mathlib.Omega.{arith}
 use lib.ListN.{length}
-use borrow.Author.Rules.{rules}
 use Rattle.record.proofs.Sound.{sound-code}
 use Rattle.record.specs.Number.{record_number}
 use Rattle.module_set.specs.Members.{members_of}
 use Rattle.module_set.proofs.Every.{members-sound}
 use Rattle.module_set.proofs.Shares.{member-count}
-use Rattle.relocation.proofs.Copying.{Counted, counted_start, counted-over, counted_next}
+use Rattle.relocation.proofs.Copying.{counted_start, counted-over, counted_next}
 use Rattle.relocation.proofs.copy.copy_size.Goals.{After-code_of-code}
 use Rattle.relocation.proofs.copy.copy_size.Goals as goal
 

@@ -1,17 +1,9 @@
 -- `copy::copy_size` meets its contract: the sizes so far and those of the members from one on make the whole. The measure is
 -- the modules left.
-use Prim.Native.Nat.{ℕ, ◌-◌, ◌≤◌, ◌<◌}
-use mathlib.Core.List.{List, []}
-use mathlib.Core.Path.{◌≡◌, ◌∙◌, ap}
-use native.Mathlib.Omega.{arith}
-use lib.ListN.{length}
-use borrow.Author.Rules.{rules}
-use Rattle.record.proofs.Sound.{sound-code}
-use Rattle.record.specs.Number.{record_number}
+use Prim.Native.Nat.{ℕ, ◌-◌, ◌≤◌}
+use mathlib.Core.List.{List}
 use Rattle.module_set.specs.Members.{members_of}
-use Rattle.module_set.proofs.Every.{members-sound}
-use Rattle.module_set.proofs.Shares.{member-count}
-use Rattle.relocation.proofs.Copying.{Counted, counted_start, counted-over, counted_next}
+use Rattle.relocation.proofs.Copying.{Counted}
 use Rattle.relocation.proofs.copy.copy_size.Given as goal
 
 abbrev pub invariant-loop-k : goal.invariant-loop-k
@@ -21,4 +13,3 @@ invariant-loop-k l =
 
 abbrev pub decreases-loop-k : goal.decreases-loop-k
 decreases-loop-k l = l.k-end - l.k
-

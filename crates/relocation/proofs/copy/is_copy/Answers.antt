@@ -1,19 +1,17 @@
 -- `copy::is_copy` meets its contract: what the copy begins with from a place on decides, for the members from one on. The
 -- measure is the modules left.
-use Prim.Native.Nat.{ℕ, ◌-◌, ◌*◌, ◌≤◌, ◌<◌}
+use Prim.Native.Nat.{ℕ, ◌<◌}
 use mathlib.Core.List.{List, []}
 use mathlib.Core.Path.{◌≡◌, ◌∙◌, sym, ap}
 use native.Mathlib.Omega.{arith}
 use lib.ListN.{length, drop, length-drop}
 use lib.Seq.{take_all}
-use borrow.Author.Tests.{not-true, not-false}
-use borrow.Author.Rules.{rules}
 use Rattle.record.proofs.Sound.{sound-code}
 use Rattle.record.specs.Number.{record_number}
 use Rattle.module_set.specs.Members.{members_of}
 use Rattle.module_set.proofs.Every.{members-sound}
 use Rattle.module_set.proofs.Shares.{member-count}
-use Rattle.relocation.specs.Relocation.{copies_from, copy_of, begins, relocated}
+use Rattle.relocation.specs.Relocation.{begins, relocated}
 use Rattle.relocation.proofs.Copying.{same_start, same_over, same-fails, same_next}
 use Rattle.relocation.proofs.copy.is_copy.Goals.{After-is_relocated, After-record_of-r}
 use Rattle.relocation.proofs.copy.is_copy.Goals as goal
@@ -31,7 +29,7 @@ sound : (c : After-record_of-r) → record_number c.record_of-r.result.now ≡ 0
 sound c =
     let a = c.args in
     let S = members_of a.records.now [] a.directory.now in
-    ap record_number (c.record_of-r.ensures []) ∙ members-sound S (c.requires.by_index []) c.loop-k.k (below (goal.at.? c).After-record_of-r [])
+    ap record_number (c.record_of-r.ensures []) ∙ members-sound S (c.requires.by_index []) c.loop-k.k (below c [])
 
 -- What is compared with is the rest of the copy.
 compared : (c : After-is_relocated) (lists : List ℕ) →
@@ -88,3 +86,35 @@ returns c =
     let S = members_of a.records.now lists a.directory.now in
     sym (loop.invariant.2 lists ∙ same_over S a.copy.now loop.at loop.k
     (omega (arith, count.ensures a.records.now lists, loop-test.false)))
+
+pub is_relocated-requires-clause-r_value : goal.is_relocated-requires-clause-r_value
+is_relocated-requires-clause-r_value c = sound (goal.at.is_relocated-requires-clause-r_value c).After-record_of-r
+
+pub overflow_add-at : goal.overflow_add-at
+overflow_add-at c =
+    let r = c.record_of-r.result.now in
+    let code = sound-code r (sound (goal.at.overflow_add-at c).After-record_of-r) in
+    omega (
+      arith,
+      c.loop-k.invariant.0,
+      c.loop-k.invariant.1,
+      c.loop-k-test.true,
+      code,
+      ap length c.code_of-code.ensures,
+    )
+
+pub loop-k-preserved : goal.loop-k-preserved
+loop-k-preserved c =
+    let at = goal.at.loop-k-preserved c in
+    let a = c.args in
+    let r = c.record_of-r.result.now in
+    let loop = c.loop-k in
+    let size = ap length c.code_of-code.ensures in (
+      loop.invariant.0,
+      omega (arith, loop.invariant.1, sound-code r (sound at.After-record_of-r), size),
+      λ lists.
+          let S = members_of a.records.now lists a.directory.now in
+          rw size (loop.invariant.2 lists ∙ same_next S a.copy.now loop.at loop.k (below at.After-record_of-r lists)
+          r (c.record_of-r.ensures lists) c.is_relocated.result (compared at.After-is_relocated lists)
+          c.if-not-is_relocated.false),
+    )

@@ -1,20 +1,11 @@
 -- `copy::is_copy` meets its contract: what the copy begins with from a place on decides, for the members from one on. The
 -- measure is the modules left.
-use Prim.Native.Nat.{ℕ, ◌-◌, ◌*◌, ◌≤◌, ◌<◌}
-use mathlib.Core.List.{List, []}
-use mathlib.Core.Path.{◌≡◌, ◌∙◌, sym, ap}
-use native.Mathlib.Omega.{arith}
-use lib.ListN.{length, drop, length-drop}
-use lib.Seq.{take_all}
-use borrow.Author.Tests.{not-true, not-false}
-use borrow.Author.Rules.{rules}
-use Rattle.record.proofs.Sound.{sound-code}
-use Rattle.record.specs.Number.{record_number}
+use Prim.Native.Nat.{ℕ, ◌-◌, ◌*◌, ◌≤◌}
+use mathlib.Core.List.{List}
+use mathlib.Core.Path.{◌≡◌}
+use lib.ListN.{drop}
 use Rattle.module_set.specs.Members.{members_of}
-use Rattle.module_set.proofs.Every.{members-sound}
-use Rattle.module_set.proofs.Shares.{member-count}
-use Rattle.relocation.specs.Relocation.{copies_from, copy_of, begins, relocated}
-use Rattle.relocation.proofs.Copying.{same_start, same_over, same-fails, same_next}
+use Rattle.relocation.specs.Relocation.{copies_from, copy_of, begins}
 use Rattle.relocation.proofs.copy.is_copy.Given as goal
 
 abbrev pub invariant-loop-k : goal.invariant-loop-k
@@ -26,4 +17,3 @@ invariant-loop-k l =
 
 abbrev pub decreases-loop-k : goal.decreases-loop-k
 decreases-loop-k l = l.k-end - l.k
-

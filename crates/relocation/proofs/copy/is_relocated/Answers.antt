@@ -2,7 +2,6 @@
 use mathlib.Core.List.{List}
 use mathlib.Core.Path.{◌∙◌, ap}
 use Prim.Native.Nat.{ℕ}
-use borrow.Author.Rules.{rules}
 use Rattle.module_set.specs.Members.{members_of}
 use Rattle.relocation.specs.Relocation.{begins}
 use Rattle.relocation.proofs.Sound.{relocated-marked}

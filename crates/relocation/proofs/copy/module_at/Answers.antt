@@ -2,7 +2,6 @@
 use mathlib.Core.Path.{◌∙◌, ap}
 use mathlib.Core.List.{[]}
 use native.Mathlib.Omega.{arith}
-use borrow.Author.Rules.{rules}
 use Rattle.module_set.specs.Members.{members_of, resolved}
 use Rattle.module_set.proofs.Shares.{member-count}
 use Rattle.module_set.proofs.Linking.{resolved-small}

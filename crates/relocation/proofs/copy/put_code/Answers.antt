@@ -1,10 +1,8 @@
 -- `copy::put_code` meets its contract: the stores of what is left give those of the whole code. The measure is what is left.
-use Prim.Native.Nat.{◌-◌}
 use mathlib.Core.Path.{◌≡◌, ◌∙◌, refl, sym}
 use native.Mathlib.Numerals.{add-one}
-use lib.ListN.{length, drop, drop_of_length-le}
-use lib.Seq.{sets, length-sets}
-use borrow.Author.Rules.{rules}
+use lib.ListN.{drop_of_length-le}
+use lib.Seq.{sets}
 use Rattle.words.proofs.Slices.{drop-one}
 use Rattle.relocation.proofs.copy.put_code.Goals.{After-loop-i}
 use Rattle.relocation.proofs.copy.put_code.Goals as goal

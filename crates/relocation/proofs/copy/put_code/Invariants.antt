@@ -1,11 +1,8 @@
 -- `copy::put_code` meets its contract: the stores of what is left give those of the whole code. The measure is what is left.
 use Prim.Native.Nat.{◌-◌}
-use mathlib.Core.Path.{◌≡◌, ◌∙◌, refl, sym}
-use native.Mathlib.Numerals.{add-one}
-use lib.ListN.{length, drop, drop_of_length-le}
-use lib.Seq.{sets, length-sets}
-use borrow.Author.Rules.{rules}
-use Rattle.words.proofs.Slices.{drop-one}
+use mathlib.Core.Path.{◌≡◌}
+use lib.ListN.{length, drop}
+use lib.Seq.{sets}
 use Rattle.relocation.proofs.copy.put_code.Given as goal
 
 abbrev pub invariant-loop-i : goal.invariant-loop-i
@@ -13,4 +10,3 @@ invariant-loop-i l = sets l.initial.part 0 l.code ≡ sets l.part l.i (drop l.i 
 
 abbrev pub decreases-loop-i : goal.decreases-loop-i
 decreases-loop-i l = length l.code - l.i
-

@@ -1,7 +1,6 @@
 -- `copy::put_module` meets its contract: one store, but for a place past the code.
-use lib.ListN.{length, length-set}
+use lib.ListN.{length}
 use borrow.Author.Tests.{lt-ltb, le-ltb}
-use borrow.Author.Rules.{rules}
 use Rattle.relocation.proofs.copy.put_module.Goals as goal
 
 pub returns-then-code-at : goal.returns-then-code-at

@@ -1,10 +1,8 @@
 -- `copy::put_modules` meets its contract: each turn stores the number at one entry, and what is left decides. The measure is
 -- the entries left.
-use Prim.Native.Nat.{◌-◌}
 use native.Mathlib.Omega.{arith}
-use borrow.Author.Rules.{rules}
 use Rattle.header.specs.Header.{code_at, constants_at, relocation_at}
-use Rattle.relocation.proofs.Rewriting.{Puts, puts-start, puts-over, puts-next}
+use Rattle.relocation.proofs.Rewriting.{puts-start, puts-over, puts-next}
 use Rattle.relocation.proofs.copy.put_modules.Goals as goal
 
 pub loop-init : goal.loop-init

@@ -1,6 +1,4 @@
 -- `copy::relocate` meets its contract: the code, and over it the new numbers.
-use mathlib.Core.Path.{◌∙◌}
-use borrow.Author.Rules.{rules}
 use Rattle.module_set.specs.Members.{members_of}
 use Rattle.relocation.proofs.Rewriting.{rewritten-all}
 use Rattle.relocation.proofs.copy.relocate.Goals as goal

@@ -1,6 +1,5 @@
 -- `copy::relocated_byte` meets its contract: the byte itself, or the module that it stands for where it is marked.
 use borrow.Author.Tests.{eq-eqb, ne_eqb}
-use borrow.Author.Rules.{rules}
 use Rattle.relocation.proofs.copy.relocated_byte.Goals as goal
 
 pub returns-then-byte_at-eq0 : goal.returns-then-byte_at-eq0

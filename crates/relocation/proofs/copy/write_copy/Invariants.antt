@@ -1,14 +1,9 @@
 -- `copy::write_copy` meets its contract: each turn writes the code of one member behind those before it, and what is left
 -- decides. The measure is the modules left.
-use Prim.Native.Nat.{ℕ, ◌+◌, ◌-◌, ◌≤◌}
-use mathlib.Core.List.{List, []}
-use mathlib.Core.Path.{refl, ap}
-use native.Mathlib.Omega.{arith}
-use lib.ListN.{length}
-use borrow.Author.Rules.{rules}
+use Prim.Native.Nat.{ℕ, ◌-◌, ◌≤◌}
+use mathlib.Core.List.{List}
 use Rattle.module_set.specs.Members.{members_of}
-use Rattle.module_set.proofs.Shares.{member-count}
-use Rattle.relocation.proofs.Copying.{Written, written_start, written_over, written-room, written_next}
+use Rattle.relocation.proofs.Copying.{Written}
 use Rattle.relocation.proofs.copy.write_copy.Given as goal
 
 abbrev pub invariant-loop-k : goal.invariant-loop-k
@@ -17,4 +12,3 @@ invariant-loop-k l =
 
 abbrev pub decreases-loop-k : goal.decreases-loop-k
 decreases-loop-k l = l.k-end - l.k
-

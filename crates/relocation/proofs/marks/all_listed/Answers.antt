@@ -1,14 +1,9 @@
 -- `marks::all_listed` meets its contract: the offsets from one on decide. The measure is the offsets left.
-use Prim.Native.Nat.{ℕ, ◌-◌}
-use mathlib.Core.Path.{◌≡◌, ◌∙◌, sym}
+use Prim.Native.Nat.{ℕ}
+use mathlib.Core.Path.{◌∙◌, sym}
 use native.Mathlib.Nat.{sub-zero}
-use lib.ListN.{length}
-use borrow.Author.Tests.{not-true, not-false}
-use borrow.Author.Rules.{rules}
-use Rattle.words.specs.Order.{every}
-use Rattle.words.specs.Series.{series}
 use Rattle.words.proofs.Order.{row-over, row-turn}
-use Rattle.relocation.specs.Marks.{listed_at, offsets}
+use Rattle.relocation.specs.Marks.{listed_at}
 use Rattle.relocation.proofs.marks.all_listed.Goals as goal
 
 pub loop-at-init : goal.loop-at-init

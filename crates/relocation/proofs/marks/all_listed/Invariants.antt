@@ -1,13 +1,9 @@
 -- `marks::all_listed` meets its contract: the offsets from one on decide. The measure is the offsets left.
 use Prim.Native.Nat.{ℕ, ◌-◌}
-use mathlib.Core.Path.{◌≡◌, ◌∙◌, sym}
-use native.Mathlib.Nat.{sub-zero}
+use mathlib.Core.Path.{◌≡◌}
 use lib.ListN.{length}
-use borrow.Author.Tests.{not-true, not-false}
-use borrow.Author.Rules.{rules}
 use Rattle.words.specs.Order.{every}
 use Rattle.words.specs.Series.{series}
-use Rattle.words.proofs.Order.{row-over, row-turn}
 use Rattle.relocation.specs.Marks.{listed_at, offsets}
 use Rattle.relocation.proofs.marks.all_listed.Given as goal
 
@@ -18,4 +14,3 @@ invariant-loop-at l =
 
 abbrev pub decreases-loop-at : goal.decreases-loop-at
 decreases-loop-at l = length l.code - l.at
-

@@ -1,15 +1,9 @@
 -- `marks::entries_point` meets its contract: the entries from one on decide. The measure is the entries left.
 use Prim.Native.Nat.{◌+◌, ◌*◌, ◌-◌}
-use mathlib.Core.Path.{◌≡◌, ◌∙◌, sym}
-use native.Mathlib.Nat.{sub-zero}
-use native.Mathlib.Omega.{arith}
-use borrow.Author.Tests.{eq-eqb, ne_eqb}
-use borrow.Author.Rules.{rules}
+use mathlib.Core.Path.{◌≡◌}
 use Rattle.words.specs.Bytes.{word_at}
 use Rattle.words.specs.Order.{every}
 use Rattle.words.specs.Series.{series}
-use Rattle.header.specs.Header.{code_at, constants_at, relocation_at}
-use Rattle.words.proofs.Order.{row-over, row-turn}
 use Rattle.relocation.specs.Marks.{is_marked}
 use Rattle.relocation.proofs.marks.entries_point.Given as goal
 
@@ -21,4 +15,3 @@ invariant-loop l =
 
 abbrev pub decreases-loop : goal.decreases-loop
 decreases-loop l = l.entries - l.counter
-

@@ -1,6 +1,5 @@
 -- `marks::is_external` meets its contract: each arm says it of its instruction. Answers stand in the order of the code, returns
 -- last.
-use borrow.Author.Rules.{rules}
 use Rattle.relocation.proofs.marks.is_external.Goals as goal
 
 pub returns-in-LoadConstant : goal.returns-in-LoadConstant

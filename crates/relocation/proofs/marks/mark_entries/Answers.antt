@@ -1,10 +1,8 @@
 -- `marks::mark_entries` meets its contract: each turn marks the place of one entry, and what is left decides. The measure is
 -- the entries left.
-use Prim.Native.Nat.{◌-◌}
 use native.Mathlib.Omega.{arith}
-use borrow.Author.Rules.{rules}
 use Rattle.header.specs.Header.{code_at, constants_at, relocation_at}
-use Rattle.relocation.proofs.Walking.{Entries, entries-start, entries_over, entries_next}
+use Rattle.relocation.proofs.Walking.{entries-start, entries_over, entries_next}
 use Rattle.relocation.proofs.marks.mark_entries.Goals as goal
 
 pub loop-init : goal.loop-init

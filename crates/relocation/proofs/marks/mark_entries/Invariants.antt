@@ -1,10 +1,7 @@
 -- `marks::mark_entries` meets its contract: each turn marks the place of one entry, and what is left decides. The measure is
 -- the entries left.
 use Prim.Native.Nat.{◌-◌}
-use native.Mathlib.Omega.{arith}
-use borrow.Author.Rules.{rules}
-use Rattle.header.specs.Header.{code_at, constants_at, relocation_at}
-use Rattle.relocation.proofs.Walking.{Entries, entries-start, entries_over, entries_next}
+use Rattle.relocation.proofs.Walking.{Entries}
 use Rattle.relocation.proofs.marks.mark_entries.Given as goal
 
 abbrev pub invariant-loop : goal.invariant-loop
@@ -12,4 +9,3 @@ invariant-loop l = Entries l.r l.initial.marks l.marks l.initial.at l.entries l.
 
 abbrev pub decreases-loop : goal.decreases-loop
 decreases-loop l = l.entries - l.counter
-

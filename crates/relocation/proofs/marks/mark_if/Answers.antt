@@ -1,7 +1,4 @@
 -- `marks::mark_if` meets its contract: one store where it is asked for.
-use lib.ListN.{length-set}
-use borrow.Author.Tests.{not-true, not-false}
-use borrow.Author.Rules.{rules}
 use Rattle.relocation.proofs.marks.mark_if.Goals as goal
 
 pub returns-then-not-external : goal.returns-then-not-external

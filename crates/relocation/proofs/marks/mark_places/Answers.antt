@@ -1,9 +1,6 @@
 -- `marks::mark_places` meets its contract: each turn marks a region, and what is left decides. The measure is the procedures
 -- left.
-use Prim.Native.Nat.{◌-◌}
-use mathlib.Core.Path.{◌∙◌}
-use borrow.Author.Rules.{rules}
-use Rattle.relocation.proofs.Walking.{Regions, regions-start, regions-last, regions-next}
+use Rattle.relocation.proofs.Walking.{regions-start, regions-last, regions-next}
 use Rattle.relocation.proofs.marks.mark_places.Goals as goal
 
 pub loop-p-init : goal.loop-p-init

@@ -1,11 +1,8 @@
 -- `marks::mark_region` meets its contract: each turn marks one instruction, and what is left decides. The measure is the turns
 -- left.
-use Prim.Native.Nat.{◌-◌}
 use mathlib.Core.Path.{◌∙◌, sym}
 use native.Mathlib.Omega.{arith}
-use lib.ListN.{length}
-use borrow.Author.Rules.{rules}
-use Rattle.relocation.proofs.Walking.{Region, region-start, region-spent, region-over, region-turn, region-next}
+use Rattle.relocation.proofs.Walking.{region-start, region-spent, region-over, region-turn, region-next}
 use Rattle.relocation.proofs.marks.mark_region.Goals as goal
 
 pub loop-init : goal.loop-init

@@ -1,11 +1,8 @@
 -- `marks::mark_region` meets its contract: each turn marks one instruction, and what is left decides. The measure is the turns
 -- left.
 use Prim.Native.Nat.{◌-◌}
-use mathlib.Core.Path.{◌∙◌, sym}
-use native.Mathlib.Omega.{arith}
 use lib.ListN.{length}
-use borrow.Author.Rules.{rules}
-use Rattle.relocation.proofs.Walking.{Region, region-start, region-spent, region-over, region-turn, region-next}
+use Rattle.relocation.proofs.Walking.{Region}
 use Rattle.relocation.proofs.marks.mark_region.Given as goal
 
 abbrev pub invariant-loop : goal.invariant-loop
@@ -13,4 +10,3 @@ invariant-loop l = Region l.code l.p l.initial.marks l.marks l.at l.counter
 
 abbrev pub decreases-loop : goal.decreases-loop
 decreases-loop l = length l.code - l.counter
-

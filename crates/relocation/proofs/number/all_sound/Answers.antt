@@ -1,14 +1,11 @@
 -- `number::all_sound` meets its contract: the members from one on decide. The measure is the modules left.
-use Prim.Native.Nat.{ℕ, ◌-◌, ◌≤◌, ◌<◌}
+use Prim.Native.Nat.{ℕ, ◌<◌}
 use mathlib.Core.List.{List, []}
-use mathlib.Core.Path.{◌≡◌, ◌∙◌, refl, sym, ap}
+use mathlib.Core.Path.{◌∙◌, refl, sym, ap}
 use native.Mathlib.Omega.{arith}
-use lib.ListN.{length, drop}
-use borrow.Author.Tests.{not-true, not-false}
-use borrow.Author.Rules.{rules}
+use lib.ListN.{length}
 use Rattle.record.specs.Number.{record_number}
 use Rattle.module_set.specs.Members.{Member, members_of}
-use Rattle.module_set.specs.Linked.{every_member}
 use Rattle.module_set.proofs.Every.{members-sound, every-over, every-fails, every-passes}
 use Rattle.module_set.proofs.Shares.{member-count}
 use Rattle.relocation.specs.Relocation.{relocation_sound}

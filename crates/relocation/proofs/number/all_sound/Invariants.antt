@@ -1,16 +1,10 @@
 -- `number::all_sound` meets its contract: the members from one on decide. The measure is the modules left.
-use Prim.Native.Nat.{ℕ, ◌-◌, ◌≤◌, ◌<◌}
-use mathlib.Core.List.{List, []}
-use mathlib.Core.Path.{◌≡◌, ◌∙◌, refl, sym, ap}
-use native.Mathlib.Omega.{arith}
-use lib.ListN.{length, drop}
-use borrow.Author.Tests.{not-true, not-false}
-use borrow.Author.Rules.{rules}
-use Rattle.record.specs.Number.{record_number}
-use Rattle.module_set.specs.Members.{Member, members_of}
+use Prim.Native.Nat.{ℕ, ◌-◌, ◌≤◌}
+use mathlib.Core.List.{List}
+use mathlib.Core.Path.{◌≡◌}
+use lib.ListN.{drop}
+use Rattle.module_set.specs.Members.{members_of}
 use Rattle.module_set.specs.Linked.{every_member}
-use Rattle.module_set.proofs.Every.{members-sound, every-over, every-fails, every-passes}
-use Rattle.module_set.proofs.Shares.{member-count}
 use Rattle.relocation.specs.Relocation.{relocation_sound}
 use Rattle.relocation.proofs.number.all_sound.Given as goal
 
@@ -23,4 +17,3 @@ invariant-loop-k l =
 
 abbrev pub decreases-loop-k : goal.decreases-loop-k
 decreases-loop-k l = l.k-end - l.k
-

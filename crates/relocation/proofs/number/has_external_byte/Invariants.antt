@@ -1,19 +1,18 @@
 -- `number::has_external_byte` meets its contract: what was found and the offsets from one on decide. The
 -- measure is the offsets left.
-use Prim.Native.Nat.{ℕ, ◌+◌, ◌-◌}
+use Prim.Native.Nat.{ℕ, ◌-◌}
 use mathlib.Core.Bool.{Bool, not, ◌||◌}
 use mathlib.Core.List.{List}
-use mathlib.Core.Path.{◌≡◌, ◌∙◌, sym}
-use native.Mathlib.Nat.{sub-zero}
+use mathlib.Core.Path.{◌≡◌}
 use lib.ListN.{length}
-use borrow.Author.Rules.{rules}
 use Rattle.words.specs.Bytes.{byte_at}
 use Rattle.words.specs.Order.{every}
 use Rattle.words.specs.Series.{series}
-use Rattle.words.proofs.Order.{row-over, row-turn}
 use Rattle.relocation.specs.Marks.{external_code, has_external_byte}
-use Rattle.relocation.proofs.Plain.{found-next, found-over}
 use Rattle.relocation.proofs.number.has_external_byte.Given as goal
+
+abbrev plain : List ℕ → ℕ → Bool
+plain code at = not (external_code (byte_at code at))
 
 abbrev pub invariant-loop-at : goal.invariant-loop-at
 invariant-loop-at l =
@@ -22,4 +21,3 @@ invariant-loop-at l =
 
 abbrev pub decreases-loop-at : goal.decreases-loop-at
 decreases-loop-at l = length l.code - l.at
-

@@ -1,8 +1,6 @@
 -- `number::is_relocation_sound` meets its contract: code without an external instruction has no entry; else entries
 -- by the marks of the places, then places by the marks of the entries.
 use mathlib.Core.Path.{◌∙◌, refl, sym, ap}
-use borrow.Author.Tests.{not-true, not-false}
-use borrow.Author.Rules.{rules}
 use Rattle.header.specs.declared.Header.{Header}
 use Rattle.relocation.proofs.Sound.{sound-held}
 use Rattle.relocation.proofs.Plain.{sound-plain}

@@ -2,8 +2,7 @@
 use mathlib.Core.List.{[]}
 use mathlib.Core.Path.{◌∙◌, sym}
 use native.Mathlib.Omega.{arith}
-use borrow.Author.Tests.{eq-eqb, ne_eqb, not-false}
-use borrow.Author.Rules.{rules}
+use borrow.Author.Tests.{eq-eqb, ne_eqb}
 use Rattle.module_set.specs.Members.{members_of}
 use Rattle.module_set.proofs.Linking.{linked-few}
 use Rattle.module_set.proofs.Shares.{member-count}
@@ -42,3 +41,40 @@ all_sound-requires c =
       by_index = λ lists. sym (records-number.ensures lists) ∙ if1.false;
     }
 
+pub returns-then-not-all_sound : goal.returns-then-not-all_sound
+unfolding set_number
+returns-then-not-all_sound c =
+    let if3 = c.if-not-all_sound in
+    let All-sound = c.all_sound in
+    let if2 = c.if-not-is_linked in
+    let is-linked = c.is_linked in
+    let if1 = c.if-number-ne0 in
+    let records-number = c.records_number-number in
+    λ lists.
+    rw (
+      ← records-number.ensures lists,
+      eq-eqb records-number.result 0 if1.false,
+      ← is-linked.ensures lists,
+      if2.false-raw,
+      ← All-sound.ensures lists,
+      if3.true-raw,
+    )
+
+pub returns : goal.returns
+unfolding set_number
+returns c =
+    let if3 = c.if-not-all_sound in
+    let All-sound = c.all_sound in
+    let if2 = c.if-not-is_linked in
+    let is-linked = c.is_linked in
+    let if1 = c.if-number-ne0 in
+    let records-number = c.records_number-number in
+    λ lists.
+    rw (
+      ← records-number.ensures lists,
+      eq-eqb records-number.result 0 if1.false,
+      ← is-linked.ensures lists,
+      if2.false-raw,
+      ← All-sound.ensures lists,
+      if3.false-raw,
+    )
