@@ -1,5 +1,6 @@
 // Load: the copy of the code, memory with the data frames of the modules, and the registers at the start.
 #![tactic(auto)]
+
 ghost use Rattle.std.specs.Prelude.{◌≡◌, true, ◌&&◌, List, ℕ, ◌≤◌, leb, length};
 ghost use Rattle.module_set.specs.Members.{members_of};
 ghost use Rattle.relocation.specs.Relocation.{set_number, copy_of, begins};
