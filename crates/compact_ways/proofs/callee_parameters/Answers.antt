@@ -1,5 +1,4 @@
 -- `compact_ways::callee_parameters` meets its contract: the byte after the callee's ENTER, for procedure 0 none.
-use borrow.Author.Rules.{rules}
 use borrow.Author.Tests.{eq-eqb, ne_eqb}
 use Rattle.compact_ways.proofs.callee_parameters.Goals as goal
 

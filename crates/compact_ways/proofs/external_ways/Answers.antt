@@ -1,6 +1,5 @@
 -- `compact_ways::external_ways` meets its contract: both numbers are read from the library's own module.
 use mathlib.Core.Path.{◌≡◌}
-use borrow.Author.Rules.{rules}
 use Rattle.entries.specs.Libraries.{library_in, libraries_in}
 use Rattle.stackmap.specs.Ways.{parameters_in, results_in}
 use Rattle.compact_ways.specs.Ways.{external_ways}
@@ -25,4 +24,8 @@ own-results c =
 
 pub returns : goal.returns
 unfolding external_ways
-returns c = rw (c.straight_ways.ensures, own-parameters (goal.at.returns c).After-callee_parameters-parameters, own-results (goal.at.returns c).After-callee_results)
+returns c = rw (
+  c.straight_ways.ensures,
+  own-parameters (goal.at.returns c).After-callee_parameters-parameters,
+  own-results (goal.at.returns c).After-callee_results,
+)

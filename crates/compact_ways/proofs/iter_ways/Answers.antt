@@ -1,6 +1,4 @@
 -- `compact_ways::iter_ways` meets its contract: on with the loop's label, away without its four words.
-use borrow.Author.Rules.{rules}
-use borrow.Author.Tests.{not-true, not-false}
 use Rattle.compact_ways.specs.Ways.{iter_ways}
 use Rattle.compact.proofs.Lowering.{popped-height}
 use Rattle.compact_ways.proofs.iter_ways.Goals as goal

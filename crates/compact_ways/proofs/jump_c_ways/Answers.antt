@@ -1,6 +1,4 @@
 -- `compact_ways::jump_c_ways` meets its contract: both ways without the top word.
-use borrow.Author.Rules.{rules}
-use borrow.Author.Tests.{not-true, not-false}
 use Rattle.compact_ways.specs.Ways.{jump_c_ways}
 use Rattle.compact.proofs.Lowering.{popped-height}
 use Rattle.compact_ways.proofs.jump_c_ways.Goals as goal

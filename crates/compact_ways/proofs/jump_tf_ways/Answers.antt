@@ -1,6 +1,4 @@
 -- `compact_ways::jump_tf_ways` meets its contract: on without the top word, away with it.
-use borrow.Author.Rules.{rules}
-use borrow.Author.Tests.{not-true, not-false}
 use Rattle.compact_ways.specs.Ways.{jump_tf_ways}
 use Rattle.compact.proofs.Lowering.{popped-height}
 use Rattle.compact_ways.proofs.jump_tf_ways.Goals as goal

@@ -1,6 +1,4 @@
 -- `compact_ways::straight_ways` meets its contract: words taken off the height, words put on it.
-use borrow.Author.Rules.{rules}
-use borrow.Author.Tests.{not-true, not-false}
 use Rattle.compact_ways.specs.Ways.{straight_ways}
 use Rattle.compact.proofs.Lowering.{popped-height}
 use Rattle.compact_ways.proofs.straight_ways.Goals as goal

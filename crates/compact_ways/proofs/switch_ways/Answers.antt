@@ -1,6 +1,4 @@
 -- `compact_ways::switch_ways` meets its contract: the switch's label in place of its word.
-use borrow.Author.Rules.{rules}
-use borrow.Author.Tests.{not-true, not-false}
 use Rattle.compact_ways.specs.Ways.{switch_ways}
 use Rattle.compact_ways.proofs.switch_ways.Goals as goal
 

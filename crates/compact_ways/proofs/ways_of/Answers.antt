@@ -1,5 +1,5 @@
--- `compact_ways::ways_of` meets its contract: each arm gives the ways of its shape. Answers stand in the order of the code, returns last.
-use borrow.Author.Rules.{rules}
+-- `compact_ways::ways_of` meets its contract: each arm gives the ways of its shape. Answers stand in the order
+-- of the code, returns last.
 use Rattle.compact_ways.specs.Ways.{ways_top}
 use Rattle.compact_ways.proofs.ways_of.Goals as goal
 

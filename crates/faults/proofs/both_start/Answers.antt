@@ -1,7 +1,5 @@
 -- `faults::both_start` meets its contract: both places, the first one first.
 use mathlib.Core.Bool.{and-true}
-use borrow.Author.Rules.{rules}
-use borrow.Author.Tests.{not-true, not-false}
 use Rattle.faults.proofs.both_start.Goals as goal
 
 pub returns-then-not-starts_in : goal.returns-then-not-starts_in

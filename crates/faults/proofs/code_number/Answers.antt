@@ -1,13 +1,11 @@
 -- `faults::code_number` meets its contract: `lowest` is the number over the offsets before `at`. The measure is the offsets left.
-use Prim.Native.Nat.{◌-◌, ◌≤◌}
 use mathlib.Core.Path.{◌≡◌, ◌∙◌}
-use mathlib.Core.Logic.{⊎_elim}
 use native.Mathlib.Omega.{arith}
 use lib.ListN.{length}
-use borrow.Author.Rules.{rules}
 use Rattle.entries.specs.Libraries.{libraries_in}
 use Rattle.layout.specs.Workspace.{marks_in}
-use Rattle.faults.proofs.Lowest.{number_to, number-start, number-marked, number-bare, number-end}
+use Rattle.faults.proofs.Lowest.{number-start, number-marked, number-bare, number-end}
+use Rattle.faults.proofs.code_number.Goals.{then-mark-ne0, else-mark-ne0}
 use Rattle.faults.proofs.code_number.Goals as goal
 
 pub loop-at-init : goal.loop-at-init
@@ -42,6 +40,13 @@ loop-at-preserved c =
     let l = c.loop-at in
     let mark = c.mark_at-mark in (
       omega (arith, c.loop-at-test.true),
-      ?,
+      elim c.if-mark-ne0.branch [
+        | then-mark-ne0 w ↦
+            w.lowest-is ∙ w.lower_number-lowest.ensures
+            ∙ rw w.fault_at-fault.ensures
+            (number-marked a.code.now bound m l.at l.lowest mark.result l.invariant.1 mark.ensures w.if-mark-ne0.true)
+        | else-mark-ne0 w ↦
+            w.lowest-is
+            ∙ number-bare a.code.now bound m l.at l.lowest mark.result l.invariant.1 mark.ensures w.if-mark-ne0.false
+      ],
     )
-

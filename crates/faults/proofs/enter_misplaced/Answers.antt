@@ -1,5 +1,4 @@
 -- `faults::enter_misplaced` meets its contract, test by test.
-use borrow.Author.Rules.{rules}
 use borrow.Author.Tests.{eq-eqb, ne_eqb}
 use Rattle.faults.proofs.enter_misplaced.Goals as goal
 

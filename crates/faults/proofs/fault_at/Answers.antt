@@ -1,5 +1,4 @@
 -- `faults::fault_at` meets its contract: the instruction in its region, arm by arm.
-use borrow.Author.Rules.{rules}
 use Rattle.faults.specs.OnePass.{fault_at}
 use Rattle.faults.proofs.fault_at.Goals as goal
 

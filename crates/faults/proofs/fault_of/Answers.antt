@@ -1,5 +1,4 @@
 -- `faults::fault_of` meets its contract: the tests in the order of their numbers.
-use borrow.Author.Rules.{rules}
 use Rattle.faults.specs.OnePass.{fault_of}
 use Rattle.faults.proofs.fault_of.Goals as goal
 

@@ -1,5 +1,4 @@
 -- `faults::is_bare` meets its contract, test by test.
-use borrow.Author.Rules.{rules}
 use borrow.Author.Tests.{eq-eqb, ne_eqb}
 use Rattle.faults.proofs.is_bare.Goals as goal
 

@@ -1,5 +1,4 @@
 -- `faults::is_misplaced` meets its contract, arm by arm.
-use borrow.Author.Rules.{rules}
 use Rattle.faults.specs.Faults.{misplaced}
 use Rattle.faults.proofs.is_misplaced.Goals as goal
 

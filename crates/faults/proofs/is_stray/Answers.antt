@@ -1,6 +1,5 @@
 -- `faults::is_stray` meets its contract: each arm looks at its shape's places.
 use mathlib.Core.Bool.{and-true}
-use borrow.Author.Rules.{rules}
 use Rattle.faults.specs.Faults.{strays}
 use Rattle.faults.proofs.is_stray.Goals as goal
 
@@ -51,7 +50,8 @@ returns-in-Call c = rw (c.in-Call.is, ← c.starts_in-in-Call.ensures, and-true 
 
 pub returns-in-CallExternal : goal.returns-in-CallExternal
 unfolding strays
-returns-in-CallExternal c = rw (c.in-CallExternal.is, ← c.starts_in-in-CallExternal.ensures, and-true c.starts_in-in-CallExternal.result)
+returns-in-CallExternal c =
+    rw (c.in-CallExternal.is, ← c.starts_in-in-CallExternal.ensures, and-true c.starts_in-in-CallExternal.result)
 
 pub returns-in-Enter : goal.returns-in-Enter
 unfolding strays

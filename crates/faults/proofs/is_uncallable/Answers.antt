@@ -1,5 +1,4 @@
 -- `faults::is_uncallable` meets its contract, arm by arm.
-use borrow.Author.Rules.{rules}
 use Rattle.faults.specs.Faults.{uncallable}
 use Rattle.faults.proofs.is_uncallable.Goals as goal
 

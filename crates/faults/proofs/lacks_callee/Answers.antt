@@ -1,5 +1,4 @@
 -- `faults::lacks_callee` meets its contract: the test is made of the library's own code.
-use borrow.Author.Rules.{rules}
 use Rattle.faults.proofs.lacks_callee.Goals as goal
 
 pub returns : goal.returns

@@ -1,7 +1,5 @@
 -- `faults::switch_starts` meets its contract: the label and the ELSE part, then the table.
 use lib.ListN.{length}
-use borrow.Author.Rules.{rules}
-use borrow.Author.Tests.{not-true, not-false}
 use Rattle.successors.specs.Successors.{table_from, table_size, switch_targets}
 use Rattle.layout.specs.Workspace.{marks_in}
 use Rattle.faults.proofs.Heads.{heads-start}

@@ -1,15 +1,9 @@
--- `faults::table_starts` meets its contract. The loop's invariant: all branches start just if those from `k` on do. The measure is
--- what is left.
+-- `faults::table_starts` meets its contract. The loop's invariant: all branches start just if those from `k` on do. The measure
+-- is what is left.
 use Prim.Native.Nat.{◌-◌}
 use mathlib.Core.Path.{◌≡◌, ◌∙◌}
 use native.Mathlib.Nat.{sub-eq-zero_of_le}
 use native.Mathlib.Omega.{arith}
-use lib.ListN.{length}
-use borrow.Author.Rules.{rules}
-use borrow.Author.Tests.{not-true, not-false}
-use Rattle.successors.specs.Successors.{table_from}
-use Rattle.faults.specs.Faults.{all_start}
-use Rattle.layout.specs.Workspace.{marks_in}
 use Rattle.words.proofs.Left.{one_left}
 use Rattle.successors.proofs.Sizes.{size_below}
 use Rattle.faults.proofs.table_starts.Goals as goal

@@ -1,17 +1,11 @@
--- `faults::table_starts` meets its contract. The loop's invariant: all branches start just if those from `k` on do. The measure is
--- what is left.
+-- `faults::table_starts` meets its contract. The loop's invariant: all branches start just if those from `k` on do. The measure
+-- is what is left.
 use Prim.Native.Nat.{◌-◌}
-use mathlib.Core.Path.{◌≡◌, ◌∙◌}
-use native.Mathlib.Nat.{sub-eq-zero_of_le}
-use native.Mathlib.Omega.{arith}
+use mathlib.Core.Path.{◌≡◌}
 use lib.ListN.{length}
-use borrow.Author.Rules.{rules}
-use borrow.Author.Tests.{not-true, not-false}
 use Rattle.successors.specs.Successors.{table_from}
 use Rattle.faults.specs.Faults.{all_start}
 use Rattle.layout.specs.Workspace.{marks_in}
-use Rattle.words.proofs.Left.{one_left}
-use Rattle.successors.proofs.Sizes.{size_below}
 use Rattle.faults.proofs.table_starts.Given as goal
 
 abbrev pub invariant-loop-k : goal.invariant-loop-k
@@ -21,4 +15,3 @@ invariant-loop-k l =
 
 abbrev pub decreases-loop-k : goal.decreases-loop-k
 decreases-loop-k l = l.size - l.k
-

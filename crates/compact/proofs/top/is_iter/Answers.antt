@@ -1,5 +1,4 @@
 -- `top::is_iter` meets its contract: the byte at the offset is tested.
-use borrow.Author.Rules.{rules}
 use Rattle.compact.proofs.top.is_iter.Goals as goal
 
 pub returns : goal.returns

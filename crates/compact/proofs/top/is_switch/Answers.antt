@@ -1,5 +1,4 @@
 -- `top::is_switch` meets its contract: the byte is one switch's code or the other's.
-use borrow.Author.Rules.{rules}
 use borrow.Author.Tests.{eq-eqb, ne_eqb}
 use Rattle.compact.proofs.top.is_switch.Goals as goal
 

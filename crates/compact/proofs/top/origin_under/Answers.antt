@@ -1,5 +1,4 @@
 -- `top::origin_under` meets its contract: the workspace shows it at the label's origin.
-use borrow.Author.Rules.{rules}
 use Rattle.compact.proofs.Origins.{at-origin}
 use Rattle.compact.specs.Tops.{origin_under}
 use Rattle.compact.proofs.top.origin_under.Goals as goal

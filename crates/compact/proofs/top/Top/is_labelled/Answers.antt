@@ -1,5 +1,4 @@
 -- `Top::is_labelled` meets its contract: the topmost label is as high as the list.
-use borrow.Author.Rules.{rules}
 use Rattle.compact.specs.Tops.{labelled}
 use Rattle.compact.proofs.top.Top.is_labelled.Goals as goal
 

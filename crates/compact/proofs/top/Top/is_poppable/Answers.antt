@@ -1,5 +1,4 @@
 -- `Top::is_poppable` meets its contract: the words to pop lie above the topmost label.
-use borrow.Author.Rules.{rules}
 use Rattle.compact.specs.Tops.{poppable}
 use Rattle.compact.proofs.top.Top.is_poppable.Goals as goal
 

@@ -1,5 +1,4 @@
 -- `Top::lowered` meets its contract: under a label on top the next label is the topmost.
-use borrow.Author.Rules.{rules}
 use Rattle.compact.specs.Tops.{lowered}
 use Rattle.compact.proofs.top.Top.lowered.Goals as goal
 

@@ -1,8 +1,6 @@
 -- `Top::lowered_by` meets its contract: a slot a turn, and those still to come off decide the list that is left.
-use Prim.Native.Nat.{◌-◌}
 use native.Mathlib.Omega.{arith}
-use borrow.Author.Rules.{rules}
-use Rattle.compact.proofs.Lowering.{Lowering, lowering-start, lowering-next, lowering-done}
+use Rattle.compact.proofs.Lowering.{lowering-start, lowering-next, lowering-done}
 use Rattle.compact.proofs.top.Top.lowered_by.Goals as goal
 
 pub loop-init : goal.loop-init
