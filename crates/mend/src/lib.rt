@@ -1,5 +1,6 @@
 // Mends a record whose version word or source table is damaged: a new record without the words that refuse it (5, 6).
 #![tactic(auto)]
+
 ghost use Rattle.std.specs.Prelude.{◌≡◌, ◌≤◌, length, take, drop};
 ghost use Rattle.std.proofs.lemmas.List.Edits.{sets};
 ghost use Rattle.header.specs.Header.{header_of, sources_at, record_length};

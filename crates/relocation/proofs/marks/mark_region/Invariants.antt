@@ -1,0 +1,12 @@
+-- `marks::mark_region` meets its contract: each turn marks one instruction, and what is left decides. The measure is the turns
+-- left.
+use Prim.Native.Nat.{◌-◌}
+use lib.ListN.{length}
+use Rattle.relocation.proofs.Walking.{Region}
+use Rattle.relocation.proofs.marks.mark_region.Given as goal
+
+abbrev pub invariant-loop : goal.invariant-loop
+invariant-loop l = Region l.code l.p l.initial.marks l.marks l.at l.counter
+
+abbrev pub decreases-loop : goal.decreases-loop
+decreases-loop l = length l.code - l.counter
