@@ -87,3 +87,18 @@ returns-in-151 c =
     (behind pre.pc_value)
     (sym pre.b_value ∙ c.in-151.is) refl refl pair.ensures if1.false)
     store-two-popped.ensures
+
+pub store_two_popped-requires : goal.store_two_popped-requires
+store_two_popped-requires c =
+    let pair = c.pair-n in
+    let a = c.args in
+    let pre = c.requires in
+    let r = reaches a.attributes a.q (spot a.pc.now a.height.now a.memory.now a.stack.now) pre.stack_value
+    pair.result pair.type_inv in
+    record {
+      mp_in_bounds = r.0;
+      height_in_bounds = r.1.0;
+      offset_bound = r.1.1.0;
+      calls_value = r.1.1.1.0;
+      fp_in_bounds = r.1.1.1.1;
+    }

@@ -221,3 +221,18 @@ pub returns-in_default : goal.returns-in_default
 returns-in_default c =
     let double-half = c.double_half in
     double-half.ensures
+
+pub store_two_popped-requires : goal.store_two_popped-requires
+store_two_popped-requires c =
+    let byte_at = c.byte_at-n in
+    let a = c.args in
+    let pre = c.requires in
+    let r = reaches a.attributes a.q (spot a.pc.now a.height.now a.memory.now a.stack.now) pre.stack_value
+    byte_at.result (byte_small byte_at.result byte_at.type_inv) in
+    record {
+      mp_in_bounds = r.0;
+      height_in_bounds = r.1.0;
+      offset_bound = r.1.1.0;
+      calls_value = r.1.1.1.0;
+      fp_in_bounds = r.1.1.1.1;
+    }

@@ -147,3 +147,17 @@ returns-in-6 c =
     (short-form a.code.now a.pc.now both _ Double _ a.b 6 (behind pre.pc_value)
     pre.b_value pre.b_bound c.in-6.is refl refl pre.pc_in_bounds)
     store-two-popped.ensures
+
+pub store_two_popped-requires : goal.store_two_popped-requires
+store_two_popped-requires c =
+    let a = c.args in
+    let pre = c.requires in
+    let r = reaches a.attributes a.q (spot a.pc.now a.height.now a.memory.now a.stack.now) pre.stack_value
+    (a.b % 16) (digit-small a.b) in
+    record {
+      mp_in_bounds = r.0;
+      height_in_bounds = r.1.0;
+      offset_bound = r.1.1.0;
+      calls_value = r.1.1.1.0;
+      fp_in_bounds = r.1.1.1.1;
+    }
