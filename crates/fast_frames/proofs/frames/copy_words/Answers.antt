@@ -1,0 +1,69 @@
+-- `fast_frames::frames::copy_words` meets its contract: one word, two, and after i turns the first i are stored.
+use mathlib.Core.Path.{◌≡◌, refl}
+use mathlib.Core.List.{List}
+use Prim.Native.Nat.{ℕ, ◌-◌, ◌≤◌}
+use native.Mathlib.Omega.{arith}
+use lib.ListN.{length, take, drop, length-set}
+use lib.Seq.{sets}
+use borrow.Author.Rules.{rules}
+use Rattle.fast_frames.proofs.Calling.{copied-one, copied-two, copied_next}
+use Rattle.fast_frames.proofs.frames.copy_words.Goals as goal
+
+pub returns-then-n-eq0 : goal.returns-then-n-eq0
+returns-then-n-eq0 c =
+    let if1 = c.if-n-eq0 in
+    rw if1.true
+
+pub returns-then-n-eq1 : goal.returns-then-n-eq1
+returns-then-n-eq1 c =
+    let if2 = c.if-n-eq1 in
+    let if1 = c.if-n-eq0 in
+    let a = c.args in
+    let pre = c.requires in
+    rw if2.true (copied-one a.memory.now a.stack.now a.a a.low (omega (arith, pre.n_in_bounds_2, if1.false)))
+
+pub bounds-memory-a-2 : goal.bounds-memory-a-2
+bounds-memory-a-2 c =
+    let if2 = c.if-n-eq1 in
+    let if1 = c.if-n-eq0 in
+    let pre = c.requires in
+    rw (length-set) (omega (arith, pre.n_in_bounds, if1.false, if2.false))
+
+pub loop-i-init : goal.loop-i-init
+loop-i-init c =
+    let if2 = c.if-n-eq1 in
+    let if1 = c.if-n-eq0 in
+    (omega (arith, if1.false, if2.false), (refl, λ m e. e))
+
+pub bounds-memory-a-in-loop-i : goal.bounds-memory-a-in-loop-i
+bounds-memory-a-in-loop-i c =
+    let loop-test = c.loop-i-test in
+    let loop = c.loop-i in
+    let pre = c.requires in
+    rw (loop.invariant.1.0, length-set, length-set) (omega (arith, pre.n_in_bounds, loop-test.true))
+
+pub loop-i-preserved : goal.loop-i-preserved
+loop-i-preserved c =
+    let loop-test = c.loop-i-test in
+    let loop = c.loop-i in
+    let a = c.args in
+    let pre = c.requires in (
+      omega arith,
+      (
+        rw (length-set) loop.invariant.1.0,
+        λ m e. rw (loop.invariant.1.1 m e)
+            (copied_next m a.stack.now a.a a.low loop.i (omega (arith, pre.n_in_bounds_2, loop-test.true))),
+      ),
+    )
+
+pub returns : goal.returns
+returns c =
+    let loop-test = c.loop-i-test in
+    let loop = c.loop-i in
+    let if2 = c.if-n-eq1 in
+    let if1 = c.if-n-eq0 in
+    let a = c.args in
+    let pre = c.requires in
+    let e : loop.i ≡ a.n = omega (arith, loop.invariant.0, loop-test.false) in
+    rw (← e) (loop.invariant.1.1 a.memory.now
+    (copied-two a.memory.now a.stack.now a.a a.low (omega (arith, pre.n_in_bounds_2, if1.false, if2.false))))
