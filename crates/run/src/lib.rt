@@ -1,5 +1,6 @@
 // How runs end, and what they answer.
 #![tactic(auto)]
+
 ghost use Rattle.std.specs.Prelude.{◌≡◌};
 ghost use Rattle.run.specs.Run.{end_number};
 
