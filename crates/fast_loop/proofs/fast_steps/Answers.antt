@@ -52,10 +52,19 @@ reached_at-here-requires c =
     let loop = c.loop-left in
     let a = c.args in
     let fits = c.ranges in
-    reaching-words (program_in a.table.now a.copy.now a.code.now a.attributes)
+    let r = reaching-words (program_in a.table.now a.copy.now a.code.now a.attributes)
     (state a.q a.memory.now a.stack.now) a.budget loop.left
     (framed loop.pc loop.fp loop.mp a.q.gp loop.height loop.calls
-    loop.memory loop.stack) loop.invariant.1 fits.budget.fits
+    loop.memory loop.stack) loop.invariant.1 fits.budget.fits in
+    record {
+      left_bound = r.0;
+      pc_bound = r.1.0;
+      fp_bound = r.1.1.0;
+      mp_bound = r.1.1.1.0;
+      gp_bound = r.1.1.1.1.0;
+      height_bound = r.1.1.1.1.1.0;
+      calls_bound = r.1.1.1.1.1.1;
+    }
 
 pub data_steps-left-requires : goal.data_steps-left-requires
 data_steps-left-requires c =
@@ -78,11 +87,20 @@ reached_at-requires c =
     let loop = c.loop-left in
     let a = c.args in
     let fits = c.ranges in
-    reaching-words (program_in a.table.now a.copy.now a.code.now a.attributes)
+    let r = reaching-words (program_in a.table.now a.copy.now a.code.now a.attributes)
     (state a.q a.memory.now a.stack.now) a.budget data-steps.result
     (framed data-steps.new.pc loop.fp loop.mp a.q.gp
     data-steps.new.height loop.calls
-    data-steps.new.memory data-steps.new.stack) (made (goal.at.reached_at-requires c).After-slice_known-in-loop-left-2-1) fits.budget.fits
+    data-steps.new.memory data-steps.new.stack) (made (goal.at.reached_at-requires c).After-slice_known-in-loop-left-2-1) fits.budget.fits in
+    record {
+      left_bound = r.0;
+      pc_bound = r.1.0;
+      fp_bound = r.1.1.0;
+      mp_bound = r.1.1.1.0;
+      gp_bound = r.1.1.1.1.0;
+      height_bound = r.1.1.1.1.1.0;
+      calls_bound = r.1.1.1.1.1.1;
+    }
 
 pub returns-then-left-eq0 : goal.returns-then-left-eq0
 returns-then-left-eq0 c =
@@ -96,7 +114,7 @@ frame_step-requires c =
     let r = made (goal.at.frame_step-requires c).After-slice_known-in-loop-left-2-1 in
     record {
       code_len_bound = pre.code_len_bound;
-      count_value = loop.inv.0;
+      count_value = loop.invariant.0;
       stack_value = reaching-bounded _ _ _ _ _ r;
     }
 
@@ -107,7 +125,7 @@ reached_at-requires-then-not-frame_step c =
     let data-steps = c.data_steps-left in
     let loop = c.loop-left in
     let a = c.args in
-    let fits = c.fits in
+    let fits = c.ranges in
     let r = reaching-same (program_in a.table.now a.copy.now a.code.now a.attributes)
     (state a.q a.memory.now a.stack.now) a.budget data-steps.result
     (framed data-steps.new.pc loop.fp loop.mp a.q.gp
@@ -118,11 +136,20 @@ reached_at-requires-then-not-frame_step c =
     a.q.gp frame_step.new.height frame_step.new.calls
     frame_step.new.memory frame_step.new.stack)
     (rw (if2.true) at (frame_step.ensures (modules_in a.table.now a.copy.now))) in
-    reaching-words (program_in a.table.now a.copy.now a.code.now a.attributes)
+    let r = reaching-words (program_in a.table.now a.copy.now a.code.now a.attributes)
     (state a.q a.memory.now a.stack.now) a.budget data-steps.result
     (framed frame_step.new.pc frame_step.new.fp frame_step.new.mp
     a.q.gp frame_step.new.height frame_step.new.calls
-    frame_step.new.memory frame_step.new.stack) r fits.budget.fits
+    frame_step.new.memory frame_step.new.stack) r fits.budget.fits in
+    record {
+      left_bound = r.0;
+      pc_bound = r.1.0;
+      fp_bound = r.1.1.0;
+      mp_bound = r.1.1.1.0;
+      gp_bound = r.1.1.1.1.0;
+      height_bound = r.1.1.1.1.1.0;
+      calls_bound = r.1.1.1.1.1.1;
+    }
 
 pub returns-then-not-frame_step : goal.returns-then-not-frame_step
 returns-then-not-frame_step c =
@@ -144,11 +171,6 @@ returns-then-not-frame_step c =
     (rw (if2.true) at (frame_step.ensures (modules_in a.table.now a.copy.now))) in
     rw (reached-at3.ensures.0, reached-at3.ensures.1) r.ahead
 
-pub overflow_sub-left : goal.overflow_sub-left
-overflow_sub-left c =
-    let if1 = c.if-left-eq0 in
-    omega (arith, if1.left)
-
 pub loop-left-smaller : goal.loop-left-smaller
 loop-left-smaller c =
     let if1 = c.if-left-eq0 in
@@ -164,7 +186,7 @@ loop-left-preserved c =
     let loop = c.loop-left in
     let a = c.args in
     let pre = c.requires in (
-      loop.inv.0,
+      loop.invariant.0,
       reaching-next (program_in a.table.now a.copy.now a.code.now a.attributes)
           (state a.q a.memory.now a.stack.now) a.budget data-steps.result
           (framed data-steps.new.pc loop.fp loop.mp a.q.gp
@@ -185,10 +207,19 @@ reached_at-requires-2 c =
     let loop = c.loop-left in
     let a = c.args in
     let fits = c.ranges in
-    reaching-words (program_in a.table.now a.copy.now a.code.now a.attributes)
+    let r = reaching-words (program_in a.table.now a.copy.now a.code.now a.attributes)
     (state a.q a.memory.now a.stack.now) a.budget loop.left
     (framed loop.pc loop.fp loop.mp a.q.gp loop.height loop.calls
-    loop.memory loop.stack) loop.invariant.1 fits.budget.fits
+    loop.memory loop.stack) loop.invariant.1 fits.budget.fits in
+    record {
+      left_bound = r.0;
+      pc_bound = r.1.0;
+      fp_bound = r.1.1.0;
+      mp_bound = r.1.1.1.0;
+      gp_bound = r.1.1.1.1.0;
+      height_bound = r.1.1.1.1.1.0;
+      calls_bound = r.1.1.1.1.1.1;
+    }
 
 pub returns : goal.returns
 returns c =

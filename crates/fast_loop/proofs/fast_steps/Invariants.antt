@@ -11,13 +11,11 @@ use Rattle.fast_loop.proofs.Stepping.{Reaching, program_in, reaching-start, reac
 use Rattle.fast_loop.proofs.Stepping.{reaching-next, inner-ready, reaching-words, reaching-data}
 use Rattle.fast_loop.proofs.fast_steps.Given as goal
 
-abbrev invariant-loop : tie.invariant-loop
-invariant-loop table copy code attributes memory₀ stack₀ budget pc₀ fp₀ mp₀ gp height₀ calls₀ left₀ count memory stack pc fp mp
-    height calls left =
-    (count ≡ entry_count code) × Reaching (program_in table copy code attributes)
-    (framed pc₀ fp₀ mp₀ gp height₀ calls₀ memory₀ stack₀) budget left (framed pc fp mp gp height calls memory stack)
+abbrev pub invariant-loop-left : goal.invariant-loop-left
+invariant-loop-left l =
+    (l.count ≡ entry_count l.code) × Reaching (program_in l.table l.copy l.code l.attributes)
+    (framed l.initial.pc l.initial.fp l.initial.mp l.gp l.initial.height l.initial.calls l.initial.memory l.initial.stack) l.budget l.left (framed l.pc l.fp l.mp l.gp l.height l.calls l.memory l.stack)
 
-abbrev decreases-loop : tie.decreases-loop
-decreases-loop table copy code attributes memory₀ stack₀ budget pc₀ fp₀ mp₀ gp height₀ calls₀ left₀ count memory stack pc fp mp
-    height calls left = left
+abbrev pub decreases-loop-left : goal.decreases-loop-left
+decreases-loop-left l = l.left
 
