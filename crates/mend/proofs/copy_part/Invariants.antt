@@ -8,7 +8,9 @@ use Rattle.mend.proofs.copy_part.Given as goal
 
 abbrev pub invariant-loop-i : goal.invariant-loop-i
 invariant-loop-i l =
-    (l.i-end ≡ length l.part) × (l.i ≤ length l.part) × (sets l.initial.out l.to l.part ≡ sets l.out (l.to + l.i) (drop l.i l.part))
+    (l.i-end ≡ length l.part)
+    × (l.i ≤ length l.part)
+    × (sets l.initial.out l.to l.part ≡ sets l.out (l.to + l.i) (drop l.i l.part))
 
 abbrev pub decreases-loop-i : goal.decreases-loop-i
 decreases-loop-i l = l.i-end - l.i

@@ -9,7 +9,8 @@ use Rattle.mend.proofs.list_pairs.Given as goal
 
 abbrev pub invariant-loop : goal.invariant-loop
 invariant-loop l =
-    Passed (λ kept dropped. (l.places ≡ sets l.initial.places l.to dropped) × (l.next ≡ l.to + length dropped)) l.r l.h l.initial.at l.end l.at l.least l.counter
+    Passed (λ kept dropped. (l.places ≡ sets l.initial.places l.to dropped) × (l.next ≡ l.to + length dropped))
+    l.r l.h l.initial.at l.end l.at l.least l.counter
 
 abbrev pub decreases-loop : goal.decreases-loop
 decreases-loop l = l.end - l.counter

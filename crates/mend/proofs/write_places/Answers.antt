@@ -1,10 +1,8 @@
 -- `mend::write_places` meets its contract: the lists of dropped words stand one behind the other.
 use Prim.Native.Nat.{◌/◌, ◌≤◌}
-use mathlib.Core.Path.{◌≡◌}
 use native.Mathlib.Omega.{arith}
-use Rattle.header.specs.Header.{sources_at}
 use Rattle.mend.proofs.Measuring.{Measures, measures, dropped-stored}
-use Rattle.mend.proofs.write_places.Goals.{After-list_words-arg-2-1, Start}
+use Rattle.mend.proofs.write_places.Goals.{Start}
 use Rattle.mend.proofs.write_places.Goals as goal
 
 known : (c : Start) →
@@ -34,30 +32,23 @@ list_pairs-requires c =
       h_bound = omega (arith, k.0.sources, k.0.near, k.0.sizes.versions);
     }
 
--- Before the odd word is listed.
-last : (c : After-list_words-arg-2-1) → (let a = c.args in Measures a.r.now a.h × (a.versions ≤ a.h.versions) × (a.pairs ≤ a.h.sources / 2)) →
-    let a = c.args in
-    Measures a.r.now a.h × (a.pairs ≤ a.h.sources / 2) × (c.sources_at-table.result ≡ sources_at a.h)
-last c has-known =
-    let k = has-known in
-    (k.0, k.2, c.sources_at-table.ensures)
-
 pub overflow_sub-whole : goal.overflow_sub-whole
-overflow_sub-whole c = (last (goal.at.overflow_sub-whole c).After-list_words-arg-2-1 (known (goal.at.overflow_sub-whole c).Start)).1
+overflow_sub-whole c = (known (goal.at.overflow_sub-whole c).Start).2
 
 pub overflow_add-lost : goal.overflow_add-lost
-overflow_add-lost c = let k = last (goal.at.overflow_add-lost c).After-list_words-arg-2-1 (known (goal.at.overflow_add-lost c).Start) in omega (arith, k.0.sizes.versions, k.0.sizes.sources)
+overflow_add-lost c =
+    let k = known (goal.at.overflow_add-lost c).Start in omega (arith, k.0.sizes.versions, k.0.sizes.sources)
 
 pub overflow_add-table : goal.overflow_add-table
 overflow_add-table c =
-    let k = last (goal.at.overflow_add-table c).After-list_words-arg-2-1 (known (goal.at.overflow_add-table c).Start) in
-    omega (arith, k.0.sources, k.0.near, k.0.sizes.versions, k.0.sizes.sources, k.2)
+    let k = known (goal.at.overflow_add-table c).Start in
+    omega (arith, k.0.sources, k.0.near, k.0.sizes.versions, k.0.sizes.sources, c.sources_at-table.ensures)
 
 pub list_words-requires-2 : goal.list_words-requires-2
 list_words-requires-2 c =
-    let k = last (goal.at.list_words-requires-2 c).After-list_words-arg-2-1 (known (goal.at.list_words-requires-2 c).Start) in record {
+    let k = known (goal.at.list_words-requires-2 c).Start in record {
       to_bound = omega (arith, k.0.sizes.versions, k.0.sizes.sources);
-      at_bound = omega (arith, k.0.sources, k.0.near, k.0.sizes.versions, k.0.sizes.sources, k.2);
+      at_bound = omega (arith, k.0.sources, k.0.near, k.0.sizes.versions, k.0.sizes.sources, c.sources_at-table.ensures);
       n_bound = omega arith;
     }
 

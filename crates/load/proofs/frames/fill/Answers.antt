@@ -55,10 +55,11 @@ record_of-r-requires c =
     omega (arith, loop.invariant.0, loop-test.true)
 
 pub overflow_add-next : goal.overflow_add-next
-overflow_add-next c = omega (arith, (room (goal.at.overflow_add-next c).After-frame_size).0, (room (goal.at.overflow_add-next c).After-frame_size).1)
+overflow_add-next c = let here = room (goal.at.overflow_add-next c).After-frame_size in omega (arith, here.0, here.1)
 
 pub offset_bounds-memory-start : goal.offset_bounds-memory-start
-offset_bounds-memory-start c = omega (arith, (room (goal.at.offset_bounds-memory-start c).After-frame_size).0, (room (goal.at.offset_bounds-memory-start c).After-frame_size).1)
+offset_bounds-memory-start c =
+    let here = room (goal.at.offset_bounds-memory-start c).After-frame_size in omega (arith, here.0, here.1)
 
 pub slice_bounds-fill_frame-count : goal.slice_bounds-fill_frame-count
 slice_bounds-fill_frame-count c = omega (arith, (room (goal.at.slice_bounds-fill_frame-count c).After-frame_size).0)

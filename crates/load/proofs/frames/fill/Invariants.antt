@@ -8,7 +8,9 @@ use Rattle.load.proofs.frames.fill.Given as goal
 
 abbrev pub invariant-loop-k : goal.invariant-loop-k
 invariant-loop-k l =
-    (l.k-end ≤ 16) × ((lists : List ℕ) → Framed (members_of l.records lists l.directory) l.parameters l.initial.memory l.memory l.given l.start l.k)
+    (l.k-end ≤ 16)
+    × ((lists : List ℕ) →
+    Framed (members_of l.records lists l.directory) l.parameters l.initial.memory l.memory l.given l.start l.k)
 
 abbrev pub decreases-loop-k : goal.decreases-loop-k
 decreases-loop-k l = l.k-end - l.k

@@ -34,4 +34,5 @@ returns c =
     let size : length a.frame.now ≡ length words =
     pre.frame_len
     ∙ sym (frame-sized a.k a.start a.parameters.now a.r.now a.h pre.h_value pre.parameters_len_bound) in
-    filled-all loop.frame words loop.i loop.invariant.1 (omega (arith, loop.invariant.0, loop-test.false)) (loop.invariant.0 ∙ size)
+    filled-all loop.frame words loop.i loop.invariant.1 (omega (arith, loop.invariant.0, loop-test.false))
+    (loop.invariant.0 ∙ size)

@@ -31,7 +31,8 @@ pub slice_bounds-fill_frame-end-2 : goal.slice_bounds-fill_frame-end-2
 slice_bounds-fill_frame-end-2 c =
     let frame-size = c.frame_size-size in
     let clear = c.clear in
-    omega (arith, (sized (goal.at.slice_bounds-fill_frame-end-2 c).After-frame_size-size).1, length-take frame-size.result clear.new.memory)
+    let here = sized (goal.at.slice_bounds-fill_frame-end-2 c).After-frame_size-size in
+    omega (arith, here.1, length-take frame-size.result clear.new.memory)
 
 pub fill_frame-requires : goal.fill_frame-requires
 fill_frame-requires c =

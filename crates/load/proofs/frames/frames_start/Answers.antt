@@ -67,7 +67,8 @@ pub overflow_add-size : goal.overflow_add-size
 overflow_add-size c =
     let loop-test = c.loop-k-test in
     let loop = c.loop-k in
-    omega (arith, (loop.invariant.1 []).small, loop.invariant.0, loop-test.true, (sized (goal.at.overflow_add-size c).After-frame_size-size).1)
+    let here = sized (goal.at.overflow_add-size c).After-frame_size-size in
+    omega (arith, (loop.invariant.1 []).small, loop.invariant.0, loop-test.true, here.1)
 
 pub loop-k-preserved : goal.loop-k-preserved
 loop-k-preserved c =
@@ -75,10 +76,11 @@ loop-k-preserved c =
     let loop-test = c.loop-k-test in
     let loop = c.loop-k in
     let count = c.count-k-end in
-    let a = c.args in (
+    let a = c.args in
+    let here = sized (goal.at.loop-k-preserved c).After-frame_size-size in (
       loop.invariant.0,
       λ lists. reached-next (loop.invariant.1 lists) (omega (arith, count.ensures a.records.now lists, loop-test.true))
-          record_of.result.now (record_of.ensures lists) _ (sized (goal.at.loop-k-preserved c).After-frame_size-size).0 (sized (goal.at.loop-k-preserved c).After-frame_size-size).1,
+          record_of.result.now (record_of.ensures lists) _ here.0 here.1,
     )
 
 pub returns : goal.returns

@@ -32,10 +32,10 @@ own c =
     )
 
 -- Its code is small.
-small : (c : After-code_of-code) → (let loop = c.loop-k in (record_number c.record_of-r.result.now ≡ 0) × (5 * loop.k + 5 ≤ length loop.table)) →
+small : (c : After-code_of-code) → (record_number c.record_of-r.result.now ≡ 0) →
     length c.code_of-code.result.now ≤ 4096
-small c has-own =
-    omega (arith, ap length c.code_of-code.ensures, sound-code c.record_of-r.result.now (has-own).0)
+small c sound =
+    omega (arith, ap length c.code_of-code.ensures, sound-code c.record_of-r.result.now sound)
 
 pub loop-k-init : goal.loop-k-init
 loop-k-init c =
@@ -78,7 +78,9 @@ pub overflow_add-at : goal.overflow_add-at
 overflow_add-at c =
     let loop-test = c.loop-k-test in
     let loop = c.loop-k in
-    omega (arith, loop.invariant.0, loop-test.true, (loop.invariant.1 []).small, small (goal.at.overflow_add-at c).After-code_of-code (own (goal.at.overflow_add-at c).After-record_of-r))
+    let at = goal.at.overflow_add-at c in
+    let few = small at.After-code_of-code (own at.After-record_of-r).0 in
+    omega (arith, loop.invariant.0, loop-test.true, (loop.invariant.1 []).small, few)
 
 pub loop-k-preserved : goal.loop-k-preserved
 loop-k-preserved c =
@@ -88,10 +90,12 @@ loop-k-preserved c =
     let loop-test = c.loop-k-test in
     let loop = c.loop-k in
     let count = c.count-k-end in
-    let a = c.args in (
+    let a = c.args in
+    let at = goal.at.loop-k-preserved c in
+    let few = small at.After-code_of-code (own at.After-record_of-r).0 in (
       loop.invariant.0,
       λ lists. tabled-next (loop.invariant.1 lists) (omega (arith, count.ensures a.records.now lists, loop-test.true))
-          record_of.result.now (record_of.ensures lists) _ put-row.ensures _ (ap length code_of_lem.ensures) (small (goal.at.loop-k-preserved c).After-code_of-code (own (goal.at.loop-k-preserved c).After-record_of-r)),
+          record_of.result.now (record_of.ensures lists) _ put-row.ensures _ (ap length code_of_lem.ensures) few,
     )
 
 pub returns : goal.returns

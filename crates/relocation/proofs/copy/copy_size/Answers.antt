@@ -47,7 +47,8 @@ pub overflow_add-size : goal.overflow_add-size
 overflow_add-size c =
     let loop-test = c.loop-k-test in
     let loop = c.loop-k in
-    omega (arith, (loop.invariant.1 []).small, loop.invariant.0, loop-test.true, small (goal.at.overflow_add-size c).After-code_of-code)
+    let few = small (goal.at.overflow_add-size c).After-code_of-code in
+    omega (arith, (loop.invariant.1 []).small, loop.invariant.0, loop-test.true, few)
 
 pub loop-k-preserved : goal.loop-k-preserved
 loop-k-preserved c =
@@ -56,10 +57,11 @@ loop-k-preserved c =
     let loop-test = c.loop-k-test in
     let loop = c.loop-k in
     let count = c.count-k-end in
-    let a = c.args in (
+    let a = c.args in
+    let few = small (goal.at.loop-k-preserved c).After-code_of-code in (
       loop.invariant.0,
       λ lists. counted_next (loop.invariant.1 lists) (omega (arith, count.ensures a.records.now lists, loop-test.true))
-          record_of.result.now (record_of.ensures lists) _ (ap length code_of_lem.ensures) (small (goal.at.loop-k-preserved c).After-code_of-code),
+          record_of.result.now (record_of.ensures lists) _ (ap length code_of_lem.ensures) few,
     )
 
 pub returns : goal.returns

@@ -70,11 +70,12 @@ returns-then-not-is_relocated c =
     let record_of = c.record_of-r in
     let loop = c.loop-k in
     let a = c.args in
+    let at = goal.at.returns-then-not-is_relocated c in
     λ lists.
     let S = members_of a.records.now lists a.directory.now in
-    sym (loop.invariant.2 lists ∙ same-fails S a.copy.now loop.at loop.k (below (goal.at.returns-then-not-is_relocated c).After-record_of-r lists)
-    record_of.result.now (record_of.ensures lists) is-relocated.result (compared (goal.at.returns-then-not-is_relocated c).After-is_relocated lists)
-    (if1.true))
+    sym (loop.invariant.2 lists ∙ same-fails S a.copy.now loop.at loop.k (below at.After-record_of-r lists)
+    record_of.result.now (record_of.ensures lists) is-relocated.result (compared at.After-is_relocated lists)
+    if1.true)
 
 pub returns : goal.returns
 returns c =

@@ -43,9 +43,9 @@ is_relocation_sound-requires c =
     let a = c.args in
     let pre = c.requires in
     let S = members_of a.records.now [] a.directory.now in
-    record {
+    let within = below (goal.at.is_relocation_sound-requires c).After-record_of-r [] in record {
       sheet = pre.sheet;
-      r_value = ap record_number (record_of.ensures []) ∙ members-sound S (pre.by_index []) loop.k (below (goal.at.is_relocation_sound-requires c).After-record_of-r []);
+      r_value = ap record_number (record_of.ensures []) ∙ members-sound S (pre.by_index []) loop.k within;
     }
 
 pub returns-then-not-is_relocation_sound : goal.returns-then-not-is_relocation_sound
@@ -58,7 +58,8 @@ returns-then-not-is_relocation_sound c =
     λ lists.
     let S = members_of a.records.now lists a.directory.now in
     sym (loop.invariant.1 lists
-    ∙ every-fails (λ (M : Member). relocation_sound M.bytes) S loop.k (below (goal.at.returns-then-not-is_relocation_sound c).After-record_of-r lists)
+    ∙ every-fails (λ (M : Member). relocation_sound M.bytes) S loop.k
+    (below (goal.at.returns-then-not-is_relocation_sound c).After-record_of-r lists)
     is-relocation-sound.result (is-relocation-sound.ensures ∙ ap relocation_sound (record_of.ensures lists))
     (if1.true))
 
@@ -73,7 +74,8 @@ loop-k-preserved c =
       λ lists.
           let S = members_of a.records.now lists a.directory.now in
           loop.invariant.1 lists
-          ∙ every-passes (λ (M : Member). relocation_sound M.bytes) S loop.k (below (goal.at.loop-k-preserved c).After-record_of-r lists)
+          ∙ every-passes (λ (M : Member). relocation_sound M.bytes) S loop.k
+          (below (goal.at.loop-k-preserved c).After-record_of-r lists)
           is-relocation-sound.result (is-relocation-sound.ensures ∙ ap relocation_sound (record_of.ensures lists))
           (if1.false),
     )

@@ -24,7 +24,7 @@ returns-then-not-is_linked c =
     let if1 = c.if-number-ne0 in
     let records-number = c.records_number-number in
     λ lists.
-    rw (← records-number.ensures lists, eq-eqb records-number.result 0 if1.false, ← is-linked.ensures lists, if2.true-raw)
+    rw (← records-number.ensures lists, eq-eqb records-number.result 0 if1.false, ← is-linked.ensures lists, if2.true)
 
 pub all_sound-requires : goal.all_sound-requires
 all_sound-requires c =
@@ -55,9 +55,9 @@ returns-then-not-all_sound c =
       ← records-number.ensures lists,
       eq-eqb records-number.result 0 if1.false,
       ← is-linked.ensures lists,
-      if2.false-raw,
+      if2.false,
       ← All-sound.ensures lists,
-      if3.true-raw,
+      if3.true,
     )
 
 pub returns : goal.returns
@@ -74,7 +74,7 @@ returns c =
       ← records-number.ensures lists,
       eq-eqb records-number.result 0 if1.false,
       ← is-linked.ensures lists,
-      if2.false-raw,
+      if2.false,
       ← All-sound.ensures lists,
-      if3.false-raw,
+      if3.false,
     )
