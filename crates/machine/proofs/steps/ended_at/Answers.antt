@@ -5,21 +5,17 @@ use borrow.Author.Rules.{rules}
 use Rattle.registers.specs.Modules.{modules_in}
 use Rattle.registers.proofs.Rows.{modules-length}
 use Rattle.registers.proofs.Bases.{number-most}
-use Rattle.machine.proofs.steps.ended_at.Statement.{statement}
-use Rattle.machine.proofs.steps.ended_at.Tie as tie
+use Rattle.machine.proofs.steps.ended_at.Goals as goal
 
-cast-member : tie.Need-overflow-cast-member
-cast-member c =
-    let number-at = c.number-at in
-    let a = c.before.before.before.before.args in
-    let pre = c.before.before.before.before.requires in
+pub overflow_cast-member : goal.overflow_cast-member
+overflow_cast-member c =
+    let number-at = c.number_at-member in
+    let a = c.args in
+    let pre = c.requires in
     let most = number-most (modules_in a.table.now []) a.machine.registers.gp in
     record { fits = omega (arith, number-at.ensures [], most, modules-length a.table.now [], pre) }
 
-returns : tie.Need-returns
+pub returns : goal.returns
 returns c =
-    let number-at = c.number-at in
+    let number-at = c.number_at-member in
     λ copy. rw (number-at.ensures copy)
-
-pub ended-at-spec : {M : Type 1} → statement M
-ended-at-spec = tie.close (tie.spec (λ c. search rules) (λ c κs. search rules) cast-member returns)
