@@ -1,5 +1,6 @@
 // What an instruction gives to its successors.
 #![tactic(auto)]
+
 ghost use Rattle.std.specs.Prelude.{◌≡◌, ◌<◌};
 ghost use Rattle.entries.specs.Libraries.{libraries_in};
 ghost use Rattle.stackmap.specs.Ways.{parameters_in, results_in};

@@ -1,5 +1,6 @@
 // A cursor: a record and a place in it, kept together. Its functions take it apart and call `words` on the slice and the place.
 #![tactic(auto)]
+
 ghost use Rattle.std.specs.Prelude.{◌≡◌};
 ghost use Rattle.words.specs.Bytes.{word_at};
 ghost use Rattle.cursor.specs.Cursor.{place_after, pair_at};

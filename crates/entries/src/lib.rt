@@ -1,5 +1,6 @@
 // The entry table at the start of the code, the procedures' regions, and the libraries that a module imports.
 #![tactic(auto)]
+
 ghost use Rattle.std.specs.Prelude.{◌≡◌, List, ℕ, ◌<◌};
 ghost use Rattle.entries.specs.Entries.{entry_at, entry_count, no_callee, count_sound, entries_sound, region_end};
 ghost use Rattle.entries.specs.Libraries.{library_in, libraries_in, row_word};

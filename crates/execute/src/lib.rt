@@ -1,5 +1,6 @@
 // What an instruction does with the stack words that it finds.
 #![tactic(auto)]
+
 ghost use Rattle.std.specs.Prelude.{◌≡◌, true, List, ℕ, ◌≤◌, ◌-◌, length};
 ghost use Rattle.shape.specs.Shape.{needed};
 ghost use Rattle.registers.specs.Memory.{read, chained};

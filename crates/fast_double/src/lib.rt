@@ -1,5 +1,6 @@
 // Completes loads and stores in two words: the codes behind DOUBLE.
 #![tactic(auto)]
+
 ghost use Rattle.std.specs.Prelude.{◌≡◌, true, ◌+◌, ◌<◌, length};
 ghost use Rattle.words.specs.Bytes.{byte_at};
 ghost use Rattle.registers.specs.Program.{program};

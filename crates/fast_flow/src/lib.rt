@@ -1,5 +1,6 @@
 // Completes jumps, loops, switches and unsigned arithmetic, and hands other codes on.
 #![tactic(auto)]
+
 ghost use Rattle.std.specs.Prelude.{◌≡◌, true, List, ℕ, ◌+◌, ◌≤◌, ◌<◌, length};
 ghost use Rattle.words.specs.Bytes.{byte_at, halfword_at};
 ghost use Rattle.operand.specs.Distance.{place_at};

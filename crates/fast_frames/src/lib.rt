@@ -1,5 +1,6 @@
 // Completes steps that change frames, or writes nothing.
 #![tactic(auto)]
+
 ghost use Rattle.std.specs.Prelude.{◌≡◌, true, ◌+◌, ◌≤◌, ◌<◌, length};
 ghost use Rattle.words.specs.Bytes.{byte_at};
 ghost use Rattle.entries.specs.Entries.{entry_count};

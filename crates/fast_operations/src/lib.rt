@@ -1,3 +1,4 @@
 // Completes operations on words.
 #![tactic(auto)]
+
 pub mod operations;

@@ -1,5 +1,6 @@
 // The numbers 12 to 14, from the marks that the workspace holds.
 #![tactic(auto)]
+
 ghost use Rattle.std.specs.Prelude.{◌≡◌, List, [], ◌∷◌, ℕ, ◌≤◌, ◌<◌, ◌-◌, length};
 ghost use Rattle.opcode.specs.Sheet.{Sheet};
 ghost use Rattle.entries.specs.Entries.{no_callee};

@@ -1,5 +1,6 @@
 // The header, and where each part of the record lies.
 #![tactic(auto)]
+
 ghost use Rattle.std.specs.Prelude.{◌≡◌};
 ghost use Rattle.header.specs.Header.{header_of, sizes_fit, code_at, constants_at, relocation_at, versions_at, sources_at, record_length, code_of};
 

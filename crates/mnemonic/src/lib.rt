@@ -1,5 +1,6 @@
 // What a listing shows of an instruction, as numbers.
 #![tactic(auto)]
+
 ghost use Rattle.std.specs.Prelude.{◌≡◌, ◌+◌, ◌<◌};
 ghost use Rattle.mnemonic.specs.Mnemonic.{arithmetic_place, order_place, set_place, operation_number, mode_place};
 ghost use Rattle.mnemonic.specs.Mnemonic.{parts, based, parts_of};

@@ -1,5 +1,6 @@
 // Sets of modules: their members, the numbers 1 to 7 over a set, and 17.
 #![tactic(auto)]
+
 ghost use Rattle.std.specs.Prelude.{◌≡◌, List, ℕ, ◌<◌, ◌≤◌, ◌-◌, ◌/◌, min, length};
 ghost use Rattle.words.specs.Order.{every};
 ghost use Rattle.module_set.specs.Members.{members_of, member_at, libraries, imports_of, number_of, resolved};

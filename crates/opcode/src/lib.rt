@@ -1,5 +1,6 @@
 // Instruction decoding: what stands at a place of the code, within a limit.
 #![tactic(auto)]
+
 ghost use Rattle.std.specs.Prelude.{◌≡◌, ◌<◌};
 ghost use Rattle.opcode.specs.Sheet.{Sheet};
 ghost use Rattle.opcode.specs.Decode.{decoded_number, decode_in, decode_at};

@@ -1,5 +1,6 @@
 // The operands behind a code byte at `at`, each as a word.
 #![tactic(auto)]
+
 ghost use Rattle.std.specs.Prelude.{◌≡◌, ◌+◌};
 ghost use Rattle.std.specs.Int.{w8, w16};
 ghost use Rattle.words.specs.Bytes.{byte_at, halfword_at, word_at};

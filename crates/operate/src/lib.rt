@@ -1,5 +1,6 @@
 // The operations on words: a word, or the trap that stands in its place.
 #![tactic(auto)]
+
 ghost use Rattle.std.specs.Prelude.{◌≡◌};
 ghost use Rattle.operate.specs.Value.{signed_word, truth_of};
 

@@ -1,5 +1,6 @@
 // The record of 5.1: which number refuses it, and which source line an offset belongs to.
 #![tactic(auto)]
+
 ghost use Rattle.std.specs.Prelude.{◌≡◌};
 ghost use Rattle.record.specs.Number.{size_number, record_number, reading_of, reading_number, line_span, line_number};
 

@@ -1,5 +1,6 @@
 // The registers, by value.
 #![tactic(auto)]
+
 ghost use Rattle.std.specs.Prelude.{◌≡◌, ◌≤◌, ◌<◌, ◌+◌};
 ghost use Rattle.registers.specs.Memory.{link_words};
 ghost use Rattle.registers.specs.Changes.{moved, sized, raised, called, returned};

@@ -1,5 +1,6 @@
 // The run file's head.
 #![tactic(auto)]
+
 ghost use Rattle.std.specs.Prelude.{◌≡◌, ◌+◌, length};
 ghost use Rattle.words.specs.Bytes.{words_from};
 ghost use Rattle.run_file.specs.RunFile.{results_count, parameters_count, budget_at, results_of, budget_of, memory_words, stack_words, record_of, named, well_formed};

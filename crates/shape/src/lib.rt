@@ -1,5 +1,6 @@
 // What an instruction finds on the stack, and its shape for the check.
 #![tactic(auto)]
+
 ghost use Rattle.std.specs.Prelude.{◌≡◌};
 ghost use Rattle.shape.specs.Counts.{popped, words_in, operands};
 ghost use Rattle.shape.specs.Shape.{shape_of, finds, needed};

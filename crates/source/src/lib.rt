@@ -1,5 +1,6 @@
 // The source table: pairs of an offset and a line; the span of a line.
 #![tactic(auto)]
+
 ghost use Rattle.std.specs.Prelude.{◌≡◌};
 ghost use Rattle.source.specs.Source.{source_offsets, source_sound, covering, pair_of};
 ghost use Rattle.source.specs.Span.{end_of, lookup_at};

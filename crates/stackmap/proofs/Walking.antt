@@ -11,7 +11,7 @@ use Rattle.layout.specs.Cut.{updated}
 use Rattle.stackmap.specs.Slots.{Slot}
 use Rattle.stackmap.specs.Ways.{Subject, Way}
 use Rattle.stackmap.specs.StackMap.{GivesEach, stepped, ways_at}
-use Rattle.stackmap.specs.Walk.{waiting, done, States, passed, visited, Found, found, visit_next, walk}
+use Rattle.stackmap.specs.Walk.{waiting, done, States, passed, visited, Found, visit_next, walk}
 use Rattle.stackmap.specs.Theorems.{WellCut, map_in}
 use Rattle.layout.proofs.Updates.{Change, changed, spared, change, updated-here}
 use Rattle.stackmap.proofs.Counts.{undone_in, undone, undone-drops, undone-waits, done-stays, Seen, clear, sees, seen}

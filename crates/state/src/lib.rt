@@ -1,5 +1,6 @@
 // Which states a run takes.
 #![tactic(auto)]
+
 ghost use Rattle.std.specs.Prelude.{◌≡◌, true, List, ℕ, ◌≤◌, length};
 ghost use Rattle.state.specs.Fits.{sizes_taken, header_kept, headers_kept, registers_fit, ordered, bounded, fits};
 ghost use Rattle.registers.specs.Modules.{modules_in, is_base};

@@ -1,5 +1,6 @@
 // A step: decode, find the stack words, work out the effect, and carry it out.
 #![tactic(auto)]
+
 ghost use Rattle.std.specs.Prelude.{◌≡◌, true, ◌≤◌, ◌<◌, ◌-◌, length, take, drop};
 ghost use Rattle.std.proofs.lemmas.List.Edits.{sets};
 ghost use Rattle.opcode.specs.Sheet.{Sheet};

@@ -1,5 +1,6 @@
 // Where control may go.
 #![tactic(auto)]
+
 ghost use Rattle.std.specs.Prelude.{◌≡◌, ◌<◌};
 ghost use Rattle.operand.specs.Distance.{place_at};
 ghost use Rattle.switch_table.specs.Switch.{exit_label};

@@ -1,5 +1,6 @@
 // The tables behind SWITCH and SWITCH_X, whose code byte stands at `at`.
 #![tactic(auto)]
+
 ghost use Rattle.std.specs.Prelude.{◌≡◌};
 ghost use Rattle.switch_table.specs.Switch.{exit_distance, exit_label, else_distance, branch_distance, range_distance, range_holds, search_distance};
 

@@ -1,5 +1,6 @@
 // Printed text, written as far as there is room: so a first pass over an empty buffer tells how long it is.
 #![tactic(auto)]
+
 ghost use Rattle.std.specs.Prelude.{◌≡◌, ◌≤◌, ◌<◌, length};
 ghost use Rattle.text.specs.Text.{power, width, decimal, words_text, list_line, numbered, check_line, end_line, Wrote};
 

@@ -1,5 +1,6 @@
 // The version word.
 #![tactic(auto)]
+
 ghost use Rattle.std.specs.Prelude.{◌≡◌};
 ghost use Rattle.version.specs.Version.{among, issue_at, version_sound};
 ghost use Rattle.version.specs.Issue.{issue_of, earlier, issue3, wraps};

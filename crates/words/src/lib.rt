@@ -1,5 +1,6 @@
 // Total reads from slices, and total stores: a place past the end reads as 0, and nothing is stored there.
 #![tactic(auto)]
+
 ghost use Rattle.std.specs.Prelude.{◌≡◌, ◌+◌, ◌*◌, take, drop, set};
 ghost use Rattle.words.specs.Bytes.{byte_at, halfword_at, word_at};
 ghost use Rattle.words.specs.Refusal.{lower};

@@ -1,5 +1,6 @@
 // Total reads and writes of the lent halfwords: a place past the end reads as 0, and writing there changes nothing.
 #![tactic(auto)]
+
 ghost use Rattle.std.specs.Prelude.{◌≡◌, get_or, set};
 
 pub fn half_at(w: &[u16], i: usize) -> u16

@@ -4,7 +4,6 @@ use Prim.Native.Nat.{◌+◌, ◌<◌, ◌/◌}
 use native.Mathlib.Omega.{arith}
 use lib.ListN.{length}
 use borrow.Author.Tests.{le-leb, lt-leb}
-use borrow.Author.Rules.{rules}
 use Rattle.registers.specs.Modules.{modules_in, module_at}
 use Rattle.registers.proofs.Rows.{library-row, module-row, row_within}
 use Rattle.control.specs.Control.{call_external_effect}
@@ -41,7 +40,6 @@ row_word-requires c =
       i_bound = omega arith;
     }
 
-
 pub returns-then-is_no_callee : goal.returns-then-is_no_callee
 unfolding call_external_effect
 returns-then-is_no_callee c =
@@ -59,7 +57,6 @@ row_word-requires-2 c =
       k_bound = omega (arith, row (goal.at.row_word-requires-2 c).Else-is_no_library, pre.table_len_bound);
       i_bound = omega arith;
     }
-
 
 pub returns-then-q-ge64 : goal.returns-then-q-ge64
 unfolding call_external_effect
@@ -98,7 +95,6 @@ returns-then-m-q c =
       lt-leb 64 a.q.calls (omega (arith, if3.false)),
       lt-leb (a.q.mp + 3) (length a.m.now) if4.true,
     )
-
 
 pub overflow_cast-gp : goal.overflow_cast-gp
 overflow_cast-gp c =

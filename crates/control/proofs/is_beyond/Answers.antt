@@ -1,7 +1,6 @@
 -- `control::is_beyond` meets its contract: by the sign of the step.
 use mathlib.Core.Path.{◌∙◌, sym}
 use lib.Signed.{lt_z}
-use borrow.Author.Rules.{rules}
 use mir.Syntax.{w32}
 use mir.Val.{to_z}
 use Rattle.control.proofs.Laws.{rising}

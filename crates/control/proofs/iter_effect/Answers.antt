@@ -1,6 +1,4 @@
 -- `control::iter_effect` meets its contract: past the loop, or a store that may trap, and the label.
-use borrow.Author.Rules.{rules}
-use borrow.Author.Tests.{not-true, not-false}
 use Rattle.control.specs.Control.{iter_effect}
 use Rattle.control.proofs.iter_effect.Goals as goal
 

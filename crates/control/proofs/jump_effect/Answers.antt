@@ -1,6 +1,5 @@
 -- `control::jump_effect` meets its contract.
 use mathlib.Core.Path.{◌≡◌}
-use borrow.Author.Rules.{rules}
 use Rattle.operand.specs.Distance.{place_at}
 use Rattle.effect.specs.declared.effect.Push.TheVariants.{NoPush}
 use Rattle.effect.specs.declared.effect.Write.TheVariants.{NoWrite}

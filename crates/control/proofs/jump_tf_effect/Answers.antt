@@ -1,7 +1,6 @@
 -- `control::jump_tf_effect` meets its contract: the boolean stays where the jump is taken.
 use mathlib.Core.Path.{◌≡◌}
 use native.Mathlib.Omega.{arith}
-use borrow.Author.Rules.{rules}
 use borrow.Author.Tests.{lt-ltb, le-ltb, eq-eqb, ne_eqb}
 use Rattle.effect.specs.declared.effect.Push.TheVariants.{NoPush}
 use Rattle.effect.specs.declared.effect.Write.TheVariants.{NoWrite}

@@ -1,7 +1,5 @@
 -- `control::next_effect` meets its contract: live, then protected, then the sum.
 use mathlib.Core.Path.{◌≡◌}
-use borrow.Author.Tests.{not-true, not-false}
-use borrow.Author.Rules.{rules}
 use Rattle.control.specs.Control.{next_sum, sum_effect, next_effect}
 use Rattle.control.proofs.next_effect.Goals.{After-next_sum, After-sum_effect}
 use Rattle.control.proofs.next_effect.Goals as goal

@@ -1,5 +1,4 @@
 -- `control::next_sum` meets its contract: the signed sum of the variable and the step.
-use borrow.Author.Rules.{rules}
 use Rattle.control.specs.Control.{next_sum}
 use Rattle.control.proofs.next_sum.Goals as goal
 

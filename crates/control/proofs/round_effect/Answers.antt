@@ -1,5 +1,4 @@
 -- `control::round_effect` meets its contract: past the last value the loop is left.
-use borrow.Author.Rules.{rules}
 use Rattle.control.proofs.round_effect.Goals as goal
 
 pub returns-then-is_beyond : goal.returns-then-is_beyond

@@ -1,5 +1,4 @@
 -- `control::sum_effect` meets its contract: a sum in the range goes on to `round_effect`, else the loop is left.
-use borrow.Author.Rules.{rules}
 use Rattle.control.proofs.sum_effect.Goals as goal
 
 pub returns-in-Word : goal.returns-in-Word

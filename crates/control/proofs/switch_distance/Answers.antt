@@ -1,7 +1,6 @@
 -- `control::switch_distance` meets its contract: a branch of the table or the range found, or ELSE.
 use mathlib.Core.Path.{◌≡◌}
 use borrow.Author.Tests.{le-leb, lt-leb, eq-eqb, ne_eqb}
-use borrow.Author.Rules.{rules}
 use Rattle.switch_table.specs.Switch.{branch_distance}
 use Rattle.control.proofs.switch_distance.Goals.{After-branch_distance}
 use Rattle.control.proofs.switch_distance.Goals as goal

@@ -1,5 +1,4 @@
 -- `cursor::place_after` meets its contract: each branch's test says which case of `place_after` holds.
-use borrow.Author.Rules.{rules}
 use borrow.Author.Tests.{le-ltb, lt-ltb}
 use Rattle.cursor.specs.Cursor.{place_after}
 use Rattle.cursor.proofs.place_after.Goals as goal

@@ -6,8 +6,7 @@ use mathlib.Core.List.{[], ◌∷◌, ◌++◌}
 use mathlib.Core.Path.{◌≡◌, refl, ◌∙◌}
 use native.Mathlib.Nat.{sub-eq-zero_of_le}
 use lib.ListN.{length}
-use borrow.Author.Rules.{rules}
-use borrow.Author.Tests.{le-leb, lt-leb, le-ltb, lt-ltb, not-true, not-false}
+use borrow.Author.Tests.{le-leb, lt-leb, le-ltb, lt-ltb}
 use Rattle.entries.specs.Entries.{entry_at, entries_from, entries_in_order, entries_sound}
 use Rattle.words.specs.Order.{rising_from}
 use Rattle.words.proofs.Left.{one_left}

@@ -1,16 +1,11 @@
 -- `entries::entries_sound` meets its contract. The loop's invariant: all entries rise just if what is left of them, entry 0
 -- last, rises from `least` on. The measure is what is left.
 use Prim.Native.Nat.{◌-◌}
-use mathlib.Core.Bool.{and-true}
 use mathlib.Core.List.{[], ◌∷◌, ◌++◌}
-use mathlib.Core.Path.{◌≡◌, refl, ◌∙◌}
-use native.Mathlib.Nat.{sub-eq-zero_of_le}
+use mathlib.Core.Path.{◌≡◌}
 use lib.ListN.{length}
-use borrow.Author.Rules.{rules}
-use borrow.Author.Tests.{le-leb, lt-leb, le-ltb, lt-ltb, not-true, not-false}
-use Rattle.entries.specs.Entries.{entry_at, entries_from, entries_in_order, entries_sound}
+use Rattle.entries.specs.Entries.{entry_at, entries_from}
 use Rattle.words.specs.Order.{rising_from}
-use Rattle.words.proofs.Left.{one_left}
 use Rattle.entries.proofs.entries_sound.Given as goal
 
 abbrev pub invariant-loop-p : goal.invariant-loop-p
@@ -20,4 +15,3 @@ invariant-loop-p l =
 
 abbrev pub decreases-loop-p : goal.decreases-loop-p
 decreases-loop-p l = l.count - l.p
-

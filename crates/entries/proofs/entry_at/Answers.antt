@@ -1,5 +1,4 @@
 -- `entries::entry_at` meets its contract: the halfword at twice the number.
-use borrow.Author.Rules.{rules}
 use Rattle.entries.specs.Entries.{entry_at}
 use Rattle.entries.proofs.entry_at.Goals as goal
 

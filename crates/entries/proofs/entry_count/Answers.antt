@@ -1,5 +1,4 @@
 -- `entries::entry_count` meets its contract: one entry where entry 0 is 2, else half of entry 1.
-use borrow.Author.Rules.{rules}
 use borrow.Author.Tests.{eq-eqb, ne_eqb}
 use Rattle.entries.specs.Entries.{entry_count}
 use Rattle.entries.proofs.entry_count.Goals as goal

@@ -1,5 +1,4 @@
 -- `entries::is_no_callee` meets its contract: 0, or past the entries.
-use borrow.Author.Rules.{rules}
 use borrow.Author.Tests.{eq-eqb, ne_eqb}
 use Rattle.entries.proofs.is_no_callee.Goals as goal
 

@@ -1,5 +1,4 @@
 -- `library_code` meets its contract: the part that the first two words of the library's row tell.
-use borrow.Author.Rules.{rules}
 use Rattle.entries.proofs.Rows.{library-code}
 use Rattle.entries.proofs.library_code.Goals as goal
 

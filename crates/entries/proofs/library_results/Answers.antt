@@ -1,5 +1,4 @@
 -- `library_results` meets its contract: the part that the last two words of the library's row tell.
-use borrow.Author.Rules.{rules}
 use Rattle.entries.proofs.Rows.{library-results}
 use Rattle.entries.proofs.library_results.Goals as goal
 

@@ -1,5 +1,4 @@
 -- `entries::region_end` meets its contract: the next entry in the order 1, 2, .., 0, and after 0 the end of the code.
-use borrow.Author.Rules.{rules}
 use borrow.Author.Tests.{eq-eqb, ne_eqb, le-ltb, lt-ltb}
 use Rattle.entries.specs.Entries.{region_end}
 use Rattle.entries.proofs.region_end.Goals as goal

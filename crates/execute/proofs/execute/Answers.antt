@@ -1,7 +1,6 @@
 -- `execute::execute` meets its contract: each arm is its instruction's line, on the words at their depths.
 use Prim.Native.Nat.{◌≤◌}
 use native.Mathlib.Omega.{arith}
-use borrow.Author.Rules.{rules}
 use Rattle.shape.specs.Shape.{shape_of}
 use Rattle.execute.specs.Execute.{execute}
 use Rattle.execute.proofs.Top.{found, top-found, load_found, load-address-found, operate-found}

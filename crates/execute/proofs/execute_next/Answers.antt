@@ -1,5 +1,4 @@
 -- `execute::execute_next` meets its contract: the words by their depths.
-use borrow.Author.Rules.{rules}
 use Rattle.registers.specs.Modules.{modules_in}
 use Rattle.registers.specs.Program.{program}
 use Rattle.execute.proofs.Top.{next-found}

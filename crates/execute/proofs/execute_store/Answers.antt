@@ -3,7 +3,6 @@ use Prim.Native.Nat.{ℕ, ◌-◌}
 use mathlib.Core.List.{List}
 use mathlib.Core.Path.{◌≡◌}
 use native.Mathlib.Omega.{arith}
-use borrow.Author.Rules.{rules}
 use Rattle.shape.specs.Shape.{shape_of}
 use Rattle.shape.proofs.Counting.{popped-small, words_small}
 use Rattle.registers.specs.Modules.{modules_in}

@@ -2,7 +2,6 @@
 use Prim.Native.Nat.{◌-◌}
 use mathlib.Core.Path.{◌≡◌}
 use native.Mathlib.Omega.{arith}
-use borrow.Author.Rules.{rules}
 use Rattle.execute.proofs.peek.Goals as goal
 
 pub returns-then-q-depth : goal.returns-then-q-depth

@@ -1,7 +1,6 @@
 -- `fast_double::double_half` meets its contract: each arm is its instruction's step.
 use mathlib.Core.Path.{◌∙◌, refl, sym}
 use Prim.Native.Nat.{◌+◌}
-use borrow.Author.Rules.{rules}
 use Rattle.words.specs.Bytes.{halfword_at}
 use Rattle.opcode.specs.Table.{both, row_of}
 use Rattle.opcode.specs.declared.instruction.Mode.TheVariants.{Double}

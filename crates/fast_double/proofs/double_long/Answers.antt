@@ -1,7 +1,6 @@
 -- `fast_double::double_long` meets its contract: each arm is its instruction's step.
 use mathlib.Core.Path.{◌∙◌, refl, sym}
 use Prim.Native.Nat.{◌+◌}
-use borrow.Author.Rules.{rules}
 use Rattle.opcode.specs.Table.{both, row_of}
 use Rattle.opcode.specs.declared.instruction.Mode.TheVariants.{Double}
 use Rattle.state.proofs.Fitting.{fitting}
@@ -139,7 +138,7 @@ store_two-requires c =
       mp_in_bounds = F.within;
       height_in_bounds = F.height;
       a_bound = small-local a.attributes a.q (spot a.pc.now a.height.now a.memory.now a.stack.now)
-            pre.stack_value byte_at.result (byte_small byte_at.result byte_at.type_inv);
+          pre.stack_value byte_at.result (byte_small byte_at.result byte_at.type_inv);
     }
 
 pub returns-in-148 : goal.returns-in-148
@@ -169,7 +168,7 @@ store_two-requires-in-149 c =
       mp_in_bounds = F.within;
       height_in_bounds = F.height;
       a_bound = small-global a.attributes a.q (spot a.pc.now a.height.now a.memory.now a.stack.now)
-            pre.stack_value byte_at.result (byte_small byte_at.result byte_at.type_inv);
+          pre.stack_value byte_at.result (byte_small byte_at.result byte_at.type_inv);
     }
 
 pub returns-in-149 : goal.returns-in-149

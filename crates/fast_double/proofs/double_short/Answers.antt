@@ -1,7 +1,6 @@
 -- `fast_double::double_short` meets its contract: each arm is its instruction's step.
 use mathlib.Core.Path.{refl}
 use Prim.Native.Nat.{◌+◌, ◌%◌}
-use borrow.Author.Rules.{rules}
 use Rattle.opcode.specs.Table.{both}
 use Rattle.opcode.specs.declared.instruction.Mode.TheVariants.{Double}
 use Rattle.state.proofs.Fitting.{fitting}
@@ -94,7 +93,7 @@ store_two-requires c =
       mp_in_bounds = F.within;
       height_in_bounds = F.height;
       a_bound = small-local a.attributes a.q (spot a.pc.now a.height.now a.memory.now a.stack.now)
-            pre.stack_value (a.b % 16) (digit-small a.b);
+          pre.stack_value (a.b % 16) (digit-small a.b);
     }
 
 pub returns-in-4 : goal.returns-in-4
@@ -119,7 +118,7 @@ store_two-requires-in-5 c =
       mp_in_bounds = F.within;
       height_in_bounds = F.height;
       a_bound = small-global a.attributes a.q (spot a.pc.now a.height.now a.memory.now a.stack.now)
-            pre.stack_value (a.b % 16) (digit-small a.b);
+          pre.stack_value (a.b % 16) (digit-small a.b);
     }
 
 pub returns-in-5 : goal.returns-in-5

@@ -1,6 +1,5 @@
 -- `fast_double::double_step` meets its contract: by the code behind DOUBLE.
 use mathlib.Core.Path.{refl}
-use borrow.Author.Rules.{rules}
 use Rattle.fast_double.proofs.double_step.Goals as goal
 
 pub double_short-requires : goal.double_short-requires

@@ -1,6 +1,5 @@
 -- `fast_flow::flow_step` meets its contract: each arm is its code's step.
 use mathlib.Core.Path.{◌∙◌, sym}
-use borrow.Author.Rules.{rules}
 use Rattle.state.proofs.Fitting.{fitting}
 use Rattle.fast.specs.Fast.{spot, state_at}
 use Rattle.fast_flow.proofs.flow_step.Goals as goal

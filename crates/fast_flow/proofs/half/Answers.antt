@@ -1,5 +1,4 @@
 -- `fast_flow::half` meets its contract: a halfword is two bytes.
-use borrow.Author.Rules.{rules}
 use Rattle.words.specs.Bytes.{halfword_at}
 use Rattle.fast_flow.proofs.half.Goals as goal
 

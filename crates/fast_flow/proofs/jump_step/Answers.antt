@@ -1,6 +1,5 @@
 -- `fast_flow::jump_step` meets its contract: each arm is its code's step.
 use mathlib.Core.Path.{◌∙◌}
-use borrow.Author.Rules.{rules}
 use Rattle.fast_flow.proofs.jump_step.Goals as goal
 
 pub returns-in-218 : goal.returns-in-218

@@ -1,6 +1,5 @@
 -- `fast_flow::switch_step` meets its contract: each arm is its code's step.
 use mathlib.Core.Path.{◌∙◌, sym}
-use borrow.Author.Rules.{rules}
 use Rattle.fast_flow.proofs.switch_step.Goals as goal
 
 pub returns-in-226 : goal.returns-in-226

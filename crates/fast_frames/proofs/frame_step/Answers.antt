@@ -1,7 +1,6 @@
 -- `fast_frames::frame_step` meets its contract: a short call has its operand in the code byte.
 use mathlib.Core.Path.{refl}
 use native.Mathlib.Omega.{arith}
-use borrow.Author.Rules.{rules}
 use Rattle.fast_frames.proofs.Decoding.{call-short}
 use Rattle.fast_frames.proofs.frame_step.Goals as goal
 

@@ -1,8 +1,6 @@
 -- `fast_frames::long_step` meets its contract: each branch is its code's step, whose bytes lie within the code.
 use mathlib.Core.Path.{◌∙◌, sym}
-use Prim.Native.Nat.{◌+◌}
 use native.Mathlib.Omega.{arith}
-use borrow.Author.Rules.{rules}
 use Rattle.fast_frames.proofs.Decoding.{rtn-decodes, enter-decodes, call-decodes, alloc-decodes, free-decodes}
 use Rattle.fast_frames.proofs.long_step.Goals as goal
 
@@ -30,7 +28,7 @@ enter-requires c =
       locals_bound = byte2.ensures.1;
       next_in_bounds = if3.false;
       decodes = rw (byte.ensures.0, byte2.ensures.0)
-                  (enter-decodes a.code.now a.pc.now (sym pre.b_value ∙ if2.true) if3.false);
+          (enter-decodes a.code.now a.pc.now (sym pre.b_value ∙ if2.true) if3.false);
       stack_value = pre.stack_value;
     }
 

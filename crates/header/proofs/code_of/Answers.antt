@@ -1,5 +1,4 @@
 -- `header::code_of` meets its contract: the part at the code's place, of the code's size.
-use borrow.Author.Rules.{rules}
 use Rattle.header.specs.Header.{code_of}
 use Rattle.header.proofs.code_of.Goals as goal
 

@@ -1,6 +1,5 @@
 -- `header::constants_at` meets its contract: sizes of 32 bits make a place that fits.
 use native.Mathlib.Omega.{arith}
-use borrow.Author.Rules.{rules}
 use Rattle.header.specs.Header.{code_at, constants_at}
 use Rattle.header.proofs.constants_at.Goals as goal
 

@@ -1,5 +1,4 @@
 -- `header::header_of` meets its contract: each field is a word of its pair.
-use borrow.Author.Rules.{rules}
 use Rattle.cursor.specs.Cursor.{pair_at}
 use Rattle.header.specs.Header.{header_of}
 use Rattle.header.proofs.header_of.Goals as goal

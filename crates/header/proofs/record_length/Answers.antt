@@ -1,6 +1,5 @@
 -- `header::record_length` meets its contract: sizes of 32 bits make a length that fits.
 use native.Mathlib.Omega.{arith}
-use borrow.Author.Rules.{rules}
 use Rattle.header.specs.Header.{code_at, constants_at, relocation_at, versions_at, sources_at, record_length}
 use Rattle.header.proofs.record_length.Goals as goal
 

@@ -1,5 +1,4 @@
 -- `based` meets its contract: each base counts from the first mnemonic, and a library has its own.
-use borrow.Author.Rules.{rules}
 use Rattle.mnemonic.proofs.based.Goals as goal
 
 pub returns-in-Constant : goal.returns-in-Constant

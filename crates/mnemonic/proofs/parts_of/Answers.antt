@@ -1,5 +1,4 @@
 -- `parts_of` meets its contract: each arm gives the row of its instruction.
-use borrow.Author.Rules.{rules}
 use Rattle.mnemonic.specs.Mnemonic.{parts_of}
 use Rattle.mnemonic.proofs.parts_of.Goals as goal
 

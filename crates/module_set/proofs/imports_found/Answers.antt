@@ -1,13 +1,9 @@
 -- `module_set::imports_found` meets its contract: the imports from one on decide, for every set with this directory. The
 -- measure is the imports left.
-use Prim.Native.Nat.{ℕ, ◌+◌, ◌*◌, ◌-◌}
-use mathlib.Core.List.{List}
-use mathlib.Core.Path.{◌≡◌, ◌∙◌, sym}
+use Prim.Native.Nat.{◌+◌, ◌*◌}
+use mathlib.Core.Path.{◌∙◌, sym}
 use native.Mathlib.Nat.{sub-zero}
-use borrow.Author.Rules.{rules}
 use Rattle.words.specs.Bytes.{word_at}
-use Rattle.words.specs.Order.{every}
-use Rattle.words.specs.Series.{series}
 use Rattle.module_set.specs.Members.{members_of}
 use Rattle.words.proofs.Order.{row-over}
 use Rattle.module_set.proofs.Linking.{lent, import-missing, import-found}

@@ -2,15 +2,12 @@
 -- measure is the imports left.
 use Prim.Native.Nat.{ℕ, ◌+◌, ◌*◌, ◌-◌}
 use mathlib.Core.List.{List}
-use mathlib.Core.Path.{◌≡◌, ◌∙◌, sym}
-use native.Mathlib.Nat.{sub-zero}
-use borrow.Author.Rules.{rules}
+use mathlib.Core.Path.{◌≡◌}
 use Rattle.words.specs.Bytes.{word_at}
 use Rattle.words.specs.Order.{every}
 use Rattle.words.specs.Series.{series}
 use Rattle.module_set.specs.Members.{members_of}
-use Rattle.words.proofs.Order.{row-over}
-use Rattle.module_set.proofs.Linking.{lent, import-missing, import-found}
+use Rattle.module_set.proofs.Linking.{lent}
 use Rattle.module_set.proofs.imports_found.Given as goal
 
 abbrev pub invariant-loop-j : goal.invariant-loop-j
@@ -21,4 +18,3 @@ invariant-loop-j l =
 
 abbrev pub decreases-loop-j : goal.decreases-loop-j
 decreases-loop-j l = l.imports - l.j
-

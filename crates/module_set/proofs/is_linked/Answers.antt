@@ -1,14 +1,10 @@
 -- `module_set::is_linked` meets its contract: the number of modules, then the SIDs, then the imports of the members from one on
 -- decide, for every results lists. The measure is the modules left.
-use Prim.Native.Nat.{ℕ, ◌-◌}
+use Prim.Native.Nat.{ℕ}
 use mathlib.Core.List.{List}
-use mathlib.Core.Path.{◌≡◌, ◌∙◌, sym, ap}
+use mathlib.Core.Path.{◌∙◌, sym, ap}
 use native.Mathlib.Omega.{arith}
-use lib.ListN.{drop}
-use borrow.Author.Tests.{not-true, not-false}
-use borrow.Author.Rules.{rules}
 use Rattle.module_set.specs.Members.{members_of, imports_of}
-use Rattle.module_set.specs.Linked.{every_member, linked}
 use Rattle.words.specs.Order.{every}
 use Rattle.module_set.proofs.Every.{every-over, every-fails, every-passes}
 use Rattle.module_set.proofs.Linking.{lent, imports_lent, linked-many, linked-alike, linked-each}

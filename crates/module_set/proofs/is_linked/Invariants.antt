@@ -2,16 +2,11 @@
 -- decide, for every results lists. The measure is the modules left.
 use Prim.Native.Nat.{ℕ, ◌-◌}
 use mathlib.Core.List.{List}
-use mathlib.Core.Path.{◌≡◌, ◌∙◌, sym, ap}
-use native.Mathlib.Omega.{arith}
+use mathlib.Core.Path.{◌≡◌}
 use lib.ListN.{drop}
-use borrow.Author.Tests.{not-true, not-false}
-use borrow.Author.Rules.{rules}
-use Rattle.module_set.specs.Members.{members_of, imports_of}
+use Rattle.module_set.specs.Members.{members_of}
 use Rattle.module_set.specs.Linked.{every_member, linked}
-use Rattle.words.specs.Order.{every}
-use Rattle.module_set.proofs.Every.{every-over, every-fails, every-passes}
-use Rattle.module_set.proofs.Linking.{lent, imports_lent, linked-many, linked-alike, linked-each}
+use Rattle.module_set.proofs.Linking.{imports_lent}
 use Rattle.module_set.proofs.is_linked.Given as goal
 
 abbrev pub invariant-loop-k : goal.invariant-loop-k
@@ -22,4 +17,3 @@ invariant-loop-k l =
 
 abbrev pub decreases-loop-k : goal.decreases-loop-k
 decreases-loop-k l = l.modules - l.k
-

@@ -1,6 +1,5 @@
 -- `module_set::list_of` meets its contract: the share that the member's row says.
 use mathlib.Core.Path.{◌∙◌, sym, ap}
-use borrow.Author.Rules.{rules}
 use Rattle.module_set.specs.Members.{Member}
 use Rattle.module_set.proofs.Shares.{member-row}
 use Rattle.module_set.proofs.list_of.Goals as goal

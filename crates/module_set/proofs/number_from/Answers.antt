@@ -1,9 +1,5 @@
 -- `module_set::number_from` meets its contract: what is left decides. The measure is the rows left.
-use Prim.Native.Nat.{◌-◌, ◌/◌}
-use mathlib.Core.Path.{◌≡◌, ◌∙◌, refl, sym}
-use lib.ListN.{length}
-use borrow.Author.Rules.{rules}
-use Rattle.module_set.specs.Rows.{sids_in, seek_from}
+use mathlib.Core.Path.{◌∙◌, refl, sym}
 use Rattle.module_set.proofs.Sids.{sids-over, seek-here, seek-on}
 use Rattle.module_set.proofs.number_from.Goals as goal
 

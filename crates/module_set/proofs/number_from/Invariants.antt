@@ -1,10 +1,8 @@
 -- `module_set::number_from` meets its contract: what is left decides. The measure is the rows left.
 use Prim.Native.Nat.{◌-◌, ◌/◌}
-use mathlib.Core.Path.{◌≡◌, ◌∙◌, refl, sym}
+use mathlib.Core.Path.{◌≡◌}
 use lib.ListN.{length}
-use borrow.Author.Rules.{rules}
 use Rattle.module_set.specs.Rows.{sids_in, seek_from}
-use Rattle.module_set.proofs.Sids.{sids-over, seek-here, seek-on}
 use Rattle.module_set.proofs.number_from.Given as goal
 
 abbrev pub invariant-loop-k : goal.invariant-loop-k
@@ -14,4 +12,3 @@ invariant-loop-k l =
 
 abbrev pub decreases-loop-k : goal.decreases-loop-k
 decreases-loop-k l = length l.directory / 4 - l.k
-

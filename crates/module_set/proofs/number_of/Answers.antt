@@ -1,6 +1,5 @@
 -- `module_set::number_of` meets its contract: libraries stand from row 1 on.
 use mathlib.Core.Path.{◌∙◌, sym}
-use borrow.Author.Rules.{rules}
 use Rattle.module_set.proofs.Sids.{number-found}
 use Rattle.module_set.proofs.number_of.Goals as goal
 

@@ -1,10 +1,7 @@
 -- `module_set::records_number` meets its contract: the lowest number so far, and what is left of the records, decide. The
 -- measure is the rows left.
-use Prim.Native.Nat.{◌-◌, ◌/◌}
 use mathlib.Core.Path.{refl, sym}
-use lib.ListN.{length}
-use borrow.Author.Rules.{rules}
-use Rattle.module_set.proofs.Every.{Passed, passed_start, passed-next, passed_over, no-records}
+use Rattle.module_set.proofs.Every.{passed_start, passed-next, passed_over, no-records}
 use Rattle.module_set.proofs.records_number.Goals as goal
 
 pub returns-then-directory-lt4 : goal.returns-then-directory-lt4

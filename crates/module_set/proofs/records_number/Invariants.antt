@@ -1,10 +1,8 @@
 -- `module_set::records_number` meets its contract: the lowest number so far, and what is left of the records, decide. The
 -- measure is the rows left.
 use Prim.Native.Nat.{◌-◌, ◌/◌}
-use mathlib.Core.Path.{refl, sym}
 use lib.ListN.{length}
-use borrow.Author.Rules.{rules}
-use Rattle.module_set.proofs.Every.{Passed, passed_start, passed-next, passed_over, no-records}
+use Rattle.module_set.proofs.Every.{Passed}
 use Rattle.module_set.proofs.records_number.Given as goal
 
 abbrev pub invariant-loop-k : goal.invariant-loop-k
@@ -12,4 +10,3 @@ invariant-loop-k l = Passed l.records l.directory l.k l.lowest l.rest
 
 abbrev pub decreases-loop-k : goal.decreases-loop-k
 decreases-loop-k l = length l.directory / 4 - l.k
-

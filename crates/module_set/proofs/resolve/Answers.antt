@@ -1,6 +1,5 @@
 -- `module_set::resolve` meets its contract: an import's SID is looked up among the libraries.
 use mathlib.Core.Path.{◌∙◌, sym}
-use borrow.Author.Rules.{rules}
 use Rattle.module_set.specs.Members.{members_of}
 use Rattle.module_set.proofs.Linking.{resolved-none, resolved-past, resolved-import}
 use Rattle.module_set.proofs.resolve.Goals as goal

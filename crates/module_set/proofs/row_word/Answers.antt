@@ -1,6 +1,5 @@
 -- `module_set::row_word` meets its contract: the word at its place where the row is there.
 use mathlib.Core.Path.{sym}
-use borrow.Author.Rules.{rules}
 use Rattle.module_set.proofs.Shares.{row-some, row-none}
 use Rattle.module_set.proofs.row_word.Goals as goal
 

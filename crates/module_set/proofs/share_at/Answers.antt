@@ -1,9 +1,8 @@
 -- `module_set::share_at` meets its contract: each turn adds the size of a row, a word. The measure is the rows left.
-use Prim.Native.Nat.{ℕ, ◌+◌, ◌-◌, ◌*◌, ◌≤◌}
+use Prim.Native.Nat.{ℕ, ◌+◌}
 use mathlib.Core.Path.{◌≡◌, ◌∙◌, ap}
 use native.Mathlib.Numerals.{add-one}
 use native.Mathlib.Omega.{arith}
-use borrow.Author.Rules.{rules}
 use Rattle.module_set.specs.Rows.{row_word, shares_before}
 use Rattle.module_set.proofs.share_at.Goals as goal
 

@@ -1,10 +1,7 @@
 -- `module_set::share_at` meets its contract: each turn adds the size of a row, a word. The measure is the rows left.
-use Prim.Native.Nat.{ℕ, ◌+◌, ◌-◌, ◌*◌, ◌≤◌}
-use mathlib.Core.Path.{◌≡◌, ◌∙◌, ap}
-use native.Mathlib.Numerals.{add-one}
-use native.Mathlib.Omega.{arith}
-use borrow.Author.Rules.{rules}
-use Rattle.module_set.specs.Rows.{row_word, shares_before}
+use Prim.Native.Nat.{◌-◌, ◌*◌, ◌≤◌}
+use mathlib.Core.Path.{◌≡◌}
+use Rattle.module_set.specs.Rows.{shares_before}
 use Rattle.module_set.proofs.share_at.Given as goal
 
 abbrev pub invariant-loop-i : goal.invariant-loop-i
@@ -12,4 +9,3 @@ invariant-loop-i l = (l.sum ≡ shares_before l.directory l.j l.i) × (l.sum ≤
 
 abbrev pub decreases-loop-i : goal.decreases-loop-i
 decreases-loop-i l = l.k - l.i
-

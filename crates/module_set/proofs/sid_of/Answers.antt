@@ -1,6 +1,5 @@
 -- `module_set::sid_of` meets its contract: the first word of a member's row.
 use mathlib.Core.Path.{◌∙◌, sym, ap}
-use borrow.Author.Rules.{rules}
 use Rattle.module_set.specs.Members.{Member}
 use Rattle.module_set.proofs.Shares.{member-row}
 use Rattle.module_set.proofs.sid_of.Goals as goal

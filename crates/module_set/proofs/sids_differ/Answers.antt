@@ -1,11 +1,7 @@
 -- `module_set::sids_differ` meets its contract: the SIDs from a row on decide, the one of the row being none of those behind
 -- it. The measure is the rows left.
-use Prim.Native.Nat.{◌-◌, ◌/◌}
-use mathlib.Core.Path.{◌≡◌, ◌∙◌, refl, sym, ap}
-use lib.ListN.{length}
-use borrow.Author.Rules.{rules}
+use mathlib.Core.Path.{◌∙◌, refl, sym, ap}
 use Rattle.module_set.specs.Linked.{distinct}
-use Rattle.module_set.specs.Rows.{sids_in}
 use Rattle.module_set.proofs.Sids.{library-sids, sids-over, twice, once}
 use Rattle.module_set.proofs.sids_differ.Goals as goal
 

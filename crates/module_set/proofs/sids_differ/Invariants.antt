@@ -1,12 +1,10 @@
 -- `module_set::sids_differ` meets its contract: the SIDs from a row on decide, the one of the row being none of those behind
 -- it. The measure is the rows left.
 use Prim.Native.Nat.{◌-◌, ◌/◌}
-use mathlib.Core.Path.{◌≡◌, ◌∙◌, refl, sym, ap}
+use mathlib.Core.Path.{◌≡◌}
 use lib.ListN.{length}
-use borrow.Author.Rules.{rules}
 use Rattle.module_set.specs.Linked.{distinct}
 use Rattle.module_set.specs.Rows.{sids_in}
-use Rattle.module_set.proofs.Sids.{library-sids, sids-over, twice, once}
 use Rattle.module_set.proofs.sids_differ.Given as goal
 
 abbrev pub invariant-loop-k : goal.invariant-loop-k
@@ -15,4 +13,3 @@ invariant-loop-k l =
 
 abbrev pub decreases-loop-k : goal.decreases-loop-k
 decreases-loop-k l = length l.directory / 4 - l.k
-

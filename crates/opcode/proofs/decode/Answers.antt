@@ -1,6 +1,5 @@
 -- `decode` meets its contract: the first byte, a prefix, and the instruction in its mode.
 use Prim.Native.Nat.{◌+◌}
-use borrow.Author.Rules.{rules}
 use borrow.Author.Tests.{eq-eqb, ne_eqb, lt-ltb, le-ltb}
 use Rattle.opcode.specs.Decode.{decode_at}
 use Rattle.opcode.proofs.decode.Goals as goal

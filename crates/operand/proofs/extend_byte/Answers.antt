@@ -1,7 +1,6 @@
 -- `operand::extend_byte` meets its contract: the widening law at the width of a byte.
 use mathlib.Core.Path.{sym}
 use native.Mathlib.Omega.{arith}
-use borrow.Author.Rules.{rules}
 use mir.Syntax.{w8}
 use Rattle.operand.proofs.Extend.{extended-low, extended-high}
 use Rattle.operand.proofs.extend_byte.Goals as goal

@@ -1,7 +1,6 @@
 -- `operand::extend_halfword` meets its contract: the widening law at the width of a halfword.
 use mathlib.Core.Path.{sym}
 use native.Mathlib.Omega.{arith}
-use borrow.Author.Rules.{rules}
 use mir.Syntax.{w16}
 use Rattle.operand.proofs.Extend.{extended-low, extended-high}
 use Rattle.operand.proofs.extend_halfword.Goals as goal

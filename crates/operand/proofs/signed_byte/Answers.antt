@@ -1,5 +1,4 @@
 -- `operand::signed_byte` meets its contract: what stands behind the code byte, extended.
-use borrow.Author.Rules.{rules}
 use Rattle.operand.proofs.signed_byte.Goals as goal
 
 pub returns : goal.returns

@@ -1,5 +1,4 @@
 -- `operand::signed_halfword` meets its contract: what stands behind the code byte, extended.
-use borrow.Author.Rules.{rules}
 use Rattle.operand.proofs.signed_halfword.Goals as goal
 
 pub returns : goal.returns

@@ -1,7 +1,6 @@
 -- `record::line_span` meets its contract: the span of the line where no number refuses the record, else the number,
 -- which is the one of the answer.
 use mathlib.Core.Path.{sym, ◌∙◌}
-use borrow.Author.Rules.{rules}
 use borrow.Author.Tests.{eq-eqb, ne_eqb}
 use Rattle.record.specs.Number.{line_span}
 use Rattle.record.proofs.line_span.Goals as goal

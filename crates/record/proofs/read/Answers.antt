@@ -1,7 +1,6 @@
 -- `record::read` meets its contract: the header where no number refuses the record, else the number, which
 -- is the one of the answer.
 use mathlib.Core.Path.{sym, ◌∙◌}
-use borrow.Author.Rules.{rules}
 use borrow.Author.Tests.{eq-eqb, ne_eqb}
 use Rattle.record.specs.Number.{reading_of}
 use Rattle.record.proofs.read.Goals as goal

@@ -2,7 +2,6 @@
 -- the parts that is given, and the last one none.
 use mathlib.Core.Bool.{not, cond}
 use mathlib.Core.Path.{◌≡◌}
-use borrow.Author.Rules.{rules}
 use Rattle.record.specs.Number.{part_tests, record_number}
 use Rattle.words.specs.Refusal.{refusal}
 use Rattle.record.proofs.Sound.{size-refuses, parts-decide}
@@ -39,7 +38,6 @@ returns-then-not-source_sound c =
 
 -- Where 1 to 6 are not given, the entries decide.
 entries : (c : After-entries_sound) → (let r = c.args.r.now in record_number r ≡ refusal (part_tests r)) →
-   
     record_number c.args.r.now ≡ cond (not c.entries_sound.result) 7 0
 entries c has-parts =
     rw (

@@ -1,5 +1,4 @@
 -- `record::size_number` meets its contract: each return is the first test of the table that is given, and the last one none.
-use borrow.Author.Rules.{rules}
 use borrow.Author.Tests.{eq-eqb, ne_eqb, le-ltb, lt-ltb}
 use Rattle.record.specs.Number.{size_number}
 use Rattle.record.proofs.size_number.Goals as goal

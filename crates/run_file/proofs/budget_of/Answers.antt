@@ -1,5 +1,4 @@
 -- `run_file::budget_of` meets its contract: the word behind both lists.
-use borrow.Author.Rules.{rules}
 use Rattle.run_file.specs.RunFile.{budget_of}
 use Rattle.run_file.proofs.budget_of.Goals as goal
 

@@ -1,5 +1,4 @@
 -- `run_file::is_named` meets its contract: each return is the first character that is another, the last one its test.
-use borrow.Author.Rules.{rules}
 use borrow.Author.Tests.{eq-eqb, ne_eqb}
 use Rattle.run_file.proofs.is_named.Goals as goal
 

@@ -1,7 +1,6 @@
 -- `run_file::memory_words` meets its contract: the halfword behind the budget. Both counts are bytes, so its place fits.
 use Prim.Native.Nat.{◌+◌}
 use native.Mathlib.Omega.{arith}
-use borrow.Author.Rules.{rules}
 use Rattle.run_file.specs.RunFile.{results_count, memory_words}
 use Rattle.run_file.proofs.memory_words.Goals as goal
 

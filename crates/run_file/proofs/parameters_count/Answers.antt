@@ -1,6 +1,5 @@
 -- `run_file::parameters_count` meets its contract: the results count is a byte, so the place behind the results fits.
 use native.Mathlib.Omega.{arith}
-use borrow.Author.Rules.{rules}
 use Rattle.run_file.proofs.parameters_count.Goals as goal
 
 pub overflow_add-results_count : goal.overflow_add-results_count

@@ -1,9 +1,9 @@
 -- `run_file::read_parameters` meets its contract. The loop's invariant: the parameters keep their count, and up to the place reached
 -- they are the words of the file. The measure is what is left of them.
-use Prim.Native.Nat.{◌+◌, ◌-◌, ◌≤◌}
-use mathlib.Core.Path.{◌≡◌, ◌∙◌, sym}
+use Prim.Native.Nat.{◌+◌}
+use mathlib.Core.Path.{◌∙◌, sym}
 use native.Mathlib.Omega.{arith}
-use lib.ListN.{length, take, length-set}
+use lib.ListN.{length, length-set}
 use borrow.Author.Rules.{rules}
 use Rattle.words.specs.Bytes.{word_at, words_from}
 use Rattle.words.proofs.Series.{series-at, series-length, filled_next, filled-all}

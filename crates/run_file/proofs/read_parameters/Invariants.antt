@@ -1,12 +1,9 @@
 -- `run_file::read_parameters` meets its contract. The loop's invariant: the parameters keep their count, and up to the place reached
 -- they are the words of the file. The measure is what is left of them.
-use Prim.Native.Nat.{◌+◌, ◌-◌, ◌≤◌}
-use mathlib.Core.Path.{◌≡◌, ◌∙◌, sym}
-use native.Mathlib.Omega.{arith}
-use lib.ListN.{length, take, length-set}
-use borrow.Author.Rules.{rules}
-use Rattle.words.specs.Bytes.{word_at, words_from}
-use Rattle.words.proofs.Series.{series-at, series-length, filled_next, filled-all}
+use Prim.Native.Nat.{◌-◌, ◌≤◌}
+use mathlib.Core.Path.{◌≡◌}
+use lib.ListN.{length, take}
+use Rattle.words.specs.Bytes.{words_from}
 use Rattle.run_file.proofs.read_parameters.Given as goal
 
 abbrev pub invariant-loop-i : goal.invariant-loop-i
@@ -16,4 +13,3 @@ invariant-loop-i l =
 
 abbrev pub decreases-loop-i : goal.decreases-loop-i
 decreases-loop-i l = length l.initial.parameters - l.i
-

@@ -1,5 +1,4 @@
 -- `run_file::results_of` meets its contract: the part that the results count tells.
-use borrow.Author.Rules.{rules}
 use Rattle.run_file.specs.RunFile.{results_of}
 use Rattle.run_file.proofs.results_of.Goals as goal
 

@@ -5,8 +5,7 @@ use mathlib.Core.Path.{◌≡◌}
 use native.Mathlib.Omega.{arith}
 use lib.Dec.{leb}
 use lib.ListN.{length}
-use borrow.Author.Rules.{rules}
-use borrow.Author.Tests.{eq-eqb, ne_eqb, le-leb, lt-leb, not-true, not-false}
+use borrow.Author.Tests.{eq-eqb, ne_eqb, le-leb, lt-leb}
 use Rattle.run_file.specs.RunFile.{results_count, record_at, memory_words, well_formed}
 use Rattle.run_file.proofs.well_formed.Goals.{Else-f-budget_at, Else-f-gt8192, Else-halfword_at-ne1}
 use Rattle.run_file.proofs.well_formed.Goals as goal
@@ -43,7 +42,6 @@ returns-then-halfword_at-ne1 c = rw (
 
 -- Where the first three tests pass, the last two decide.
 three-pass : (c : Else-halfword_at-ne1) → (length c.args.f.now ≤ 8192) →
-   
     let f = c.args.f.now in
     well_formed f ≡ (leb (record_at f) (length f) && leb (memory_words f) 4096)
 unfolding well_formed

@@ -1,5 +1,4 @@
 -- `shape::needed_words` meets its contract: the words that the instruction's shape finds.
-use borrow.Author.Rules.{rules}
 use Rattle.shape.proofs.needed_words.Goals as goal
 
 pub returns : goal.returns

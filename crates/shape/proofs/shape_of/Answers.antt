@@ -1,9 +1,6 @@
 -- `shape_of` meets its contract: each arm gives the shape of its instruction. Answers stand in the order of the code, returns
 -- last.
-use native.Mathlib.Omega.{arith}
-use borrow.Author.Rules.{rules}
 use Rattle.shape.specs.Shape.{shape_of}
-use Rattle.shape.proofs.Counting.{popped-small, words_small}
 use Rattle.shape.proofs.shape_of.Goals as goal
 
 pub returns-in-JumpT : goal.returns-in-JumpT

@@ -1,6 +1,5 @@
 -- `source::end_of` meets its contract: at the next pair where there is one, else at the end of the code.
 use native.Mathlib.Numerals.{add-one}
-use borrow.Author.Rules.{rules}
 use borrow.Author.Tests.{le-ltb, lt-ltb}
 use Rattle.source.proofs.end_of.Goals as goal
 

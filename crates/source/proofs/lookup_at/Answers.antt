@@ -1,8 +1,6 @@
 -- `source::lookup_at` meets its contract: outside the code no span, else that of the pair that covers the offset.
-use Prim.Native.Nat.{◌≤◌}
 use mathlib.Core.Path.{◌≡◌}
 use native.Mathlib.Omega.{arith}
-use borrow.Author.Rules.{rules}
 use borrow.Author.Tests.{le-ltb, lt-ltb}
 use Rattle.source.specs.Source.{source_offsets, covering}
 use Rattle.source.specs.Span.{lookup_at}

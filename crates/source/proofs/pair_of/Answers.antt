@@ -1,7 +1,6 @@
 -- `source::pair_of` meets its contract: 0 and 0 before the first pair, and the k-th stands 8 bytes behind the one before it.
 use mathlib.Core.Path.{◌∙◌}
 use native.Mathlib.Omega.{arith}
-use borrow.Author.Rules.{rules}
 use Rattle.header.specs.Header.{code_at, constants_at, relocation_at, versions_at, sources_at}
 use Rattle.source.proofs.Pairs.{pair-counted}
 use Rattle.source.proofs.pair_of.Goals as goal

@@ -1,14 +1,12 @@
 -- `source::pairs_covering` meets its contract. The loop's invariant: the pairs passed cover the offset, so all that cover
 -- it are `k` and those of what is left, and the place has gone 8 bytes a pair. The measure is what is left.
-use Prim.Native.Nat.{◌+◌, ◌*◌, ◌-◌, ◌≤◌}
-use mathlib.Core.Path.{◌≡◌, ◌∙◌}
+use mathlib.Core.Path.{◌∙◌}
 use native.Mathlib.Omega.{arith}
 use native.Mathlib.Nat.{sub-zero, sub-eq-zero_of_le}
-use borrow.Author.Rules.{rules}
 use borrow.Author.Tests.{le-leb, lt-leb}
 use Rattle.cursor.proofs.Pairs.{first_of}
 use Rattle.header.specs.Header.{code_at, constants_at, relocation_at, versions_at, sources_at}
-use Rattle.source.specs.Source.{offsets_from, source_offsets, covering}
+use Rattle.source.specs.Source.{source_offsets}
 use Rattle.words.proofs.Left.{one_left}
 use Rattle.source.proofs.pairs_covering.Goals as goal
 

@@ -1,15 +1,8 @@
 -- `source::pairs_covering` meets its contract. The loop's invariant: the pairs passed cover the offset, so all that cover
 -- it are `k` and those of what is left, and the place has gone 8 bytes a pair. The measure is what is left.
 use Prim.Native.Nat.{◌+◌, ◌*◌, ◌-◌, ◌≤◌}
-use mathlib.Core.Path.{◌≡◌, ◌∙◌}
-use native.Mathlib.Omega.{arith}
-use native.Mathlib.Nat.{sub-zero, sub-eq-zero_of_le}
-use borrow.Author.Rules.{rules}
-use borrow.Author.Tests.{le-leb, lt-leb}
-use Rattle.cursor.proofs.Pairs.{first_of}
-use Rattle.header.specs.Header.{code_at, constants_at, relocation_at, versions_at, sources_at}
-use Rattle.source.specs.Source.{offsets_from, source_offsets, covering}
-use Rattle.words.proofs.Left.{one_left}
+use mathlib.Core.Path.{◌≡◌}
+use Rattle.source.specs.Source.{offsets_from, covering}
 use Rattle.source.proofs.pairs_covering.Given as goal
 
 abbrev pub invariant-loop-k : goal.invariant-loop-k
@@ -19,4 +12,3 @@ invariant-loop-k l =
 
 abbrev pub decreases-loop-k : goal.decreases-loop-k
 decreases-loop-k l = l.pairs - l.k
-

@@ -1,10 +1,9 @@
 -- `source::source_sound` meets its contract. The loop's invariant: the whole table rises just if what is left of it rises
 -- from `least` on, and the place has gone 8 bytes a pair. The measure is what is left.
-use Prim.Native.Nat.{◌+◌, ◌*◌, ◌-◌, ◌/◌}
+use Prim.Native.Nat.{◌-◌, ◌/◌}
 use mathlib.Core.Path.{◌≡◌, ◌∙◌}
 use native.Mathlib.Omega.{arith}
 use native.Mathlib.Nat.{sub-zero, sub-eq-zero_of_le}
-use borrow.Author.Rules.{rules}
 use borrow.Author.Tests.{eq-eqb, ne_eqb, le-leb, lt-leb, le-ltb, lt-ltb}
 use Rattle.cursor.proofs.Pairs.{first_of}
 use Rattle.header.specs.Header.{code_at, constants_at, relocation_at, versions_at, sources_at}

@@ -1,6 +1,5 @@
 -- `state::header_kept` meets its contract: each return is the first word that differs, or the last one.
 use borrow.Author.Tests.{eq-eqb, ne_eqb}
-use borrow.Author.Rules.{rules}
 use Rattle.state.specs.Fits.{header_kept}
 use Rattle.state.proofs.header_kept.Goals as goal
 

@@ -1,11 +1,8 @@
 -- `state::headers_kept` meets its contract: row by row, and the rest of the table decides.
-use Prim.Native.Nat.{◌-◌}
 use mathlib.Core.Path.{◌∙◌, sym}
 use native.Mathlib.Omega.{arith}
-use borrow.Author.Tests.{not-true, not-false}
-use borrow.Author.Rules.{rules}
 use Rattle.registers.specs.Modules.{modules_in}
-use Rattle.state.proofs.Headers.{Comparing, comparing-start, comparing-break, comparing-next, comparing-end}
+use Rattle.state.proofs.Headers.{comparing-start, comparing-break, comparing-next, comparing-end}
 use Rattle.state.proofs.headers_kept.Goals as goal
 
 pub loop-k-init : goal.loop-k-init

@@ -1,11 +1,6 @@
 -- `state::headers_kept` meets its contract: row by row, and the rest of the table decides.
 use Prim.Native.Nat.{◌-◌}
-use mathlib.Core.Path.{◌∙◌, sym}
-use native.Mathlib.Omega.{arith}
-use borrow.Author.Tests.{not-true, not-false}
-use borrow.Author.Rules.{rules}
-use Rattle.registers.specs.Modules.{modules_in}
-use Rattle.state.proofs.Headers.{Comparing, comparing-start, comparing-break, comparing-next, comparing-end}
+use Rattle.state.proofs.Headers.{Comparing}
 use Rattle.state.proofs.headers_kept.Given as goal
 
 abbrev pub invariant-loop-k : goal.invariant-loop-k
@@ -13,4 +8,3 @@ invariant-loop-k l = Comparing l.table l.memory l.n l.start l.k
 
 abbrev pub decreases-loop-k : goal.decreases-loop-k
 decreases-loop-k l = l.n - l.k
-

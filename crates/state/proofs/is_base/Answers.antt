@@ -1,5 +1,4 @@
 -- `state::is_base` meets its contract: the number that is found is below the number of modules.
-use borrow.Author.Rules.{rules}
 use Rattle.state.proofs.is_base.Goals as goal
 
 pub returns : goal.returns

@@ -1,6 +1,4 @@
 -- `state::is_bounded` meets its contract: each return is the first test that fails, or the last one.
-use borrow.Author.Tests.{not-true, not-false}
-use borrow.Author.Rules.{rules}
 use Rattle.state.specs.Fits.{bounded}
 use Rattle.state.proofs.is_bounded.Goals as goal
 

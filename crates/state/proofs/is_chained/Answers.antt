@@ -1,11 +1,9 @@
 -- `state::is_chained` meets its contract: the walk goes down the chain of frames until one is not low enough. The measure is
 -- what is left of the calls.
-use Prim.Native.Nat.{◌-◌}
 use mathlib.Core.Path.{sym}
 use native.Mathlib.Omega.{arith}
-use borrow.Author.Rules.{rules}
 use Rattle.registers.proofs.Links.{link-range}
-use Rattle.state.proofs.Chains.{Followed, followed-start, followed-break, followed-next, followed-end}
+use Rattle.state.proofs.Chains.{followed-start, followed-break, followed-next, followed-end}
 use Rattle.state.proofs.is_chained.Goals as goal
 
 pub loop-init : goal.loop-init

@@ -1,7 +1,6 @@
 -- `state::link_based` meets its contract: a local link, or the global link of an external one.
 use mathlib.Core.Path.{◌∙◌, sym}
 use native.Mathlib.Omega.{arith}
-use borrow.Author.Rules.{rules}
 use Rattle.registers.proofs.Links.{link-range, two-words, not-two-words}
 use Rattle.state.proofs.link_based.Goals as goal
 

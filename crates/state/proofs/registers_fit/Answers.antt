@@ -1,7 +1,6 @@
 -- `state::registers_fit` meets its contract: each return is the first test that fails, or the last one.
 use lib.ListN.{length}
 use borrow.Author.Tests.{le-leb, lt-leb, eq-eqb, ne_eqb}
-use borrow.Author.Rules.{rules}
 use Rattle.state.specs.Fits.{registers_fit}
 use Rattle.state.proofs.registers_fit.Goals as goal
 

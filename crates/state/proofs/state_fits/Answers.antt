@@ -1,7 +1,5 @@
 -- `state::state_fits` meets its contract: each return is the first test that fails, or the last one.
 use mathlib.Core.Path.{◌∙◌, sym}
-use borrow.Author.Tests.{not-true, not-false}
-use borrow.Author.Rules.{rules}
 use Rattle.registers.specs.State.{state}
 use Rattle.state.specs.Fits.{fits}
 use Rattle.state.proofs.Fitting.{fitting}

@@ -3,7 +3,6 @@ use Prim.Native.Nat.{◌<◌, ◌/◌}
 use native.Mathlib.Omega.{arith}
 use lib.ListN.{length}
 use borrow.Author.Tests.{eq-eqb, ne_eqb}
-use borrow.Author.Rules.{rules}
 use Rattle.registers.specs.Modules.{modules_in}
 use Rattle.registers.proofs.Rows.{module-row, modules-length, module-past}
 use Rattle.step.proofs.code_size.Goals as goal

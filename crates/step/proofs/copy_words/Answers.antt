@@ -1,10 +1,7 @@
 -- `step::copy_words` meets its contract: after i turns the first i words are stored.
-use Prim.Native.Nat.{◌-◌, ◌≤◌}
-use mathlib.Core.Path.{◌≡◌, refl, ◌∙◌}
+use mathlib.Core.Path.{refl, ◌∙◌}
 use native.Mathlib.Omega.{arith}
-use lib.ListN.{length, take}
-use lib.Seq.{sets, length-sets, take_all}
-use borrow.Author.Rules.{rules}
+use lib.Seq.{take_all}
 use Rattle.words.proofs.Sets.{sets-one-more}
 use Rattle.step.proofs.copy_words.Goals as goal
 

@@ -5,7 +5,6 @@ use mathlib.Core.Path.{◌≡◌, sym}
 use native.Mathlib.Omega.{arith}
 use lib.ListN.{length, take, drop, drop_of_length-le}
 use lib.Seq.{take-nil}
-use borrow.Author.Rules.{rules}
 use Rattle.words.proofs.Slices.{part-rest}
 use Rattle.words.proofs.Sets.{sets-out, sets-within}
 use Rattle.step.proofs.move_words.Goals as goal

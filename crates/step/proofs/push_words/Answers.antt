@@ -5,7 +5,6 @@ use native.Mathlib.Numerals.{add-one}
 use native.Mathlib.Omega.{arith}
 use lib.Seq.{set_out}
 use lib.ListN.{length, set}
-use borrow.Author.Rules.{rules}
 use Rattle.step.proofs.push_words.Goals as goal
 
 pub returns-in-PushOne : goal.returns-in-PushOne

@@ -1,5 +1,4 @@
 -- `successors::table_size` meets its contract, arm by arm.
-use borrow.Author.Rules.{rules}
 use Rattle.successors.proofs.table_size.Goals as goal
 
 pub returns-in-Branches : goal.returns-in-Branches

@@ -1,6 +1,5 @@
 -- `successors::table_target` meets its contract: for ranges distance 0 means ELSE.
 use borrow.Author.Tests.{eq-eqb, ne_eqb}
-use borrow.Author.Rules.{rules}
 use Rattle.successors.proofs.table_target.Goals as goal
 
 pub returns-then-distance-eq0 : goal.returns-then-distance-eq0

@@ -1,7 +1,6 @@
 -- `switch_table::branch_distance` meets its contract: a halfword of the table.
 use Prim.Native.Nat.{◌*◌}
 use native.Mathlib.Nat.{add_assoc}
-use borrow.Author.Rules.{rules}
 use Rattle.switch_table.specs.Switch.{branch_distance}
 use Rattle.switch_table.proofs.branch_distance.Goals as goal
 

@@ -1,5 +1,4 @@
 -- `switch_table::else_distance` meets its contract: a halfword of the table.
-use borrow.Author.Rules.{rules}
 use Rattle.switch_table.specs.Switch.{else_distance}
 use Rattle.switch_table.proofs.else_distance.Goals as goal
 

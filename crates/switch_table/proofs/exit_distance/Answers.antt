@@ -1,5 +1,4 @@
 -- `switch_table::exit_distance` meets its contract: a halfword of the table.
-use borrow.Author.Rules.{rules}
 use Rattle.switch_table.specs.Switch.{exit_distance}
 use Rattle.switch_table.proofs.exit_distance.Goals as goal
 

@@ -2,7 +2,6 @@
 use Prim.Native.Nat.{◌+◌, ◌*◌}
 use mathlib.Core.Path.{◌≡◌}
 use native.Mathlib.Omega.{arith}
-use borrow.Author.Rules.{rules}
 use Rattle.switch_table.specs.Switch.{range_distance}
 use Rattle.switch_table.proofs.range_distance.Goals as goal
 

@@ -2,8 +2,6 @@
 use Prim.Native.Nat.{◌+◌, ◌*◌}
 use mathlib.Core.Path.{◌≡◌}
 use native.Mathlib.Omega.{arith}
-use borrow.Author.Tests.{not-true, not-false}
-use borrow.Author.Rules.{rules}
 use Rattle.switch_table.specs.Switch.{range_holds}
 use Rattle.switch_table.proofs.range_holds.Goals as goal
 

@@ -1,10 +1,9 @@
 -- `switch_table::search_distance` meets its contract. The loop's invariant: the whole search is the search from range k on.
 -- The measure is the number of ranges left.
-use Prim.Native.Nat.{◌-◌, ◌≤◌}
+use Prim.Native.Nat.{◌-◌}
 use mathlib.Core.Path.{◌≡◌, ◌∙◌}
 use native.Mathlib.Omega.{arith}
-use borrow.Author.Rules.{rules}
-use Rattle.switch_table.specs.Switch.{search_from, search_distance}
+use Rattle.switch_table.specs.Switch.{search_distance}
 use Rattle.switch_table.proofs.Ranges.{search-step}
 use Rattle.switch_table.proofs.search_distance.Goals as goal
 

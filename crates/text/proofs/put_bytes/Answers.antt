@@ -1,10 +1,8 @@
 -- `text::put_bytes` meets its contract: after i turns the bytes from i on are left to write.
-use Prim.Native.Nat.{◌+◌, ◌-◌, ◌≤◌}
-use mathlib.Core.Path.{◌≡◌, refl}
+use mathlib.Core.Path.{refl}
 use native.Mathlib.Omega.{arith}
-use lib.ListN.{length, drop, drop_of_length-le}
-use borrow.Author.Rules.{rules}
-use Rattle.text.proofs.Writing.{Left, left-start, left-next, left_over, left-length, wrote_one}
+use lib.ListN.{drop_of_length-le}
+use Rattle.text.proofs.Writing.{left-start, left-next, left_over, wrote_one}
 use Rattle.words.proofs.Slices.{drop-one}
 use Rattle.text.proofs.put_bytes.Goals as goal
 

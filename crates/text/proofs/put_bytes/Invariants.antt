@@ -1,11 +1,8 @@
 -- `text::put_bytes` meets its contract: after i turns the bytes from i on are left to write.
 use Prim.Native.Nat.{◌+◌, ◌-◌, ◌≤◌}
-use mathlib.Core.Path.{◌≡◌, refl}
-use native.Mathlib.Omega.{arith}
-use lib.ListN.{length, drop, drop_of_length-le}
-use borrow.Author.Rules.{rules}
-use Rattle.text.proofs.Writing.{Left, left-start, left-next, left_over, left-length, wrote_one}
-use Rattle.words.proofs.Slices.{drop-one}
+use mathlib.Core.Path.{◌≡◌}
+use lib.ListN.{length, drop}
+use Rattle.text.proofs.Writing.{Left}
 use Rattle.text.proofs.put_bytes.Given as goal
 
 abbrev pub invariant-loop-i : goal.invariant-loop-i
@@ -13,4 +10,3 @@ invariant-loop-i l = (l.i-end ≡ length l.s) × (l.i ≤ length l.s) × Left l.
 
 abbrev pub decreases-loop-i : goal.decreases-loop-i
 decreases-loop-i l = length l.s - l.i
-

@@ -1,6 +1,5 @@
 -- `text::put_end` meets its contract: its pieces stand one behind the other.
 use native.Mathlib.Omega.{arith}
-use borrow.Author.Rules.{rules}
 use Rattle.text.proofs.Writing.{wrote_then, number-ends}
 use Rattle.text.specs.Text.{end_line}
 use Rattle.text.proofs.put_end.Goals as goal

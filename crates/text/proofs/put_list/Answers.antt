@@ -1,7 +1,6 @@
 -- `text::put_list` meets its contract: its letter, words and newline stand one behind the other.
 use mathlib.Core.Path.{refl}
 use native.Mathlib.Omega.{arith}
-use borrow.Author.Rules.{rules}
 use Rattle.text.specs.Text.{list_line}
 use Rattle.text.proofs.Writing.{wrote_one, wrote_then, words-short}
 use Rattle.text.proofs.put_list.Goals as goal

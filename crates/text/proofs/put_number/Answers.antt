@@ -1,10 +1,9 @@
 -- `text::put_number` meets its contract: after i turns the digits behind the first i are left to write.
-use Prim.Native.Nat.{◌+◌, ◌-◌, ◌≤◌}
+use Prim.Native.Nat.{◌-◌}
 use mathlib.Core.Path.{◌≡◌}
 use native.Mathlib.Omega.{arith}
-use borrow.Author.Rules.{rules}
-use Rattle.text.specs.Text.{digits as digitsOf, decimal}
-use Rattle.text.proofs.Writing.{Left, left-start, left-next, left_over, left-length, wrote_one, digits-one, width-bounds}
+use Rattle.text.specs.Text.{decimal}
+use Rattle.text.proofs.Writing.{left-start, left-next, left_over, wrote_one, digits-one, width-bounds}
 use Rattle.text.proofs.Writing.{power-positive}
 use Rattle.text.proofs.put_number.Goals as goal
 

@@ -1,11 +1,7 @@
 -- `text::put_number` meets its contract: after i turns the digits behind the first i are left to write.
 use Prim.Native.Nat.{◌+◌, ◌-◌, ◌≤◌}
-use mathlib.Core.Path.{◌≡◌}
-use native.Mathlib.Omega.{arith}
-use borrow.Author.Rules.{rules}
-use Rattle.text.specs.Text.{digits as digitsOf, decimal}
-use Rattle.text.proofs.Writing.{Left, left-start, left-next, left_over, left-length, wrote_one, digits-one, width-bounds}
-use Rattle.text.proofs.Writing.{power-positive}
+use Rattle.text.specs.Text.{digits as digitsOf}
+use Rattle.text.proofs.Writing.{Left}
 use Rattle.text.proofs.put_number.Given as goal
 
 abbrev pub invariant-loop-i : goal.invariant-loop-i
@@ -13,4 +9,3 @@ invariant-loop-i l = (l.i ≤ l.digits) × Left l.initial.out l.at (digitsOf l.d
 
 abbrev pub decreases-loop-i : goal.decreases-loop-i
 decreases-loop-i l = l.digits - l.i
-

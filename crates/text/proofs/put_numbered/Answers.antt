@@ -1,5 +1,4 @@
 -- `text::put_numbered` meets its contract: the number stands behind the text.
-use borrow.Author.Rules.{rules}
 use Rattle.text.specs.Text.{numbered}
 use Rattle.text.proofs.Writing.{wrote_then}
 use Rattle.text.proofs.put_numbered.Goals as goal

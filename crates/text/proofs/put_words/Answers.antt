@@ -1,11 +1,8 @@
 -- `text::put_words` meets its contract: after i turns the words from i on are left to write, and no word took more than 11 bytes.
-use Prim.Native.Nat.{◌+◌, ◌-◌, ◌*◌, ◌≤◌}
-use mathlib.Core.Path.{◌≡◌, refl}
+use mathlib.Core.Path.{refl}
 use native.Mathlib.Omega.{arith}
-use lib.ListN.{length, drop, get_or, drop_of_length-le}
-use borrow.Author.Rules.{rules}
-use Rattle.text.specs.Text.{words_text}
-use Rattle.text.proofs.Writing.{Left, left-start, left-next, left_over, left-length, words-one, decimal-short}
+use lib.ListN.{get_or, drop_of_length-le}
+use Rattle.text.proofs.Writing.{left-start, left-next, left_over, words-one, decimal-short}
 use Rattle.text.proofs.put_words.Goals as goal
 
 pub loop-i-init : goal.loop-i-init

@@ -1,6 +1,5 @@
 -- `version::is_before_3` meets its contract: the number decides, and its characters tell whether it is below 3; past the end
 -- they are 0.
-use borrow.Author.Rules.{rules}
 use Rattle.version.proofs.Issues.{past-tens, units-tell, past_end}
 use Rattle.version.proofs.is_before_3.Goals as goal
 

@@ -3,10 +3,8 @@
 use Prim.Native.Nat.{◌+◌}
 use mathlib.Core.Bool.{true, ◌||◌, ◌&&◌, or-true}
 use mathlib.Core.Path.{◌≡◌}
-use Rattle.std.proofs.Common.{refl}
 use lib.Dec.{eqb}
-use borrow.Author.Rules.{rules}
-use borrow.Author.Tests.{eq-eqb, ne_eqb, not-true, not-false}
+use borrow.Author.Tests.{eq-eqb, ne_eqb}
 use Rattle.words.proofs.Bytes.{byte_past}
 use Rattle.version.specs.Version.{among, issue_at}
 use Rattle.words.specs.Bytes.{byte_at}
@@ -16,7 +14,7 @@ use Rattle.version.proofs.issue_at.Goals as goal
 
 tens-sound : (c : Joined-else-tens-ne32) → (among 48 57 c.byte_at-tens.result || eqb c.byte_at-tens.result 32) ≡ true
 tens-sound c = elim c.else-tens-ne32.branch [
-  else-tens-ne32-via-then-tens-ne32+else-not-within w ↦ rw (← w.within.ensures, w.if-not-within.false)
+  | else-tens-ne32-via-then-tens-ne32+else-not-within w ↦ rw (← w.within.ensures, w.if-not-within.false)
   | else-tens-ne32-via-else-tens-ne32 w ↦ rw (eq-eqb _ 32 w.if-tens-ne32.false) (or-true _)
 ]
 
@@ -60,7 +58,6 @@ two-sound c tens =
       c.if-not-within-2.false,
     )
 
-
 pub returns-then-byte_at-ne47 : goal.returns-then-byte_at-ne47
 returns-then-byte_at-ne47 c = rw (two-sound (goal.at.returns-then-byte_at-ne47 c).Else-not-within-2 (tens-sound (goal.at.returns-then-byte_at-ne47 c).Joined-else-tens-ne32), ← c.byte_at-2.ensures, ne_eqb _ 47 c.if-byte_at-ne47.true)
 
@@ -72,7 +69,6 @@ returns-then-revision-eq45 c = rw (
   ← c.byte_at-revision.ensures,
   eq-eqb _ 45 c.if-revision-eq45.true,
 )
-
 
 pub returns : goal.returns
 returns c = rw (

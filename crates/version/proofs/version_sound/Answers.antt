@@ -1,5 +1,4 @@
 -- `version::version_sound` meets its contract: no table, or its first word names an issue.
-use borrow.Author.Rules.{rules}
 use borrow.Author.Tests.{eq-eqb, ne_eqb}
 use Rattle.version.specs.Version.{version_sound}
 use Rattle.version.proofs.version_sound.Goals as goal

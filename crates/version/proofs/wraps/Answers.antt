@@ -1,6 +1,5 @@
 -- `version::wraps` meets its contract: the issue of the first word decides, and without a table nothing wraps.
 use native.Mathlib.Omega.{arith}
-use borrow.Author.Rules.{rules}
 use borrow.Author.Tests.{eq-eqb, ne_eqb}
 use Rattle.version.specs.Issue.{wraps}
 use Rattle.version.proofs.wraps.Goals as goal

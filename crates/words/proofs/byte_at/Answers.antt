@@ -1,6 +1,5 @@
 -- `words::byte_at` meets its contract: a place past the end reads as 0.
 use mathlib.Core.Path.{sym}
-use borrow.Author.Rules.{rules}
 use Rattle.words.proofs.Bytes.{byte_past}
 use Rattle.words.proofs.byte_at.Goals as goal
 

@@ -1,6 +1,5 @@
 -- `words::halfword_at` meets its contract: past the end both bytes are 0.
 use mathlib.Core.Path.{sym}
-use borrow.Author.Rules.{rules}
 use Rattle.words.proofs.Bytes.{halfword-past}
 use Rattle.words.specs.Bytes.{halfword_at}
 use Rattle.words.proofs.halfword_at.Goals as goal

@@ -1,5 +1,4 @@
 -- `words::part` meets its contract: a place or a count past the end takes what there is.
-use borrow.Author.Rules.{rules}
 use Prim.Native.Nat.{◌+◌, ◌-◌}
 use mathlib.Core.Path.{◌≡◌}
 use native.Mathlib.Omega.{arith}

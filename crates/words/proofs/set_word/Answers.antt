@@ -1,7 +1,6 @@
 -- `words::set_word` meets its contract: past the end a store changes nothing.
 use mathlib.Core.Path.{sym}
 use lib.Seq.{set_out}
-use borrow.Author.Rules.{rules}
 use Rattle.words.proofs.set_word.Goals as goal
 
 pub returns-else-i-s : goal.returns-else-i-s

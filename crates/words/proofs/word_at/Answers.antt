@@ -1,6 +1,5 @@
 -- `words::word_at` meets its contract: past the end both halfwords are 0.
 use mathlib.Core.Path.{sym}
-use borrow.Author.Rules.{rules}
 use Rattle.words.proofs.Bytes.{word-past}
 use Rattle.words.specs.Bytes.{word_at}
 use Rattle.words.proofs.word_at.Goals as goal

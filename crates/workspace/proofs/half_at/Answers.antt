@@ -1,7 +1,6 @@
 -- `workspace::half_at` meets its contract: a place past the end reads as 0.
 use mathlib.Core.Path.{sym}
 use lib.ListN.{get_or-eq_default}
-use borrow.Author.Rules.{rules}
 use Rattle.workspace.proofs.half_at.Goals as goal
 
 pub returns-else-i-w : goal.returns-else-i-w

@@ -1,7 +1,6 @@
 -- `workspace::set_half` meets its contract: past the end a store changes nothing.
 use mathlib.Core.Path.{sym}
 use lib.Seq.{set_out}
-use borrow.Author.Rules.{rules}
 use Rattle.workspace.proofs.set_half.Goals as goal
 
 pub returns-else-i-w : goal.returns-else-i-w

@@ -1,6 +1,5 @@
 -- `effect::data::base_of` meets its contract, base by base.
 use native.Mathlib.Omega.{arith}
-use borrow.Author.Rules.{rules}
 use Rattle.effect.proofs.data.base_of.Goals as goal
 
 pub returns-then-q-eq0 : goal.returns-then-q-eq0

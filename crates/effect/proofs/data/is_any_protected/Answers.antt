@@ -1,6 +1,5 @@
 -- `effect::data::is_any_protected` meets its contract: one word, or one of two.
 use mathlib.Core.Path.{◌∙◌, sym}
-use borrow.Author.Rules.{rules}
 use Rattle.effect.proofs.data.is_any_protected.Goals as goal
 
 pub returns-then-is_protected : goal.returns-then-is_protected

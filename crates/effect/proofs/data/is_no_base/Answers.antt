@@ -1,5 +1,4 @@
 -- `effect::data::is_no_base` meets its contract, base by base.
-use borrow.Author.Rules.{rules}
 use Rattle.effect.proofs.data.is_no_base.Goals as goal
 
 pub returns-in-Local : goal.returns-in-Local

@@ -1,9 +1,7 @@
 -- `effect::data::load_effect` meets its contract: 23 where there is no such library, 32 where the words are not live, else they are read.
 use native.Mathlib.Omega.{arith}
-use borrow.Author.Tests.{not-true, not-false}
 use Prim.Native.Nat.{◌+◌}
 use mathlib.Core.Path.{◌≡◌}
-use borrow.Author.Rules.{rules}
 use Rattle.shape.specs.Counts.{popped}
 use Rattle.effect.specs.Data.{loaded, load_effect}
 use Rattle.registers.proofs.Protected.{live_below}

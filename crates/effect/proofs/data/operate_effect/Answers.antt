@@ -1,5 +1,4 @@
 -- `effect::data::operate_effect` meets its contract: the operation's word, or its trap.
-use borrow.Author.Rules.{rules}
 use Rattle.effect.proofs.data.operate_effect.Goals as goal
 
 pub returns-in-Word : goal.returns-in-Word

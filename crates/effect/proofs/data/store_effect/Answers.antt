@@ -2,8 +2,6 @@
 use Prim.Native.Nat.{◌+◌, ◌≤◌}
 use mathlib.Core.Path.{◌≡◌}
 use native.Mathlib.Omega.{arith}
-use borrow.Author.Tests.{not-true, not-false}
-use borrow.Author.Rules.{rules}
 use Rattle.effect.specs.Data.{store_effect, stored}
 use Rattle.shape.proofs.Counting.{popped-small, words_small}
 use Rattle.registers.proofs.Protected.{live_below}

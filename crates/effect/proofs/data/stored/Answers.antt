@@ -1,5 +1,4 @@
 -- `effect::data::stored` meets its contract, mode by mode.
-use borrow.Author.Rules.{rules}
 use Rattle.effect.proofs.data.stored.Goals as goal
 
 pub returns-in-Normal : goal.returns-in-Normal

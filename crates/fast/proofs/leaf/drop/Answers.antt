@@ -1,7 +1,6 @@
 -- `fast::leaf::drop` meets its contract: the words are there, or nothing is written.
 use mathlib.Core.Path.{refl}
 use Prim.Native.Nat.{◌≤◌}
-use borrow.Author.Rules.{rules}
 use Rattle.fast.proofs.leaf.drop.Goals.{Else-h-n}
 use Rattle.fast.proofs.leaf.drop.Goals as goal
 

@@ -1,7 +1,6 @@
 -- `fast::leaf::is_free` meets its contract: plain words are free, others below the frames are not, and there the links decide.
 use mathlib.Core.Path.{◌∙◌, sym}
 use borrow.Author.Tests.{le-leb, lt-leb}
-use borrow.Author.Rules.{rules}
 use Rattle.fast.proofs.leaf.is_free.Goals as goal
 
 pub returns-then-is_plain : goal.returns-then-is_plain

@@ -1,6 +1,5 @@
 -- `fast::leaf::is_near` meets its contract: no link word lies more than three below.
 use native.Mathlib.Omega.{arith}
-use borrow.Author.Rules.{rules}
 use Rattle.fast.proofs.Walking.{near-far, near-words}
 use Rattle.fast.proofs.leaf.is_near.Goals as goal
 

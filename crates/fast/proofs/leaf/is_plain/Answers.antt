@@ -1,6 +1,5 @@
 -- `fast::leaf::is_plain` meets its contract: by where the address lies.
 use borrow.Author.Tests.{le-leb, lt-leb}
-use borrow.Author.Rules.{rules}
 use Rattle.fast.proofs.leaf.is_plain.Goals as goal
 
 pub returns-then-fp-a : goal.returns-then-fp-a

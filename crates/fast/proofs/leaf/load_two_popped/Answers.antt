@@ -1,7 +1,6 @@
 -- `fast::leaf::load_two_popped` meets its contract: both words at the sum are live.
 use mathlib.Core.Path.{refl}
 use native.Mathlib.Omega.{arith}
-use borrow.Author.Rules.{rules}
 use Rattle.fast.proofs.leaf.load_two_popped.Goals as goal
 
 pub bounds-memory-first-2 : goal.bounds-memory-first-2

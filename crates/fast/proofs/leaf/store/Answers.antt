@@ -1,6 +1,5 @@
 -- `fast::leaf::store` meets its contract: the word is live and plain, or nothing is written.
 use mathlib.Core.Path.{◌∙◌, sym, refl}
-use borrow.Author.Tests.{not-false}
 use borrow.Author.Rules.{rules}
 use Rattle.fast.proofs.leaf.store.Goals as goal
 

@@ -1,6 +1,5 @@
 -- `fast::leaf::store_popped` meets its contract: the word at the sum is live and not protected, or nothing is written.
 use mathlib.Core.Path.{◌∙◌, sym, refl}
-use borrow.Author.Tests.{not-false}
 use borrow.Author.Rules.{rules}
 use Rattle.fast.proofs.leaf.store_popped.Goals as goal
 

@@ -2,8 +2,6 @@
 use mathlib.Core.Path.{◌∙◌, sym, refl}
 use native.Mathlib.Omega.{arith}
 use lib.ListN.{length-set}
-use borrow.Author.Tests.{not-false}
-use borrow.Author.Rules.{rules}
 use Rattle.fast.proofs.leaf.store_two_popped.Goals as goal
 
 pub bounds-memory-to-2 : goal.bounds-memory-to-2

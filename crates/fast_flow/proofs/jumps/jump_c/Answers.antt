@@ -1,6 +1,5 @@
 -- `fast_flow::jumps::jump_c` meets its contract: by the boolean, to the place or to what is next.
 use native.Mathlib.Omega.{arith}
-use borrow.Author.Rules.{rules}
 use Rattle.fast.specs.Fast.{spot}
 use Rattle.fast_flow.proofs.Jumping.{jump-c-goes, jump-c-stays}
 use Rattle.fast_flow.proofs.jumps.jump_c.Goals as goal

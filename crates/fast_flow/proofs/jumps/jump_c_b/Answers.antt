@@ -1,7 +1,6 @@
 -- `fast_flow::jumps::jump_c_b` meets its contract: its distance is a byte.
 use mathlib.Core.Path.{refl}
 use native.Mathlib.Omega.{arith}
-use borrow.Author.Rules.{rules}
 use Rattle.operand.specs.Operand.{signed, b}
 use Rattle.opcode.specs.Table.{row_of}
 use Rattle.fast_flow.proofs.Standing.{stands}

@@ -1,7 +1,6 @@
 -- `fast_flow::jumps::jump_tf` meets its contract: by the boolean, to the place or to what is next.
 use mathlib.Core.Path.{refl}
 use Prim.Native.Nat.{◌+◌}
-use borrow.Author.Rules.{rules}
 use Rattle.words.specs.Bytes.{byte_at}
 use Rattle.fast.specs.Fast.{spot}
 use Rattle.fast_flow.proofs.Jumping.{flag-stands, flag-goes, flag-stays}

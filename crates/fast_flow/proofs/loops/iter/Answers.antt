@@ -2,8 +2,6 @@
 use mathlib.Core.Path.{◌∙◌, refl, sym}
 use native.Mathlib.Omega.{arith}
 use Prim.Native.Nat.{◌+◌}
-use borrow.Author.Tests.{not-false}
-use borrow.Author.Rules.{rules}
 use Rattle.operand.specs.Operand.{unsigned, h as halfword}
 use Rattle.opcode.specs.Table.{row_of}
 use Rattle.fast.specs.Fast.{spot}

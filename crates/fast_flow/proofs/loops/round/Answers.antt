@@ -1,6 +1,5 @@
 -- `fast_flow::loops::round` meets its contract: by the sign of the step, past the loop or to the label.
 use mathlib.Core.Path.{◌∙◌, sym}
-use borrow.Author.Rules.{rules}
 use Rattle.fast.specs.Fast.{spot}
 use Rattle.fast_flow.proofs.Looping.{round-ends, round-turns}
 use Rattle.fast_flow.proofs.loops.round.Goals as goal

@@ -1,7 +1,6 @@
 -- `fast_flow::switches::branch` meets its contract: the label is a word, since a halfword is small.
 use mathlib.Core.Path.{refl}
 use native.Mathlib.Omega.{arith}
-use borrow.Author.Rules.{rules}
 use Rattle.fast_flow.proofs.switches.branch.Goals as goal
 
 pub overflow_cast-stack : goal.overflow_cast-stack

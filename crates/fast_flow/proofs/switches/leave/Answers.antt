@@ -2,7 +2,6 @@
 use mathlib.Core.Path.{refl}
 use native.Mathlib.Omega.{arith}
 use Prim.Native.Nat.{◌+◌}
-use borrow.Author.Rules.{rules}
 use Rattle.operand.specs.Operand.{none}
 use Rattle.opcode.specs.Table.{row_of}
 use Rattle.fast.specs.Fast.{spot}

@@ -2,7 +2,6 @@
 use mathlib.Core.Path.{◌≡◌, refl}
 use native.Mathlib.Omega.{arith}
 use Prim.Native.Nat.{◌+◌, ◌*◌}
-use borrow.Author.Rules.{rules}
 use Rattle.words.specs.Bytes.{halfword_at}
 use Rattle.operand.specs.Operand.{table}
 use Rattle.opcode.specs.Table.{row_of}

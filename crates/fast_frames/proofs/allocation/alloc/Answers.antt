@@ -2,7 +2,6 @@
 use mathlib.Core.Path.{refl}
 use Prim.Native.Nat.{◌-◌}
 use native.Mathlib.Omega.{arith}
-use borrow.Author.Rules.{rules}
 use Rattle.registers.specs.Program.{program}
 use Rattle.state.proofs.Fitting.{fitting}
 use Rattle.fast_frames.specs.Frames.{framed}

@@ -1,11 +1,7 @@
 -- `fast_frames::frames::copy_words` meets its contract: one word, two, and after i turns the first i are stored.
 use mathlib.Core.Path.{◌≡◌, refl}
-use mathlib.Core.List.{List}
-use Prim.Native.Nat.{ℕ, ◌-◌, ◌≤◌}
 use native.Mathlib.Omega.{arith}
-use lib.ListN.{length, take, drop, length-set}
-use lib.Seq.{sets}
-use borrow.Author.Rules.{rules}
+use lib.ListN.{length-set}
 use Rattle.fast_frames.proofs.Calling.{copied-one, copied-two, copied_next}
 use Rattle.fast_frames.proofs.frames.copy_words.Goals as goal
 

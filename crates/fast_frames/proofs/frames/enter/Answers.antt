@@ -1,6 +1,5 @@
 -- `fast_frames::frames::enter` meets its contract: the words are on the stack, and memory has room for them and the locals.
 use native.Mathlib.Omega.{arith}
-use borrow.Author.Rules.{rules}
 use Rattle.registers.specs.Program.{program}
 use Rattle.state.proofs.Fitting.{fitting}
 use Rattle.fast_frames.specs.Frames.{framed}

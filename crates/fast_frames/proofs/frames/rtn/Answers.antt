@@ -1,7 +1,5 @@
 -- `fast_frames::frames::rtn` meets its contract: the links of an active call lie below its frame.
-use Prim.Native.Nat.{◌-◌}
 use native.Mathlib.Omega.{arith}
-use borrow.Author.Rules.{rules}
 use Rattle.registers.specs.Program.{program}
 use Rattle.state.proofs.Fitting.{fitting}
 use Rattle.fast_frames.specs.Frames.{framed}

@@ -1,5 +1,4 @@
 -- `fast_operations::operations::equal` meets its contract: the value of the operation is put.
-use borrow.Author.Rules.{rules}
 use Rattle.fast_operations.proofs.operations.equal.Goals as goal
 
 pub returns : goal.returns

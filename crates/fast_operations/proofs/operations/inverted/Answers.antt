@@ -1,5 +1,4 @@
 -- `fast_operations::operations::inverted` meets its contract: the value of the operation is put.
-use borrow.Author.Rules.{rules}
 use Rattle.fast_operations.proofs.operations.inverted.Goals as goal
 
 pub returns : goal.returns

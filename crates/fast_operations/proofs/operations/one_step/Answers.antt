@@ -1,7 +1,6 @@
 -- `fast_operations::operations::one_step` meets its contract: each arm is its operation's, or NOP's, step.
 use mathlib.Core.Path.{◌∙◌, refl, sym}
 use native.Mathlib.Omega.{arith}
-use borrow.Author.Rules.{rules}
 use Rattle.opcode.specs.Table.{row_of}
 use Rattle.operate.specs.Operation.{operation_value}
 use Rattle.fast.specs.Fast.{spot}

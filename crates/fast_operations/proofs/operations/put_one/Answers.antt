@@ -1,6 +1,5 @@
 -- `fast_operations::operations::put_one` meets its contract: a word is put, a trap is not.
 use mathlib.Core.Path.{refl}
-use borrow.Author.Rules.{rules}
 use Rattle.fast_operations.proofs.operations.put_one.Goals as goal
 
 pub returns-in-Word : goal.returns-in-Word

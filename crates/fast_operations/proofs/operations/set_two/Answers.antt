@@ -1,5 +1,4 @@
 -- `fast_operations::operations::set_two` meets its contract: the value of the operation is put.
-use borrow.Author.Rules.{rules}
 use Rattle.fast_operations.proofs.operations.set_two.Goals as goal
 
 pub returns : goal.returns

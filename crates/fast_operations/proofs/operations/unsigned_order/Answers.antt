@@ -1,5 +1,4 @@
 -- `fast_operations::operations::unsigned_order` meets its contract: the value of the operation is put.
-use borrow.Author.Rules.{rules}
 use Rattle.fast_operations.proofs.operations.unsigned_order.Goals as goal
 
 pub returns : goal.returns

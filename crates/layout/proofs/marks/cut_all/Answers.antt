@@ -1,10 +1,8 @@
 -- `marks::cut_all` meets its contract: each turn marks a region, and what is left decides. The measure is the procedures left.
-use Prim.Native.Nat.{◌-◌}
 use mathlib.Core.Path.{◌∙◌}
 use native.Mathlib.Omega.{arith}
-use borrow.Author.Rules.{rules}
 use Rattle.entries.proofs.Bounds.{count-below}
-use Rattle.layout.proofs.Turns.{Regions, regions-start, regions-last, regions-bad, regions-next}
+use Rattle.layout.proofs.Turns.{regions-start, regions-last, regions-bad, regions-next}
 use Rattle.layout.proofs.marks.cut_all.Goals as goal
 
 pub loop-p-init : goal.loop-p-init

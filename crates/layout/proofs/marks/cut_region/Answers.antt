@@ -1,11 +1,8 @@
 -- `marks::cut_region` meets its contract: each turn marks one instruction, and what is left decides. The measure is the turns left.
-use Prim.Native.Nat.{◌-◌}
 use mathlib.Core.Path.{◌∙◌, sym}
 use native.Mathlib.Omega.{arith}
-use lib.ListN.{length}
-use borrow.Author.Rules.{rules}
 use Rattle.entries.proofs.Bounds.{region-below}
-use Rattle.layout.proofs.Turns.{Region, region-start, region-spent, region-over, region-turn, region-next}
+use Rattle.layout.proofs.Turns.{region-start, region-spent, region-over, region-turn, region-next}
 use Rattle.layout.proofs.marks.cut_region.Goals as goal
 
 pub loop-init : goal.loop-init

@@ -1,11 +1,7 @@
 -- `marks::cut_region` meets its contract: each turn marks one instruction, and what is left decides. The measure is the turns left.
 use Prim.Native.Nat.{◌-◌}
-use mathlib.Core.Path.{◌∙◌, sym}
-use native.Mathlib.Omega.{arith}
 use lib.ListN.{length}
-use borrow.Author.Rules.{rules}
-use Rattle.entries.proofs.Bounds.{region-below}
-use Rattle.layout.proofs.Turns.{Region, region-start, region-spent, region-over, region-turn, region-next}
+use Rattle.layout.proofs.Turns.{Region}
 use Rattle.layout.proofs.marks.cut_region.Given as goal
 
 abbrev pub invariant-loop : goal.invariant-loop
@@ -13,4 +9,3 @@ invariant-loop l = Region l.code l.p l.initial.w l.w l.at l.counter
 
 abbrev pub decreases-loop : goal.decreases-loop
 decreases-loop l = length l.code - l.counter
-

@@ -1,5 +1,4 @@
 -- `marks::mark_at` meets its contract: within the code bytes the fourth halfword, else 0.
-use borrow.Author.Rules.{rules}
 use borrow.Author.Tests.{lt-ltb, le-ltb}
 use Rattle.layout.proofs.marks.mark_at.Goals as goal
 

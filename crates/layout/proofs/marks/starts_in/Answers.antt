@@ -1,5 +1,4 @@
 -- `faults::starts_in` meets its contract: the mark is compared.
-use borrow.Author.Rules.{rules}
 use Rattle.layout.proofs.marks.starts_in.Goals as goal
 
 pub returns : goal.returns

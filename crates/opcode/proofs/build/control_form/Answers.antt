@@ -1,7 +1,6 @@
 -- `build::control_form` meets its contract: each code finds its row; the rest is NOP, or a code that is none of them.
 use lib.ListN.{take, drop}
 use lib.Dec.{eqb}
-use borrow.Author.Rules.{rules}
 use Rattle.opcode.proofs.Rows.{find-rest, rest-nop}
 use Rattle.opcode.specs.Table.{control_table}
 use Rattle.opcode.proofs.build.control_form.Goals as goal

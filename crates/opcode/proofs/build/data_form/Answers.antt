@@ -1,6 +1,5 @@
 -- `build::data_form` meets its contract: each code finds its row, and one that is none of them finds none.
 use mathlib.Core.List.{[]}
-use borrow.Author.Rules.{rules}
 use Rattle.opcode.proofs.Rows.{find-rest}
 use Rattle.opcode.specs.Table.{data_table}
 use Rattle.operand.proofs.Extend.{extended-word}

@@ -1,6 +1,5 @@
 -- `build::instruction_at` meets its contract: the four tables, in the order of the codes.
 use native.Mathlib.Omega.{arith}
-use borrow.Author.Rules.{rules}
 use borrow.Author.Tests.{ne_eqb, lt-ltb, le-ltb}
 use Rattle.words.specs.Bytes.{byte_at}
 use Rattle.opcode.specs.Decode.{instruction_at}

@@ -1,6 +1,5 @@
 -- `build::operation_form` meets its contract: each code finds its row, and one that is none of them finds none.
 use mathlib.Core.List.{[]}
-use borrow.Author.Rules.{rules}
 use Rattle.opcode.proofs.Rows.{find-rest}
 use Rattle.opcode.specs.Table.{operation_table}
 use Rattle.opcode.proofs.build.operation_form.Goals as goal

@@ -1,5 +1,4 @@
 -- `build::short_form` meets its contract: the first digit finds the row, and below 128 the one that is none of 0 to 6 is 7.
-use borrow.Author.Rules.{rules}
 use Rattle.opcode.proofs.Rows.{digit-seven}
 use Rattle.opcode.proofs.build.short_form.Goals as goal
 

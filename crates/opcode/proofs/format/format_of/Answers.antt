@@ -1,6 +1,5 @@
 -- `format::format_of` meets its contract: the table is the sheet, and a byte is one of its 256 codes.
 use native.Mathlib.Omega.{arith}
-use borrow.Author.Rules.{rules}
 use Rattle.opcode.proofs.format.format_of.Goals as goal
 
 pub bounds-formats-opcode : goal.bounds-formats-opcode

@@ -2,7 +2,6 @@
 use Prim.Native.Nat.{◌+◌}
 use mathlib.Core.Path.{◌≡◌}
 use native.Mathlib.Omega.{arith}
-use borrow.Author.Rules.{rules}
 use borrow.Author.Tests.{eq-eqb, ne_eqb}
 use Rattle.opcode.proofs.Formats.{not-prefix, is-prefix, double-short}
 use Rattle.opcode.proofs.Present.{byte-present}
@@ -21,7 +20,6 @@ found c = rw (← c.byte_at.ensures) c.format_of-format.ensures
 
 prefixed :
     (c : Else-format-lt32768) → (let a = c.args in c.format_of-format.result ≡ sheet_of (byte_at a.code.now a.at)) →
-   
     let a = c.args in
     byte_at a.code.now a.at ≡ double_code
 prefixed c has-found = is-prefix _ _ (has-found) c.if-format-lt32768.false

@@ -1,6 +1,5 @@
 -- `length::length_in` meets its contract: in normal mode by the whole entry, behind DOUBLE by its mark and the fixed length.
 use mathlib.Core.Path.{◌≡◌, sym}
-use borrow.Author.Rules.{rules}
 use Rattle.opcode.proofs.Formats.{length_none, double-some}
 use Rattle.words.specs.Bytes.{byte_at}
 use Rattle.opcode.specs.Sheet.{sheet_of}

@@ -2,7 +2,6 @@
 use Prim.Native.Nat.{◌+◌, ◌*◌, ◌/◌, ◌%◌, ◌^◌, ◌<◌}
 use mathlib.Core.Path.{◌≡◌, sym}
 use native.Mathlib.Omega.{arith}
-use borrow.Author.Rules.{rules}
 use Rattle.opcode.proofs.Formats.{prefix-none, length_some, length-fits}
 use Rattle.opcode.proofs.length.normal_length.Goals.{After-unsigned_halfword}
 use Rattle.opcode.proofs.length.normal_length.Goals as goal

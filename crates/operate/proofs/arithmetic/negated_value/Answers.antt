@@ -1,7 +1,6 @@
 -- `operate::arithmetic::negated_value` meets its contract: 0 less the number is its negation.
 use mathlib.Core.Path.{◌∙◌, ap}
 use lib.IntN.{pos, +ℤ_idl}
-use borrow.Author.Rules.{rules}
 use mir.Facts.{to_z-of_z, sfits_lit}
 use Rattle.opcode.specs.declared.instruction.Arithmetic.TheVariants.{Subtract}
 use Rattle.operate.specs.Arithmetic.{negated_value}

@@ -1,10 +1,9 @@
 -- `operate::arithmetic::signed_value` meets its contract: each arm is its line of the definition, and what it computes fits.
 use mathlib.Core.Path.{◌∙◌, refl}
-use borrow.Author.Rules.{rules}
 use borrow.Author.Tests.{eq-eqb, ne_eqb}
 use Rattle.opcode.specs.declared.instruction.Arithmetic.TheVariants.{Add, Subtract, Multiply, Divide}
 use Rattle.operate.specs.Arithmetic.{signed_value}
-use Rattle.operate.proofs.Operands.{operands-fit, divisor, stored_is}
+use Rattle.operate.proofs.Operands.{stored_is}
 use Rattle.operate.proofs.arithmetic.signed_value.Goals as goal
 
 pub returns-then-y-eq0 : goal.returns-then-y-eq0

@@ -1,6 +1,5 @@
 -- `operate::arithmetic::unsigned_difference` meets its contract: below 0 the rule decides; else it is a word.
 use mathlib.Core.Bool.{true, false}
-use borrow.Author.Rules.{rules}
 use Rattle.operate.proofs.Naturals.{difference-is, below-zero}
 use Rattle.operate.proofs.arithmetic.unsigned_difference.Goals as goal
 

@@ -1,10 +1,9 @@
 -- `operate::arithmetic::unsigned_value` meets its contract: a sum, a product or a difference goes by the rule, and a quotient
 -- or a remainder is no larger than x.
 use native.Mathlib.Nat.{div-le_self, mod-le}
-use borrow.Author.Rules.{rules}
 use borrow.Author.Tests.{eq-eqb, ne_eqb}
 use Rattle.operate.specs.Arithmetic.{unsigned_value}
-use Rattle.operate.proofs.Naturals.{no-larger, product-fits}
+use Rattle.operate.proofs.Naturals.{no-larger}
 use Rattle.operate.proofs.arithmetic.unsigned_value.Goals as goal
 
 pub returns-then-y-eq0 : goal.returns-then-y-eq0

@@ -1,7 +1,6 @@
 -- `operate::arithmetic::unsigned_word` meets its contract: below 2^32 a number is a word; past it the rule decides.
 use mathlib.Core.Bool.{true, false}
 use native.Mathlib.Omega.{arith}
-use borrow.Author.Rules.{rules}
 use Rattle.operate.proofs.Naturals.{in-word, past_word}
 use Rattle.operate.proofs.arithmetic.unsigned_word.Goals as goal
 

@@ -1,5 +1,4 @@
 -- `operate::compare::signed_test` meets its contract: the order of an arm, on x and y or on y and x.
-use borrow.Author.Rules.{rules}
 use Rattle.operate.proofs.compare.signed_test.Goals as goal
 
 pub returns-in-Less : goal.returns-in-Less

@@ -1,5 +1,4 @@
 -- `operation::operation_value` meets its contract: each arm is the line of its operation.
-use borrow.Author.Rules.{rules}
 use Rattle.operate.specs.Operation.{operation_value}
 use Rattle.operate.proofs.operation.operation_value.Goals as goal
 

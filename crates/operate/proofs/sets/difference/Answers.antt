@@ -2,7 +2,6 @@
 use Prim.Native.Nat.{suc, ◌-◌}
 use mathlib.Core.Path.{◌≡◌}
 use native.Mathlib.Omega.{arith}
-use borrow.Author.Rules.{rules}
 use Rattle.operate.proofs.sets.difference.Goals as goal
 
 pub returns : goal.returns

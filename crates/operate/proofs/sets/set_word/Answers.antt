@@ -1,6 +1,5 @@
 -- `operate::sets::set_word` meets its contract: each arm is its line of the definition.
 use native.Mathlib.Omega.{arith}
-use borrow.Author.Rules.{rules}
 use borrow.Author.Tests.{lt-ltb, le-ltb}
 use Rattle.operate.specs.Sets.{set_word}
 use Rattle.operate.proofs.sets.set_word.Goals as goal

@@ -1,7 +1,6 @@
 -- `crate::Registers::returned` meets its contract: two link words below FP, or three, by the sign of the return word.
 use mathlib.Core.Path.{◌∙◌, sym}
 use native.Mathlib.Omega.{arith}
-use borrow.Author.Rules.{rules}
 use Rattle.registers.specs.Memory.{link_words}
 use Rattle.registers.proofs.Links.{link-range, external-words}
 use Rattle.registers.proofs.Registers.returned.Goals.{After-negated}

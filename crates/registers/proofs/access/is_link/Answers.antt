@@ -1,9 +1,7 @@
 -- `crate::access::is_link` meets its contract: the walk goes down the chain of frames until the address lies at or above one.
-use Prim.Native.Nat.{◌-◌}
 use mathlib.Core.Path.{sym}
 use native.Mathlib.Omega.{arith}
-use borrow.Author.Rules.{rules}
-use Rattle.registers.proofs.Links.{link-range, Walked, walked_start, walked-above, walked_near, walked_next, walked_end}
+use Rattle.registers.proofs.Links.{link-range, walked_start, walked-above, walked_near, walked_next, walked_end}
 use Rattle.registers.proofs.access.is_link.Goals as goal
 
 pub loop-init : goal.loop-init

@@ -1,9 +1,6 @@
 -- `crate::access::is_link` meets its contract: the walk goes down the chain of frames until the address lies at or above one.
 use Prim.Native.Nat.{◌-◌}
-use mathlib.Core.Path.{sym}
-use native.Mathlib.Omega.{arith}
-use borrow.Author.Rules.{rules}
-use Rattle.registers.proofs.Links.{link-range, Walked, walked_start, walked-above, walked_near, walked_next, walked_end}
+use Rattle.registers.proofs.Links.{Walked}
 use Rattle.registers.proofs.access.is_link.Given as goal
 
 abbrev pub invariant-loop : goal.invariant-loop
@@ -11,4 +8,3 @@ invariant-loop l = Walked l.m l.start l.fp l.calls l.a l.frame l.counter
 
 abbrev pub decreases-loop : goal.decreases-loop
 decreases-loop l = l.calls - l.counter
-

@@ -1,7 +1,6 @@
 -- `crate::access::is_live` meets its contract: a + n is at most MP where n is, and a is at most the rest.
 use Prim.Native.Nat.{◌+◌}
 use native.Mathlib.Omega.{arith}
-use borrow.Author.Rules.{rules}
 use borrow.Author.Tests.{lt-leb}
 use Rattle.registers.specs.Memory.{live}
 use Rattle.registers.proofs.Protected.{at-most-less}

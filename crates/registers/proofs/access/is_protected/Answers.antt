@@ -1,6 +1,5 @@
 -- `crate::access::is_protected` meets its contract: by the data frames, then by the links.
 use mathlib.Core.Path.{◌∙◌, sym}
-use borrow.Author.Rules.{rules}
 use Rattle.registers.specs.Memory.{protects}
 use Rattle.registers.proofs.access.is_protected.Goals as goal
 

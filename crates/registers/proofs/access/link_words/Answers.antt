@@ -1,5 +1,4 @@
 -- `crate::access::link_words` meets its contract: by the sign of the return word.
-use borrow.Author.Rules.{rules}
 use Rattle.registers.specs.Memory.{link_words}
 use Rattle.registers.proofs.access.link_words.Goals as goal
 

@@ -1,6 +1,5 @@
 -- `crate::access::negated` meets its contract: the distance to 2^32, which a word does not hold, in two steps.
 use native.Mathlib.Omega.{arith}
-use borrow.Author.Rules.{rules}
 use borrow.Author.Tests.{ne_eqb}
 use Rattle.registers.specs.Memory.{negated}
 use Rattle.registers.proofs.access.negated.Goals as goal

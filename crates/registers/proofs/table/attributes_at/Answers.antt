@@ -2,7 +2,6 @@
 use mathlib.Core.Path.{◌∙◌}
 use mathlib.Core.List.{[]}
 use native.Mathlib.Omega.{arith}
-use borrow.Author.Rules.{rules}
 use Rattle.registers.proofs.Rows.{module-row, row_within, rows_end}
 use Rattle.registers.proofs.table.attributes_at.Goals as goal
 

@@ -1,10 +1,7 @@
 -- `crate::table::data_start` meets its contract: the sizes of the rows before, added up.
-use Prim.Native.Nat.{◌-◌, ◌/◌}
 use native.Mathlib.Omega.{arith}
-use borrow.Author.Rules.{rules}
-use lib.ListN.{length}
 use Rattle.registers.specs.Modules.{modules_in}
-use Rattle.registers.proofs.Rows.{Adding, adding-start, adding-next, adding-end}
+use Rattle.registers.proofs.Rows.{adding-start, adding-next, adding-end}
 use Rattle.registers.proofs.table.data_start.Goals as goal
 
 pub loop-i-init : goal.loop-i-init

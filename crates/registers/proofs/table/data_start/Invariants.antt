@@ -1,10 +1,7 @@
 -- `crate::table::data_start` meets its contract: the sizes of the rows before, added up.
 use Prim.Native.Nat.{◌-◌, ◌/◌}
-use native.Mathlib.Omega.{arith}
-use borrow.Author.Rules.{rules}
 use lib.ListN.{length}
-use Rattle.registers.specs.Modules.{modules_in}
-use Rattle.registers.proofs.Rows.{Adding, adding-start, adding-next, adding-end}
+use Rattle.registers.proofs.Rows.{Adding}
 use Rattle.registers.proofs.table.data_start.Given as goal
 
 abbrev pub invariant-loop-i : goal.invariant-loop-i
@@ -12,4 +9,3 @@ invariant-loop-i l = Adding l.table (length l.table / 5) l.k l.start l.i
 
 abbrev pub decreases-loop-i : goal.decreases-loop-i
 decreases-loop-i l = l.k - l.i
-

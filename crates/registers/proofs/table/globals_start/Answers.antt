@@ -1,7 +1,6 @@
 -- `crate::table::globals_start` meets its contract: behind the header words of its data frame.
 use mathlib.Core.Path.{◌∙◌}
 use native.Mathlib.Omega.{arith}
-use borrow.Author.Rules.{rules}
 use Rattle.registers.proofs.Rows.{rows-past}
 use Rattle.registers.proofs.table.globals_start.Goals as goal
 

@@ -1,10 +1,8 @@
 -- `crate::table::is_fixed` meets its contract: row by row, and the rest of the table decides.
-use Prim.Native.Nat.{◌-◌}
 use mathlib.Core.Path.{◌∙◌, sym}
 use native.Mathlib.Omega.{arith}
-use borrow.Author.Rules.{rules}
 use Rattle.registers.specs.Modules.{modules_in}
-use Rattle.registers.proofs.Rows.{Seeking, seeking-start, seeking-header, seeking-constant, seeking-next, seeking-end}
+use Rattle.registers.proofs.Rows.{seeking-start, seeking-header, seeking-constant, seeking-next, seeking-end}
 use Rattle.registers.proofs.table.is_fixed.Goals as goal
 
 pub loop-k-init : goal.loop-k-init

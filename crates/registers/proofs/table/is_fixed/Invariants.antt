@@ -1,10 +1,6 @@
 -- `crate::table::is_fixed` meets its contract: row by row, and the rest of the table decides.
 use Prim.Native.Nat.{◌-◌}
-use mathlib.Core.Path.{◌∙◌, sym}
-use native.Mathlib.Omega.{arith}
-use borrow.Author.Rules.{rules}
-use Rattle.registers.specs.Modules.{modules_in}
-use Rattle.registers.proofs.Rows.{Seeking, seeking-start, seeking-header, seeking-constant, seeking-next, seeking-end}
+use Rattle.registers.proofs.Rows.{Seeking}
 use Rattle.registers.proofs.table.is_fixed.Given as goal
 
 abbrev pub invariant-loop-k : goal.invariant-loop-k
@@ -12,4 +8,3 @@ invariant-loop-k l = Seeking l.table l.n l.a l.start l.k
 
 abbrev pub decreases-loop-k : goal.decreases-loop-k
 decreases-loop-k l = l.n - l.k
-

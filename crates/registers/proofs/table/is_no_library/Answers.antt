@@ -1,5 +1,4 @@
 -- `crate::table::is_no_library` meets its contract: 0, or past the modules.
-use borrow.Author.Rules.{rules}
 use borrow.Author.Tests.{ne_eqb}
 use Rattle.registers.proofs.table.is_no_library.Goals as goal
 

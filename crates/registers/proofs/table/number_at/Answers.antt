@@ -1,9 +1,7 @@
 -- `crate::table::number_at` meets its contract: row by row, and the rest of the table decides.
-use Prim.Native.Nat.{◌-◌}
 use native.Mathlib.Omega.{arith}
-use borrow.Author.Rules.{rules}
 use Rattle.registers.specs.Modules.{modules_in, number_at}
-use Rattle.registers.proofs.Rows.{Numbering, numbering_start, numbering-found, numbering-next, numbering-end}
+use Rattle.registers.proofs.Rows.{numbering_start, numbering-found, numbering-next, numbering-end}
 use Rattle.registers.proofs.table.number_at.Goals as goal
 
 pub loop-k-init : goal.loop-k-init

@@ -4,7 +4,6 @@ use mathlib.Core.Path.{◌≡◌}
 use native.Mathlib.Omega.{arith}
 use lib.ListN.{length, take, drop}
 use borrow.Author.Tests.{lt-ltb, le-ltb}
-use borrow.Author.Rules.{rules}
 use Rattle.registers.specs.Changes.{raised}
 use Rattle.step.specs.Step.{written, apply}
 use Rattle.step.proofs.Pushing.{pushes-small}

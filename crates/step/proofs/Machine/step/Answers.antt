@@ -3,7 +3,6 @@ use mathlib.Core.Path.{◌∙◌, sym}
 use native.Mathlib.Omega.{arith}
 use lib.ListN.{length}
 use borrow.Author.Tests.{lt-ltb, le-ltb}
-use borrow.Author.Rules.{rules}
 use Rattle.opcode.proofs.Found.{ends}
 use Rattle.registers.specs.State.{state}
 use Rattle.shape.specs.Shape.{needed}
