@@ -1,7 +1,7 @@
 -- 01's plates marked P, and loops to both ends of the range (02, K3), as a table: code, parameters and globals, what the
 -- check answers, and what loading and running gives.
 -- "Globals as given, constants none; memory 64, stack 16, budget 1,000 unless named."
-use Rattle.std.specs.Prelude.{List, [], ◌∷◌, ◌++◌, map, ◌≡◌, ℕ, ◌+◌, ◌*◌, ◌/◌, ◌%◌, length, take, drop, replicate}
+use Rattle.std.specs.Prelude.{List, [], ◌∷◌, ◌++◌, map, ◌≡◌, ℕ, ◌*◌, ◌/◌, ◌%◌, length, take, drop, replicate}
 use Rattle.verifier.specs.Check.{check_of}
 use Rattle.registers.specs.Modules.{header_words}
 use Rattle.registers.specs.State.{state}

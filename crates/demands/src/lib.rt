@@ -1,5 +1,6 @@
 // Check, load and run, with the letter's demands as the promise: specs/Demands.antt is the page to read beside the letter.
 #![tactic(auto)]
+
 ghost use Rattle.std.specs.Prelude.{◌≡◌};
 ghost use Rattle.joined.specs.Joined.{joined, joined_of};
 ghost use Rattle.demands.specs.Demands.{Demands};

@@ -1,8 +1,7 @@
 -- LOAD_E, LOAD_A_E and STOR_E complete where their tests pass; a library's globals lie below the frames of calls, and are not
 -- protected.
-use mathlib.Core.Path.{◌≡◌, ◌∙◌, refl, subst, ap}
+use mathlib.Core.Path.{◌≡◌, ◌∙◌, subst, ap}
 use mathlib.Core.Bool.{true, false}
-use mathlib.Core.List.{List}
 use Prim.Native.Nat.{ℕ, ◌+◌, ◌-◌, ◌≤◌, ◌<◌}
 use native.Mathlib.Omega.{arith}
 use lib.ListN.{length, set}

@@ -21,7 +21,7 @@ use Rattle.effect.specs.declared.effect.Effect.TheVariants.{Go}
 use Rattle.effect.specs.Data.{pushes}
 use Rattle.control.specs.Control.{call_external_effect, rtn_effect}
 use Rattle.registers.specs.declared.Registers.{Registers}
-use Rattle.registers.specs.Modules.{Modules, module_at, globals_start, frames_start, number_at, is_base, no_library}
+use Rattle.registers.specs.Modules.{module_at, globals_start, frames_start, number_at, is_base, no_library}
 use Rattle.registers.specs.Program.{Program}
 use Rattle.registers.specs.State.{State, state}
 use Rattle.registers.specs.Memory.{is_local, links_based, link_based, global_link, saved_fp, negated}
@@ -29,7 +29,7 @@ use Rattle.registers.specs.Changes.{called, returned}
 use Rattle.registers.proofs.Rows.{library-below}
 use Rattle.registers.proofs.Bases.{base-below, base-number}
 use Rattle.execute.specs.Execute.{execute, executed}
-use Rattle.state.proofs.Fitting.{Fitting, Fit, fit_parts}
+use Rattle.state.proofs.Fitting.{Fitting, fit_parts}
 use Rattle.step.specs.declared.Outcome.TheVariants.{Went}
 use Rattle.step.specs.Step.{after, applied, code_after, apply, perform, step_of}
 use Rattle.step.specs.Ready.{Ready}

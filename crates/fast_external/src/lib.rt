@@ -1,5 +1,6 @@
 // Completes steps that look at other modules, or writes nothing.
 #![tactic(auto)]
+
 ghost use Rattle.std.specs.Prelude.{◌≡◌, ◌≤◌, ◌<◌, length};
 ghost use Rattle.words.specs.Bytes.{byte_at};
 ghost use Rattle.opcode.specs.declared.instruction.Instruction.TheVariants.{Load, LoadAddress, Store, CallExternal, Rtn};

@@ -1,5 +1,6 @@
 // Completes steps one after the other, as many as it can do at once: the fast loop.
 #![tactic(auto)]
+
 ghost use Rattle.std.specs.Prelude.{◌≡◌, true, ◌+◌, ◌≤◌, ◌<◌, length};
 ghost use Rattle.registers.specs.Modules.{modules_in};
 ghost use Rattle.registers.specs.Program.{program};

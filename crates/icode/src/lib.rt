@@ -1,5 +1,6 @@
 // The C interface, as include/icode.h declares it.
 #![tactic(auto)]
+
 ghost use Rattle.std.specs.Prelude.{◌∷◌, ◌≡◌, ◌≤◌, length, drop};
 ghost use Rattle.record.specs.Number.{record_number, line_span};
 ghost use Rattle.source.specs.Span.{lookup_line};

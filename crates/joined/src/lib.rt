@@ -1,5 +1,6 @@
 // Check, load and run of a record in one call: accepted code never ends in a code trap. safety/specs/Demand3 has the whole of demand 3.
 #![tactic(auto)]
+
 ghost use Rattle.std.specs.Prelude.{◌≡◌};
 ghost use Rattle.joined.specs.Joined.{joined, joined_of, ProperAnswer};
 

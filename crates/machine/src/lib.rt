@@ -1,5 +1,6 @@
 // Run, of a set of modules and of a record by itself: the numbers of a set and 24, or steps up to the budget.
 #![tactic(auto)]
+
 ghost use Rattle.std.specs.Prelude.{◌≡◌, cond, List, ℕ, ◌/◌, ◌≤◌, ◌<◌, length};
 ghost use Rattle.module_set.specs.Members.{members_of};
 ghost use Rattle.registers.specs.Modules.{modules_in, frames_start};

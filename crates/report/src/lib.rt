@@ -1,5 +1,6 @@
 // Run-and-report: a run file is checked, loaded and run, and its page is written into a lent buffer.
 #![tactic(auto)]
+
 ghost use Rattle.std.specs.Prelude.{◌≡◌, ◌≤◌, ◌<◌, length, take, drop};
 ghost use Rattle.source.specs.Source.{line_at};
 ghost use Rattle.text.specs.Text.{check_line, Wrote};

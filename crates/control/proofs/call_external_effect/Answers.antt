@@ -48,7 +48,14 @@ returns-then-is_no_callee c =
     let if1 = c.if-is_no_library in
     let is-no-library = c.is_no_library in
     let a = c.args in
-    rw (← is-no-library.ensures a.copy.now, if1.false, ← code_is (goal.at.returns-then-is_no_callee c).After-part-code (row (goal.at.returns-then-is_no_callee c).Else-is_no_library), ← is-no-callee.ensures, if2.true)
+    rw (
+      ← is-no-library.ensures a.copy.now,
+      if1.false,
+      ← code_is (goal.at.returns-then-is_no_callee c).After-part-code (row
+          (goal.at.returns-then-is_no_callee c).Else-is_no_library),
+      ← is-no-callee.ensures,
+      if2.true,
+    )
 
 pub row_word-requires-2 : goal.row_word-requires-2
 row_word-requires-2 c =
@@ -101,7 +108,13 @@ overflow_cast-gp c =
     let globals-start = c.globals_start-gp in
     let a = c.args in
     let pre = c.requires in
-    omega (arith, globals-start.ensures.0 a.copy.now, row_within a.table.now a.copy.now a.l (row (goal.at.overflow_cast-gp c).Else-is_no_library), pre.copy_bound)
+    omega (
+      arith,
+      globals-start.ensures.0 a.copy.now,
+      row_within a.table.now a.copy.now a.l (row
+          (goal.at.overflow_cast-gp c).Else-is_no_library),
+      pre.copy_bound,
+    )
 
 pub returns : goal.returns
 unfolding call_external_effect

@@ -25,7 +25,12 @@ returns-then-b-truth c =
     let place_at = c.place_at in
     let if2 = c.if-b-truth in
     let a = c.args in
-    rw (lt-ltb a.b 2 (omega arith), eq-eqb a.b a.truth if2.true, jumps (goal.at.returns-then-b-truth c).After-jump_to, place_at.ensures)
+    rw (
+      lt-ltb a.b 2 (omega arith),
+      eq-eqb a.b a.truth if2.true,
+      jumps (goal.at.returns-then-b-truth c).After-jump_to,
+      place_at.ensures,
+    )
 
 pub returns : goal.returns
 unfolding jump_tf_effect

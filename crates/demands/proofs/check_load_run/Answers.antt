@@ -2,7 +2,6 @@
 use mathlib.Core.List.{List}
 use mathlib.Core.Path.{◌≡◌}
 use Prim.Native.Nat.{ℕ}
-use borrow.Author.Rules.{rules}
 use Rattle.joined.specs.Joined.{Joined, joined, joined_of}
 use Rattle.demands.proofs.Collected.{demands}
 use Rattle.demands.proofs.check_load_run.Goals.{After-check_load_run}

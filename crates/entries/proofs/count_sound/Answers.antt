@@ -24,7 +24,15 @@ pub returns-then-first-ne0 : goal.returns-then-first-ne0
 returns-then-first-ne0 c = rw (several (goal.at.returns-then-first-ne0 c).After-entry_at-first, ne_eqb _ 0 c.if-first-ne0.true)
 
 pub returns-then-first-lt4 : goal.returns-then-first-lt4
-returns-then-first-lt4 c = rw (several (goal.at.returns-then-first-lt4 c).After-entry_at-first, eq-eqb _ 0 c.if-first-ne0.false, lt-leb 4 _ c.if-first-lt4.true)
+returns-then-first-lt4 c = rw (
+  several (goal.at.returns-then-first-lt4 c).After-entry_at-first,
+  eq-eqb _ 0 c.if-first-ne0.false,
+  lt-leb 4 _ c.if-first-lt4.true,
+)
 
 pub returns : goal.returns
-returns c = rw (several (goal.at.returns c).After-entry_at-first, eq-eqb _ 0 c.if-first-ne0.false, le-leb 4 _ c.if-first-lt4.false)
+returns c = rw (
+  several (goal.at.returns c).After-entry_at-first,
+  eq-eqb _ 0 c.if-first-ne0.false,
+  le-leb 4 _ c.if-first-lt4.false,
+)

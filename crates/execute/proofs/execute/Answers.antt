@@ -60,7 +60,12 @@ returns-in-LoadAddress c =
     let a = c.args in
     let pre = c.requires in
     let l = rw c.in-LoadAddress.is at pre.i_bound in
-    rw (c.in-LoadAddress.is, load-address-effect.ensures a.copy.now, peek2.ensures, load-address-found _ a.q a.m.now a.s.now _ _ _ l)
+    rw (
+      c.in-LoadAddress.is,
+      load-address-effect.ensures a.copy.now,
+      peek2.ensures,
+      load-address-found _ a.q a.m.now a.s.now _ _ _ l,
+    )
 
 pub returns-in-Store : goal.returns-in-Store
 returns-in-Store c =

@@ -1,9 +1,8 @@
 -- `fast_external::address_external` meets its contract: the library is there, so its address is a word, and the stack has room.
-use mathlib.Core.Path.{◌≡◌, ◌∙◌, sym}
+use mathlib.Core.Path.{◌∙◌, sym}
 use Prim.Native.Nat.{◌+◌, ◌<◌, ◌/◌}
 use native.Mathlib.Omega.{arith}
 use lib.ListN.{length}
-use borrow.Author.Rules.{rules}
 use Rattle.registers.specs.Modules.{modules_in}
 use Rattle.registers.specs.Program.{program}
 use Rattle.registers.specs.State.{state}
@@ -23,7 +22,6 @@ row c =
     library-row a.table.now a.copy.now a.l (sym (is-no-library.ensures a.copy.now) ∙ c.if-is_no_library.false)
 
 low : (c : After-globals_start) → (let a = c.args in a.l < length a.table.now / 5) →
-   
     let a = c.args in
     c.globals_start.result + a.n < 0x1_0000_0000
 low c has-row =
@@ -39,7 +37,10 @@ low c has-row =
     )
 
 pub overflow_cast-stack : goal.overflow_cast-stack
-overflow_cast-stack c = record { fits = low (goal.at.overflow_cast-stack c).After-globals_start (row (goal.at.overflow_cast-stack c).Else-is_no_library) }
+overflow_cast-stack c = record {
+  fits = low (goal.at.overflow_cast-stack c).After-globals_start (row
+      (goal.at.overflow_cast-stack c).Else-is_no_library);
+}
 
 pub overflow_cast-height-2 : goal.overflow_cast-height-2
 overflow_cast-height-2 c =

@@ -1,7 +1,5 @@
 -- `fast_external::byte` meets its contract: a byte of the code is below 256.
 use mathlib.Core.Path.{refl}
-use native.Mathlib.Omega.{arith}
-use borrow.Author.Rules.{rules}
 use Rattle.fast_external.proofs.byte.Goals as goal
 
 pub returns : goal.returns

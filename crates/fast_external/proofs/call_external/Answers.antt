@@ -3,7 +3,6 @@ use mathlib.Core.Path.{◌≡◌, ◌∙◌, sym}
 use Prim.Native.Nat.{◌<◌, ◌/◌}
 use native.Mathlib.Omega.{arith}
 use lib.ListN.{length, length-set}
-use borrow.Author.Rules.{rules}
 use Rattle.registers.specs.Modules.{modules_in, module_at}
 use Rattle.registers.specs.Program.{program}
 use Rattle.registers.specs.State.{state}
@@ -22,7 +21,6 @@ row c =
     library-row a.table.now a.copy.now a.l (sym (is-no-library.ensures a.copy.now) ∙ c.if-is_no_library.false)
 
 code_is : (c : After-part-part) → (let a = c.args in a.l < length a.table.now / 5) →
-   
     let a = c.args in
     c.part-part.result.now ≡ (module_at (modules_in a.table.now a.copy.now) a.l).code
 code_is c has-row =

@@ -1,6 +1,4 @@
 -- `fast_external::external_step` meets its contract: each branch is its code's step, whose bytes lie within the code.
-use native.Mathlib.Omega.{arith}
-use borrow.Author.Rules.{rules}
 use Rattle.fast_frames.proofs.Decoding.{rtn-decodes}
 use Rattle.fast_external.proofs.Decoding.{call-external-decodes, load-external-decodes}
 use Rattle.fast_external.proofs.Decoding.{store-external-decodes, address-external-decodes}
@@ -28,7 +26,7 @@ call_external-requires c =
     let pre = c.requires in record {
       table_len_bound = pre.table_len_bound;
       decodes = rw (byte.ensures.0, byte2.ensures.0)
-            (call-external-decodes a.code.now a.q.pc if4.true if3.false);
+          (call-external-decodes a.code.now a.q.pc if4.true if3.false);
       ready = pre.ready;
     }
 
@@ -42,7 +40,7 @@ load_external-requires c =
     let pre = c.requires in record {
       table_len_bound = pre.table_len_bound;
       decodes = rw (byte.ensures.0, byte2.ensures.0)
-            (load-external-decodes a.code.now a.q.pc if5.true if3.false);
+          (load-external-decodes a.code.now a.q.pc if5.true if3.false);
       ready = pre.ready;
     }
 
@@ -56,7 +54,7 @@ store_external-requires c =
     let pre = c.requires in record {
       table_len_bound = pre.table_len_bound;
       decodes = rw (byte.ensures.0, byte2.ensures.0)
-            (store-external-decodes a.code.now a.q.pc if6.true if3.false);
+          (store-external-decodes a.code.now a.q.pc if6.true if3.false);
       ready = pre.ready;
     }
 
@@ -71,6 +69,6 @@ address_external-requires c =
       table_len_bound = pre.table_len_bound;
       n_bound = byte2.ensures.1;
       decodes = rw (byte.ensures.0, byte2.ensures.0)
-              (address-external-decodes a.code.now a.q.pc if7.true if3.false);
+          (address-external-decodes a.code.now a.q.pc if7.true if3.false);
       ready = pre.ready;
     }

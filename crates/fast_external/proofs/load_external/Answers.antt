@@ -1,8 +1,7 @@
 -- `fast_external::load_external` meets its contract: the library is there, its word is live, and the stack has room.
-use mathlib.Core.Path.{◌≡◌, ◌∙◌, sym}
+use mathlib.Core.Path.{◌∙◌, sym}
 use Prim.Native.Nat.{◌+◌}
 use native.Mathlib.Omega.{arith}
-use borrow.Author.Rules.{rules}
 use Rattle.registers.specs.Modules.{modules_in}
 use Rattle.registers.specs.Program.{program}
 use Rattle.registers.specs.State.{state}

@@ -1,9 +1,8 @@
 -- `fast_external::return_external` meets its contract: a call is active, and GP goes back to some module's first global.
-use mathlib.Core.Path.{◌≡◌, ◌∙◌, sym}
+use mathlib.Core.Path.{◌≡◌, ◌∙◌}
 use Prim.Native.Nat.{◌<◌, ◌/◌}
 use native.Mathlib.Omega.{arith}
 use lib.ListN.{length}
-use borrow.Author.Rules.{rules}
 use Rattle.registers.specs.Modules.{modules_in, module_at, number_at}
 use Rattle.registers.specs.Program.{program}
 use Rattle.registers.specs.State.{state}
@@ -32,8 +31,8 @@ below c =
       omega (arith, is, base-below Ms (back a.q a.memory.now).gp base, modules-length a.table.now a.copy.now),
     )
 
-code_is : (c : After-part-part) → (let a = c.args in let Ms = modules_in a.table.now a.copy.now in (c.number_at-k.result ≡ number_at Ms (back a.q a.memory.now).gp) × (c.number_at-k.result < length a.table.now / 5)) →
-   
+code_is : (c : After-part-part) → (let a = c.args in let Ms = modules_in a.table.now a.copy.now in
+    (c.number_at-k.result ≡ number_at Ms (back a.q a.memory.now).gp) × (c.number_at-k.result < length a.table.now / 5)) →
     let a = c.args in
     let Ms = modules_in a.table.now a.copy.now in
     c.part-part.result.now ≡ (module_at Ms (number_at Ms (back a.q a.memory.now).gp)).code
@@ -86,5 +85,6 @@ returns c =
     let P = program a.code.now a.attributes (modules_in a.table.now a.copy.now) in
     let S = state a.q a.memory.now a.stack.now in
     rw returned.ensures
-    (return-done P S pre.ready a.next pre.decodes if1.false part.result.now (code_is (goal.at.returns c).After-part-part (below (goal.at.returns c).After-number_at-k))
+    (return-done P S pre.ready a.next pre.decodes if1.false part.result.now (code_is (goal.at.returns c).After-part-part
+    (below (goal.at.returns c).After-number_at-k))
     (rw returned.ensures at if2.false))

@@ -1,9 +1,8 @@
 -- `fast_external::store_external` meets its contract: the word is a global of the library, so it is live and not protected.
-use mathlib.Core.Path.{◌≡◌, ◌∙◌, sym}
+use mathlib.Core.Path.{◌∙◌, sym}
 use Prim.Native.Nat.{◌+◌, ◌<◌, ◌/◌}
 use native.Mathlib.Omega.{arith}
 use lib.ListN.{length}
-use borrow.Author.Rules.{rules}
 use Rattle.registers.specs.Modules.{modules_in, module_at}
 use Rattle.registers.specs.Program.{program}
 use Rattle.registers.specs.State.{state}
@@ -22,7 +21,6 @@ row c =
     library-row a.table.now a.copy.now a.l (sym (is-no-library.ensures a.copy.now) ∙ c.if-is_no_library.false)
 
 within : (c : Else-row_word-n) → (let a = c.args in a.l < length a.table.now / 5) →
-   
     let a = c.args in
     a.n < (module_at (modules_in a.table.now a.copy.now) a.l).globals
 within c has-row =
@@ -63,7 +61,8 @@ bounds-memory-a c =
     omega (
       arith,
       globals-start.ensures.0 a.copy.now,
-      global-live P S pre.ready a.l a.n there (within (goal.at.bounds-memory-a c).Else-row_word-n (row (goal.at.bounds-memory-a c).Else-is_no_library)),
+      global-live P S pre.ready a.l a.n there (within (goal.at.bounds-memory-a c).Else-row_word-n (row
+          (goal.at.bounds-memory-a c).Else-is_no_library)),
       (ready-bounds P S pre.ready).within,
     )
 

@@ -1,7 +1,6 @@
 -- `fast_loop::data_step` meets its contract: a step of the short forms, or of the chain behind them.
 use mathlib.Core.Path.{refl}
 use native.Mathlib.Omega.{arith}
-use borrow.Author.Rules.{rules}
 use Rattle.fast_loop.proofs.data_step.Goals as goal
 
 pub short_step-requires : goal.short_step-requires

@@ -1,13 +1,9 @@
 -- `fast_loop::data_steps` meets its contract: each turn is one step more that completed.
-use mathlib.Core.Path.{◌≡◌, ◌∙◌, refl}
-use Prim.Native.Nat.{◌-◌}
+use mathlib.Core.Path.{refl}
 use native.Mathlib.Omega.{arith}
-use lib.ListN.{length}
-use borrow.Author.Tests.{not-true, not-false}
-use borrow.Author.Rules.{rules}
 use Rattle.registers.specs.Modules.{modules_in}
 use Rattle.fast.specs.Fast.{spot, state_at}
-use Rattle.fast_loop.proofs.Stepping.{Reaching, program_in, ahead-start, reaching-start, reaching-same}
+use Rattle.fast_loop.proofs.Stepping.{program_in, ahead-start, reaching-start, reaching-same}
 use Rattle.fast_loop.proofs.Stepping.{reaching-bounded, reaching-next}
 use Rattle.fast_loop.proofs.data_steps.Goals as goal
 

@@ -1,21 +1,16 @@
 -- `fast_loop::data_steps` meets its contract: each turn is one step more that completed.
-use mathlib.Core.Path.{◌≡◌, ◌∙◌, refl}
+use mathlib.Core.Path.{◌≡◌}
 use Prim.Native.Nat.{◌-◌}
-use native.Mathlib.Omega.{arith}
 use lib.ListN.{length}
-use borrow.Author.Tests.{not-true, not-false}
-use borrow.Author.Rules.{rules}
-use Rattle.registers.specs.Modules.{modules_in}
 use Rattle.fast.specs.Fast.{spot, state_at}
-use Rattle.fast_loop.proofs.Stepping.{Reaching, program_in, ahead-start, reaching-start, reaching-same}
-use Rattle.fast_loop.proofs.Stepping.{reaching-bounded, reaching-next}
+use Rattle.fast_loop.proofs.Stepping.{Reaching, program_in}
 use Rattle.fast_loop.proofs.data_steps.Given as goal
 
 abbrev pub invariant-loop-left : goal.invariant-loop-left
 invariant-loop-left l =
     (l.limit ≡ length l.code - 1) × Reaching (program_in l.table l.copy l.code l.attributes)
-    (state_at l.q (spot l.initial.pc l.initial.height l.initial.memory l.initial.stack)) l.budget l.left (state_at l.q (spot l.pc l.height l.memory l.stack))
+    (state_at l.q (spot l.initial.pc l.initial.height l.initial.memory l.initial.stack)) l.budget l.left (state_at l.q
+    (spot l.pc l.height l.memory l.stack))
 
 abbrev pub decreases-loop-left : goal.decreases-loop-left
 decreases-loop-left l = l.left
-

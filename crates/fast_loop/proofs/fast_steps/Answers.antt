@@ -1,9 +1,6 @@
 -- `fast_loop::fast_steps` meets its contract: the inner loop's steps, and then one that changes frames, turn by turn.
-use mathlib.Core.Path.{◌≡◌, ◌∙◌, refl}
+use mathlib.Core.Path.{refl}
 use native.Mathlib.Omega.{arith}
-use borrow.Author.Tests.{not-true, not-false}
-use borrow.Author.Rules.{rules}
-use Rattle.entries.specs.Entries.{entry_count}
 use Rattle.registers.specs.Modules.{modules_in}
 use Rattle.registers.specs.State.{state}
 use Rattle.fast_frames.specs.Frames.{framed}
@@ -75,10 +72,10 @@ data_steps-left-requires c =
       code_len_bound = pre.code_len_bound;
       pc_bound = loop.invariant.1.small;
       ready = inner-ready (program_in a.table.now a.copy.now a.code.now a.attributes)
-            (state a.q a.memory.now a.stack.now) a.budget loop.left loop.pc loop.fp loop.mp
-            a.q.gp loop.height
-            loop.calls loop.memory loop.stack reached-at.result.registers reached-at.ensures.1
-            loop.invariant.1;
+          (state a.q a.memory.now a.stack.now) a.budget loop.left loop.pc loop.fp loop.mp
+          a.q.gp loop.height
+          loop.calls loop.memory loop.stack reached-at.result.registers reached-at.ensures.1
+          loop.invariant.1;
     }
 
 pub reached_at-requires : goal.reached_at-requires
@@ -91,7 +88,8 @@ reached_at-requires c =
     (state a.q a.memory.now a.stack.now) a.budget data-steps.result
     (framed data-steps.new.pc loop.fp loop.mp a.q.gp
     data-steps.new.height loop.calls
-    data-steps.new.memory data-steps.new.stack) (made (goal.at.reached_at-requires c).After-slice_known-in-loop-left-2-1) fits.budget.fits in
+    data-steps.new.memory data-steps.new.stack) (made (goal.at.reached_at-requires c).After-slice_known-in-loop-left-2-1)
+    fits.budget.fits in
     record {
       left_bound = r.0;
       pc_bound = r.1.0;
@@ -105,7 +103,8 @@ reached_at-requires c =
 pub returns-then-left-eq0 : goal.returns-then-left-eq0
 returns-then-left-eq0 c =
     let reached-at2 = c.reached_at in
-    rw (reached-at2.ensures.0, reached-at2.ensures.1) (made (goal.at.returns-then-left-eq0 c).After-slice_known-in-loop-left-2-1).ahead
+    rw (reached-at2.ensures.0, reached-at2.ensures.1) (made (goal.at.returns-then-left-eq0
+    c).After-slice_known-in-loop-left-2-1).ahead
 
 pub frame_step-requires : goal.frame_step-requires
 frame_step-requires c =

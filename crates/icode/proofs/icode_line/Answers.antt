@@ -1,5 +1,4 @@
 -- `icode::icode_line` meets its contract: each case of the answer passes as its number.
-use borrow.Author.Rules.{rules}
 use Rattle.icode.proofs.Values.{refused-code, line_code_lem}
 use Rattle.icode.proofs.icode_line.Goals as goal
 

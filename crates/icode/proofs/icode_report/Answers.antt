@@ -1,7 +1,6 @@
 -- `icode_report` meets its contract: over arrays of zeros the report is the text of the run file, which 32,768 bytes hold.
 use Rattle.report.proofs.OwnMemory.{report-prints}
 use Rattle.report.proofs.Pages.{never-empty}
-use borrow.Author.Rules.{rules}
 use Rattle.icode.proofs.icode_report.Goals as goal
 
 pub returns : goal.returns

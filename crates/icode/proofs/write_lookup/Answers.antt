@@ -1,6 +1,5 @@
 -- `icode::write_lookup` meets its contract: the length of `out`, then the values of each case of the lookup.
 use lib.ListN.{length}
-use borrow.Author.Rules.{rules}
 use borrow.Author.Tests.{lt-ltb, le-ltb}
 use Rattle.icode.specs.Interface.{span_reply}
 use Rattle.icode.proofs.Values.{four-values}

@@ -1,6 +1,5 @@
 -- `check_load_run` meets its contract: each call is its definition, in turn; and the answer is proper by demand 3.
 use native.Mathlib.Omega.{arith}
-use borrow.Author.Rules.{rules}
 use borrow.Author.Tests.{eq-eqb, ne_eqb}
 use Rattle.joined.specs.Joined.{joined_of}
 use Rattle.joined.proofs.JoinedCall.{not-accepted, not-loaded, answered-well}

@@ -2,7 +2,6 @@
 use mathlib.Core.List.{[]}
 use mathlib.Core.Path.{◌≡◌, ◌∙◌, refl, sym}
 use native.Mathlib.Omega.{arith}
-use borrow.Author.Rules.{rules}
 use Rattle.header.specs.Header.{code_of}
 use Rattle.module_set.specs.Members.{single}
 use Rattle.relocation.specs.Relocation.{set_number}

@@ -1,8 +1,6 @@
 -- `machine::run_rows` meets its contract: 24 where the state does not fit its module, else the steps.
 use mathlib.Core.Path.{◌≡◌}
 use native.Mathlib.Omega.{arith}
-use borrow.Author.Tests.{not-true, not-false}
-use borrow.Author.Rules.{rules}
 use Rattle.registers.specs.Modules.{modules_in, module_at}
 use Rattle.registers.specs.Program.{program_at}
 use Rattle.registers.specs.State.{state}

@@ -4,9 +4,7 @@ use mathlib.Core.List.{List, []}
 use mathlib.Core.Path.{◌≡◌, ◌∙◌, sym}
 use Prim.Native.Nat.{ℕ, ◌*◌}
 use native.Mathlib.Omega.{arith}
-use lib.ListN.{length, take, length-take}
-use borrow.Author.Tests.{not-true, not-false}
-use borrow.Author.Rules.{rules}
+use lib.ListN.{take, length-take}
 use Rattle.module_set.specs.Members.{members_of}
 use Rattle.relocation.specs.Relocation.{set_number, copy_of, begins}
 use Rattle.relocation.proofs.Sound.{set_sound}

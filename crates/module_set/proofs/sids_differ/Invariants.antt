@@ -9,7 +9,8 @@ use Rattle.module_set.proofs.sids_differ.Given as goal
 
 abbrev pub invariant-loop-k : goal.invariant-loop-k
 invariant-loop-k l =
-    distinct (sids_in l.directory 1 (length l.directory / 4 - 1)) ≡ distinct (sids_in l.directory l.k (length l.directory / 4 - l.k))
+    distinct (sids_in l.directory 1 (length l.directory / 4 - 1)) ≡ distinct (sids_in l.directory l.k
+    (length l.directory / 4 - l.k))
 
 abbrev pub decreases-loop-k : goal.decreases-loop-k
 decreases-loop-k l = length l.directory / 4 - l.k

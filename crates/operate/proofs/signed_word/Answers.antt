@@ -29,22 +29,35 @@ level : (c : Else-z-lt0) → (to_z w64 (of_z w64 c.args.z) ≡ c.args.z) →
 level c has-same = plain _ (rw (has-same) at c.if-z-lt0.false)
 
 pub returns-then-z-ltminus2147483648 : goal.returns-then-z-ltminus2147483648
-returns-then-z-ltminus2147483648 c = too-low _ (rw (same (goal.at.returns-then-z-ltminus2147483648 c).Start) at c.if-z-ltminus2147483648.true)
+returns-then-z-ltminus2147483648 c = too-low _ (rw (same (goal.at.returns-then-z-ltminus2147483648 c).Start) at
+    c.if-z-ltminus2147483648.true)
 
 pub returns-then-z-gt2147483647 : goal.returns-then-z-gt2147483647
 returns-then-z-gt2147483647 c = too-high _ (rw (same (goal.at.returns-then-z-gt2147483647 c).Start) at c.if-z-gt2147483647.true)
 
 pub overflow_add-result : goal.overflow_add-result
-overflow_add-result c = wide_fits _ (fitted (goal.at.overflow_add-result c).Else-z-gt2147483647 (same (goal.at.overflow_add-result c).Start)) _ (lifted (goal.at.overflow_add-result c).Then-z-lt0 (same (goal.at.overflow_add-result c).Start) (fitted (goal.at.overflow_add-result c).Else-z-gt2147483647 (same (goal.at.overflow_add-result c).Start)))
+overflow_add-result c = wide_fits _ (fitted (goal.at.overflow_add-result c).Else-z-gt2147483647 (same
+    (goal.at.overflow_add-result c).Start)) _ (lifted (goal.at.overflow_add-result c).Then-z-lt0 (same
+    (goal.at.overflow_add-result c).Start) (fitted (goal.at.overflow_add-result c).Else-z-gt2147483647 (same
+    (goal.at.overflow_add-result c).Start)))
 
 pub overflow_cast-result : goal.overflow_cast-result
-overflow_cast-result c = word_fits _ (fitted (goal.at.overflow_cast-result c).Else-z-gt2147483647 (same (goal.at.overflow_cast-result c).Start)) _ (lifted (goal.at.overflow_cast-result c).Then-z-lt0 (same (goal.at.overflow_cast-result c).Start) (fitted (goal.at.overflow_cast-result c).Else-z-gt2147483647 (same (goal.at.overflow_cast-result c).Start)))
+overflow_cast-result c = word_fits _ (fitted (goal.at.overflow_cast-result c).Else-z-gt2147483647 (same
+    (goal.at.overflow_cast-result c).Start)) _ (lifted (goal.at.overflow_cast-result c).Then-z-lt0 (same
+    (goal.at.overflow_cast-result c).Start) (fitted (goal.at.overflow_cast-result c).Else-z-gt2147483647 (same
+    (goal.at.overflow_cast-result c).Start)))
 
 pub returns-then-z-lt0 : goal.returns-then-z-lt0
-returns-then-z-lt0 c = word-is _ (fitted (goal.at.returns-then-z-lt0 c).Else-z-gt2147483647 (same (goal.at.returns-then-z-lt0 c).Start)) _ (lifted (goal.at.returns-then-z-lt0 c).Then-z-lt0 (same (goal.at.returns-then-z-lt0 c).Start) (fitted (goal.at.returns-then-z-lt0 c).Else-z-gt2147483647 (same (goal.at.returns-then-z-lt0 c).Start)))
+returns-then-z-lt0 c = word-is _ (fitted (goal.at.returns-then-z-lt0 c).Else-z-gt2147483647 (same
+    (goal.at.returns-then-z-lt0 c).Start)) _ (lifted (goal.at.returns-then-z-lt0 c).Then-z-lt0 (same
+    (goal.at.returns-then-z-lt0 c).Start) (fitted (goal.at.returns-then-z-lt0 c).Else-z-gt2147483647 (same
+    (goal.at.returns-then-z-lt0 c).Start)))
 
 pub overflow_cast-result-2 : goal.overflow_cast-result-2
-overflow_cast-result-2 c = word_fits _ (fitted (goal.at.overflow_cast-result-2 c).Else-z-gt2147483647 (same (goal.at.overflow_cast-result-2 c).Start)) _ (level (goal.at.overflow_cast-result-2 c).Else-z-lt0 (same (goal.at.overflow_cast-result-2 c).Start))
+overflow_cast-result-2 c = word_fits _ (fitted (goal.at.overflow_cast-result-2 c).Else-z-gt2147483647 (same
+    (goal.at.overflow_cast-result-2 c).Start)) _ (level (goal.at.overflow_cast-result-2 c).Else-z-lt0 (same
+    (goal.at.overflow_cast-result-2 c).Start))
 
 pub returns : goal.returns
-returns c = word-is _ (fitted (goal.at.returns c).Else-z-gt2147483647 (same (goal.at.returns c).Start)) _ (level (goal.at.returns c).Else-z-lt0 (same (goal.at.returns c).Start))
+returns c = word-is _ (fitted (goal.at.returns c).Else-z-gt2147483647 (same (goal.at.returns c).Start)) _ (level
+    (goal.at.returns c).Else-z-lt0 (same (goal.at.returns c).Start))

@@ -23,7 +23,12 @@ parts c =
 
 pub returns-then-not-version_sound : goal.returns-then-not-version_sound
 returns-then-not-version_sound c =
-    rw (parts (goal.at.returns-then-not-version_sound c).After-header_of-h, ← c.header_of-h.ensures, ← c.version_sound.ensures, c.if-not-version_sound.true-raw)
+    rw (
+      parts (goal.at.returns-then-not-version_sound c).After-header_of-h,
+      ← c.header_of-h.ensures,
+      ← c.version_sound.ensures,
+      c.if-not-version_sound.true-raw,
+    )
 
 pub returns-then-not-source_sound : goal.returns-then-not-source_sound
 returns-then-not-source_sound c =
@@ -52,7 +57,14 @@ entries c has-parts =
     )
 
 pub returns-then-not-entries_sound : goal.returns-then-not-entries_sound
-returns-then-not-entries_sound c = rw (entries (goal.at.returns-then-not-entries_sound c).After-entries_sound (parts (goal.at.returns-then-not-entries_sound c).After-header_of-h), c.if-not-entries_sound.true-raw)
+returns-then-not-entries_sound c = rw (
+  entries (goal.at.returns-then-not-entries_sound c).After-entries_sound (parts
+      (goal.at.returns-then-not-entries_sound c).After-header_of-h),
+  c.if-not-entries_sound.true-raw,
+)
 
 pub returns : goal.returns
-returns c = rw (entries (goal.at.returns c).After-entries_sound (parts (goal.at.returns c).After-header_of-h), c.if-not-entries_sound.false-raw)
+returns c = rw (
+  entries (goal.at.returns c).After-entries_sound (parts (goal.at.returns c).After-header_of-h),
+  c.if-not-entries_sound.false-raw,
+)

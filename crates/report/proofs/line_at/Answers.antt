@@ -1,5 +1,4 @@
 -- `line_at` meets its contract: the line of the span, and 0 where there is none.
-use borrow.Author.Rules.{rules}
 use Rattle.source.proofs.SpanLaws.{line-agrees}
 use Rattle.report.proofs.line_at.Goals as goal
 

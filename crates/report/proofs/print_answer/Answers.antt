@@ -1,5 +1,4 @@
 -- `print_answer` meets its contract: a refusal is one line, an end is a page.
-use borrow.Author.Rules.{rules}
 use Rattle.report.proofs.print_answer.Goals as goal
 
 pub returns-in-Refused : goal.returns-in-Refused

@@ -1,5 +1,4 @@
 -- `print_check` meets its contract: the line is measured, then written.
-use borrow.Author.Rules.{rules}
 use Rattle.report.proofs.Printing.{print-short, print-whole}
 use Rattle.text.specs.Text.{check_line}
 use Rattle.report.proofs.print_check.Goals as goal

@@ -1,5 +1,4 @@
 -- `print_ended` meets its contract: the page is measured, then written.
-use borrow.Author.Rules.{rules}
 use Rattle.report.specs.Report.{ended_text}
 use Rattle.report.proofs.Printing.{print-short, print-whole}
 use Rattle.report.proofs.print_ended.Goals as goal

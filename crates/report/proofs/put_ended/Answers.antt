@@ -2,7 +2,6 @@
 use mathlib.Core.Path.{◌≡◌}
 use native.Mathlib.Omega.{arith}
 use lib.ListN.{take, drop}
-use borrow.Author.Rules.{rules}
 use Rattle.text.specs.Text.{Wrote, end_line}
 use Rattle.report.proofs.Pages.{check-ends, end-ends, list-ends, part-short, ended-page}
 use Rattle.report.proofs.put_ended.Goals.{After-part, After-part-2, After-put_end-stack_at}
@@ -35,11 +34,13 @@ put_list-globals_at-requires c =
     let end-number = c.end_number-ending in
     let a = c.args in
     let pre = c.requires in
-    let z = end-ends end-number.result a.e.registers.pc line_at_lem.result a.e.steps (end-told (goal.at.put_list-globals_at-requires c).After-put_end-stack_at)
+    let z = end-ends end-number.result a.e.registers.pc line_at_lem.result a.e.steps (end-told
+    (goal.at.put_list-globals_at-requires c).After-put_end-stack_at)
     (check-ends 0 put-check.ensures) in
     record {
       at_bound = omega arith;
-      xs_len_bound = part-short a.stack.now a.e.registers.height 0 (stack-told (goal.at.put_list-globals_at-requires c).After-part) pre.stack_len_bound;
+      xs_len_bound = part-short a.stack.now a.e.registers.height 0 (stack-told
+          (goal.at.put_list-globals_at-requires c).After-part) pre.stack_len_bound;
     }
 
 pub put_list-requires : goal.put_list-requires
@@ -51,13 +52,15 @@ put_list-requires c =
     let header_of = c.header_of-h in
     let a = c.args in
     let pre = c.requires in
-    let z = end-ends end-number.result a.e.registers.pc line_at_lem.result a.e.steps (end-told (goal.at.put_list-requires c).After-put_end-stack_at)
+    let z = end-ends end-number.result a.e.registers.pc line_at_lem.result a.e.steps (end-told
+    (goal.at.put_list-requires c).After-put_end-stack_at)
     (check-ends 0 put-check.ensures) in
     let y = list-ends 115 c.part.result.now put-list.ensures z
     (part-short a.stack.now a.e.registers.height 0 (stack-told (goal.at.put_list-requires c).After-part) pre.stack_len_bound) in
     record {
       at_bound = y;
-      xs_len_bound = part-short a.memory.now header_of.result.globals 3 (globals-told (goal.at.put_list-requires c).After-part-2) pre.memory_len_bound;
+      xs_len_bound = part-short a.memory.now header_of.result.globals 3 (globals-told
+          (goal.at.put_list-requires c).After-part-2) pre.memory_len_bound;
     }
 
 pub returns : goal.returns
@@ -70,5 +73,6 @@ returns c =
     let header_of = c.header_of-h in
     let a = c.args in
     ended-page a.r.now a.e a.memory.now a.stack.now header_of.ensures end-number.ensures
-    line_at_lem.ensures (stack-told (goal.at.returns c).After-part) (globals-told (goal.at.returns c).After-part-2) put-check.ensures (end-told (goal.at.returns c).After-put_end-stack_at)
+    line_at_lem.ensures (stack-told (goal.at.returns c).After-part) (globals-told
+    (goal.at.returns c).After-part-2) put-check.ensures (end-told (goal.at.returns c).After-put_end-stack_at)
     put-list.ensures put-list2.ensures

@@ -1,9 +1,8 @@
--- `report` meets its contract: a run file is malformed, asks for a stack that load takes, or does not; proofs/Reporting has each case.
+-- `report` meets its contract: a run file is malformed, asks for a stack that load takes,
+-- or does not; proofs/Reporting has each case.
 use Rattle.report.proofs.Reporting.{memory-fits, malformed, shallow, deep}
-use borrow.Author.Tests.{not-true, not-false}
 use mathlib.Core.Path.{◌∙◌, sym}
 use native.Mathlib.Omega.{arith}
-use borrow.Author.Rules.{rules}
 use Rattle.report.proofs.report.Goals as goal
 
 pub returns-then-not-well_formed : goal.returns-then-not-well_formed
@@ -14,7 +13,6 @@ returns-then-not-well_formed c =
     let a = c.args in
     malformed a.f.now a.workspace.now a.memory.now a.stack.now a.out.now
     (sym well-formed.ensures ∙ if1.true) print-check.ensures
-
 
 pub run_page-requires : goal.run_page-requires
 run_page-requires c =
@@ -31,7 +29,6 @@ run_page-requires c =
       stack_len = pre.stack_len;
     }
 
-
 pub returns-then-stack_words-le1024 : goal.returns-then-stack_words-le1024
 returns-then-stack_words-le1024 c =
     let run-page = c.run_page in
@@ -43,7 +40,6 @@ returns-then-stack_words-le1024 c =
     run-page.ensures ∙ shallow a.f.now a.workspace.now a.memory.now a.stack.now a.out.now
     (sym well-formed.ensures ∙ if1.false)
     (omega (arith, stack-words.ensures, if2.true))
-
 
 pub returns : goal.returns
 returns c =

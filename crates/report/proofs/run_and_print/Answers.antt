@@ -1,6 +1,5 @@
 -- `run_and_print` meets its contract: what check, load and run leave is what is printed.
 use Rattle.report.proofs.Reporting.{ran}
-use borrow.Author.Rules.{rules}
 use Rattle.report.proofs.run_and_print.Goals as goal
 
 pub returns : goal.returns

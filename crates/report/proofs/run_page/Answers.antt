@@ -2,7 +2,6 @@
 use Rattle.report.proofs.Reporting.{parameters-read, count_small, widens}
 use lib.ListN.{length-take}
 use native.Mathlib.Omega.{arith}
-use borrow.Author.Rules.{rules}
 use Rattle.report.proofs.run_page.Goals as goal
 
 pub slice_bounds-parameters-end : goal.slice_bounds-parameters-end

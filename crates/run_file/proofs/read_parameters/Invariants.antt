@@ -1,4 +1,5 @@
--- `run_file::read_parameters` meets its contract. The loop's invariant: the parameters keep their count, and up to the place reached
+-- `run_file::read_parameters` meets its contract. The loop's invariant: the parameters keep their count,
+-- and up to the place reached
 -- they are the words of the file. The measure is what is left of them.
 use Prim.Native.Nat.{◌-◌, ◌≤◌}
 use mathlib.Core.Path.{◌≡◌}

@@ -1,4 +1,5 @@
--- `run_file::record_of` meets its contract: the part behind the head, no longer than the file. Both counts are bytes, so its place fits.
+-- `run_file::record_of` meets its contract: the part behind the head, no longer than the file. Both counts are bytes,
+-- so its place fits.
 use Prim.Native.Nat.{◌+◌}
 use mathlib.Core.Path.{◌∙◌}
 use native.Mathlib.Omega.{arith}

@@ -60,7 +60,12 @@ overflow_add-budget_at c =
     omega (arith, byte 5, byte (6 + results_count c.args.f.now))
 
 pub returns-then-f-budget_at : goal.returns-then-f-budget_at
-returns-then-f-budget_at c = rw (three-pass (goal.at.returns-then-f-budget_at c).Else-halfword_at-ne1 (not-long (goal.at.returns-then-f-budget_at c).Else-f-gt8192), ← c.budget_at.ensures, lt-leb _ _ c.if-f-budget_at.true)
+returns-then-f-budget_at c = rw (
+  three-pass (goal.at.returns-then-f-budget_at c).Else-halfword_at-ne1 (not-long
+      (goal.at.returns-then-f-budget_at c).Else-f-gt8192),
+  ← c.budget_at.ensures,
+  lt-leb _ _ c.if-f-budget_at.true,
+)
 
 pub returns : goal.returns
 returns c = rw (

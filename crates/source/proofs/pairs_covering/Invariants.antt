@@ -8,7 +8,8 @@ use Rattle.source.proofs.pairs_covering.Given as goal
 abbrev pub invariant-loop-k : goal.invariant-loop-k
 invariant-loop-k l =
     (l.k ≤ l.pairs) × (l.at ≡ l.initial.at + 8 * l.k)
-    × (covering l.offset (offsets_from l.r l.initial.at l.pairs) ≡ l.k + covering l.offset (offsets_from l.r l.at (l.pairs - l.k)))
+    × (covering l.offset (offsets_from l.r l.initial.at l.pairs) ≡ l.k + covering l.offset (offsets_from l.r l.at
+    (l.pairs - l.k)))
 
 abbrev pub decreases-loop-k : goal.decreases-loop-k
 decreases-loop-k l = l.pairs - l.k

@@ -9,7 +9,8 @@ use Rattle.source.proofs.source_sound.Given as goal
 abbrev pub invariant-loop : goal.invariant-loop
 invariant-loop l =
     (l.at ≡ l.initial.at + 8 * l.counter)
-    × (rising_from l.code 0 (offsets_from l.r l.initial.at l.pairs) ≡ rising_from l.code l.least (offsets_from l.r l.at (l.pairs - l.counter)))
+    × (rising_from l.code 0 (offsets_from l.r l.initial.at l.pairs) ≡ rising_from l.code l.least (offsets_from l.r l.at
+    (l.pairs - l.counter)))
 
 abbrev pub decreases-loop : goal.decreases-loop
 decreases-loop l = l.pairs - l.counter

@@ -1,4 +1,5 @@
--- `state::links_based` meets its contract: the walk goes down the chain of frames until one is not so. The measure is what is left of the
+-- `state::links_based` meets its contract: the walk goes down the chain of frames until one is not so. The measure is what is
+-- left of the
 -- calls.
 use Prim.Native.Nat.{◌-◌}
 use Rattle.state.proofs.Chains.{Looking}

@@ -13,8 +13,14 @@ pub loop-i-preserved : goal.loop-i-preserved
 loop-i-preserved c =
     let set-byte = c.set_byte in
     let loop = c.loop-i in
-    let a = c.args in
-    (refl, omega (arith, loop.invariant.0), left-next loop.invariant.2 (drop-one a.s.now loop.i (omega (arith, loop.invariant.0))) (wrote_one set-byte.ensures (omega arith)))
+    let a = c.args in (
+      refl,
+      omega (arith, loop.invariant.0),
+      left-next loop.invariant.2 (drop-one a.s.now loop.i (omega (
+        arith,
+        loop.invariant.0,
+      ))) (wrote_one set-byte.ensures (omega arith)),
+    )
 
 pub returns : goal.returns
 returns c =

@@ -32,8 +32,11 @@ loop-i-preserved c =
     let loop-test = c.loop-i-test in
     let loop = c.loop-i in
     let width_of_lem = c.width_of-digits in
-    let a = c.args in
-    (omega arith, left-next loop.invariant.1 (digits-one width_of_lem.result loop.i a.n loop-test.true) (wrote_one (rw (← power-of-ten.ensures) set-byte.ensures) (omega arith)))
+    let a = c.args in (
+      omega arith,
+      left-next loop.invariant.1 (digits-one width_of_lem.result loop.i a.n loop-test.true) (wrote_one (rw
+          (← power-of-ten.ensures) set-byte.ensures) (omega arith)),
+    )
 
 pub returns : goal.returns
 unfolding decimal

@@ -24,8 +24,21 @@ loop-i-preserved c =
     let put-number = c.put_number-place in
     let put-bytes = c.put_bytes-place in
     let loop = c.loop-i in
-    let a = c.args in
-    (refl, omega (arith, loop.invariant.0), omega (arith, loop.invariant.2, put-bytes.ensures.ends, put-number.ensures.ends, decimal-short (get_or a.xs.now loop.i 0)), left-next (left-next loop.invariant.3 (words-one a.xs.now loop.i (omega (arith, loop.invariant.0))) put-bytes.ensures) refl put-number.ensures)
+    let a = c.args in (
+      refl,
+      omega (arith, loop.invariant.0),
+      omega (
+        arith,
+        loop.invariant.2,
+        put-bytes.ensures.ends,
+        put-number.ensures.ends,
+        decimal-short (get_or a.xs.now loop.i 0),
+      ),
+      left-next (left-next loop.invariant.3 (words-one a.xs.now loop.i (omega (
+        arith,
+        loop.invariant.0,
+      ))) put-bytes.ensures) refl put-number.ensures,
+    )
 
 pub returns : goal.returns
 returns c =

@@ -59,11 +59,17 @@ two-sound c tens =
     )
 
 pub returns-then-byte_at-ne47 : goal.returns-then-byte_at-ne47
-returns-then-byte_at-ne47 c = rw (two-sound (goal.at.returns-then-byte_at-ne47 c).Else-not-within-2 (tens-sound (goal.at.returns-then-byte_at-ne47 c).Joined-else-tens-ne32), ← c.byte_at-2.ensures, ne_eqb _ 47 c.if-byte_at-ne47.true)
+returns-then-byte_at-ne47 c = rw (
+  two-sound (goal.at.returns-then-byte_at-ne47 c).Else-not-within-2 (tens-sound
+      (goal.at.returns-then-byte_at-ne47 c).Joined-else-tens-ne32),
+  ← c.byte_at-2.ensures,
+  ne_eqb _ 47 c.if-byte_at-ne47.true,
+)
 
 pub returns-then-revision-eq45 : goal.returns-then-revision-eq45
 returns-then-revision-eq45 c = rw (
-  two-sound (goal.at.returns-then-revision-eq45 c).Else-not-within-2 (tens-sound (goal.at.returns-then-revision-eq45 c).Joined-else-tens-ne32),
+  two-sound (goal.at.returns-then-revision-eq45 c).Else-not-within-2 (tens-sound
+      (goal.at.returns-then-revision-eq45 c).Joined-else-tens-ne32),
   ← c.byte_at-2.ensures,
   eq-eqb _ 47 c.if-byte_at-ne47.false,
   ← c.byte_at-revision.ensures,

@@ -1,4 +1,5 @@
--- `effect::data::load_effect` meets its contract: 23 where there is no such library, 32 where the words are not live, else they are read.
+-- `effect::data::load_effect` meets its contract: 23 where there is no such library, 32 where the words are not live,
+-- else they are read.
 use native.Mathlib.Omega.{arith}
 use Prim.Native.Nat.{◌+◌}
 use mathlib.Core.Path.{◌≡◌}

@@ -1,6 +1,5 @@
 -- `fast_data::long::address_step` meets its contract: each arm is its part's step.
 use mathlib.Core.Path.{◌∙◌, sym}
-use borrow.Author.Rules.{rules}
 use Rattle.fast_data.proofs.long.address_step.Goals as goal
 
 pub byte_address-requires : goal.byte_address-requires

@@ -1,7 +1,6 @@
 -- `fast_data::long::byte_address` meets its contract: each arm is its instruction's step.
 use mathlib.Core.Path.{◌∙◌, refl, sym}
 use Prim.Native.Nat.{◌+◌}
-use borrow.Author.Rules.{rules}
 use Rattle.opcode.specs.Table.{normal, row_of}
 use Rattle.opcode.specs.declared.instruction.Mode.TheVariants.{Normal}
 use Rattle.state.proofs.Fitting.{fitting}

@@ -2,7 +2,6 @@
 use mathlib.Core.Path.{◌∙◌, refl, sym}
 use native.Mathlib.Omega.{arith}
 use Prim.Native.Nat.{◌+◌}
-use borrow.Author.Rules.{rules}
 use Rattle.operand.specs.Operand.{signed, b as byte}
 use Rattle.opcode.specs.Table.{normal, both, row_of}
 use Rattle.opcode.specs.declared.instruction.Mode.TheVariants.{Normal}

@@ -1,7 +1,6 @@
 -- `fast_data::long::byte_store` meets its contract: each arm is its instruction's step.
 use mathlib.Core.Path.{◌∙◌, refl, sym}
 use Prim.Native.Nat.{◌+◌}
-use borrow.Author.Rules.{rules}
 use Rattle.opcode.specs.Table.{normal, both, row_of}
 use Rattle.opcode.specs.declared.instruction.Mode.TheVariants.{Normal}
 use Rattle.state.proofs.Fitting.{fitting}

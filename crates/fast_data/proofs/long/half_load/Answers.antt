@@ -2,7 +2,6 @@
 use mathlib.Core.Path.{◌∙◌, refl, sym}
 use native.Mathlib.Omega.{arith}
 use Prim.Native.Nat.{◌+◌}
-use borrow.Author.Rules.{rules}
 use Rattle.words.specs.Bytes.{halfword_at}
 use Rattle.operand.specs.Operand.{signed, h as half}
 use Rattle.opcode.specs.Table.{normal, both, row_of}

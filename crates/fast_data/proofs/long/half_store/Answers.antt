@@ -1,7 +1,6 @@
 -- `fast_data::long::half_store` meets its contract: its operand is a halfword.
 use mathlib.Core.Path.{refl}
 use Prim.Native.Nat.{◌+◌}
-use borrow.Author.Rules.{rules}
 use Rattle.words.specs.Bytes.{halfword_at}
 use Rattle.opcode.specs.Table.{both, row_of}
 use Rattle.opcode.specs.declared.instruction.Mode.TheVariants.{Normal}

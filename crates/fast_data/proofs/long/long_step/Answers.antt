@@ -1,6 +1,5 @@
 -- `fast_data::long::long_step` meets its contract: each arm is its part's step.
 use mathlib.Core.Path.{◌∙◌, sym}
-use borrow.Author.Rules.{rules}
 use Rattle.fast_data.proofs.long.long_step.Goals as goal
 
 pub byte_load-requires : goal.byte_load-requires

@@ -2,7 +2,6 @@
 use mathlib.Core.Path.{refl}
 use native.Mathlib.Omega.{arith}
 use Prim.Native.Nat.{◌+◌}
-use borrow.Author.Rules.{rules}
 use Rattle.operand.specs.Operand.{none}
 use Rattle.opcode.specs.Table.{normal, row_of}
 use Rattle.opcode.specs.declared.instruction.Mode.TheVariants.{Normal}

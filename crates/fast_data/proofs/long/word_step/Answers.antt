@@ -2,7 +2,6 @@
 use mathlib.Core.Path.{◌≡◌, refl}
 use native.Mathlib.Omega.{arith}
 use Prim.Native.Nat.{◌+◌}
-use borrow.Author.Rules.{rules}
 use Rattle.words.specs.Bytes.{halfword_at, word_at}
 use Rattle.operand.specs.Operand.{signed, w as word}
 use Rattle.operand.proofs.Extend.{extended-word}

@@ -2,7 +2,6 @@
 use mathlib.Core.Path.{refl}
 use native.Mathlib.Omega.{arith}
 use Prim.Native.Nat.{◌+◌, ◌%◌}
-use borrow.Author.Rules.{rules}
 use Rattle.opcode.specs.Table.{normal, both}
 use Rattle.opcode.specs.declared.instruction.Mode.TheVariants.{Normal}
 use Rattle.state.proofs.Fitting.{fitting}

@@ -1,6 +1,5 @@
 -- `icode_bench_load` meets its contract: the state's length, then what load answers.
 use mathlib.Core.List.{[]}
-use borrow.Author.Rules.{rules}
 use Rattle.header.specs.Header.{code_of}
 use Rattle.module_set.specs.Members.{single}
 use Rattle.icode.proofs.Benching.{load-misfit, load-parts, load_told}

@@ -1,7 +1,6 @@
 -- `number_or` meets its contract: the record's number, or the other one.
 use mathlib.Core.List.{[]}
 use borrow.Author.Tests.{ne_eqb}
-use borrow.Author.Rules.{rules}
 use Rattle.icode.proofs.bench.number_or.Goals as goal
 
 pub returns-then-number-ne0 : goal.returns-then-number-ne0

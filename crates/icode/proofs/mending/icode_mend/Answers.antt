@@ -5,7 +5,6 @@ use mathlib.Core.Path.{◌≡◌, ◌∙◌, sym}
 use native.Mathlib.Omega.{arith}
 use lib.ListN.{length}
 use lib.Seq.{sets-eq}
-use borrow.Author.Rules.{rules}
 use borrow.Author.Tests.{eq-eqb, ne_eqb, le-ltb, lt-ltb}
 use Rattle.record.specs.Number.{size_number}
 use Rattle.mend.specs.Mend.{mending, mend_of}
@@ -47,24 +46,26 @@ few c =
     let answer = rw c.in-Mended.is at c.mend-answer.ensures in
     few-written a.bytes.now a.out.now a.places.now none answer
 
-
 pub overflow_cast-counts : goal.overflow_cast-counts
 overflow_cast-counts c = omega (arith, (few (goal.at.overflow_cast-counts c).In-Mended).0)
 
-
 pub returns-in-Refused : goal.returns-in-Refused
 returns-in-Refused c =
-    rw (replied (goal.at.returns-in-Refused c).After-mend-answer c.mend-answer.new.out c.mend-answer.new.places c.mend-answer.ensures, c.in-Refused.is)
-
+    rw (
+      replied (goal.at.returns-in-Refused c).After-mend-answer c.mend-answer.new.out c.mend-answer.new.places
+          c.mend-answer.ensures,
+      c.in-Refused.is,
+    )
 
 pub returns-in-Mended : goal.returns-in-Mended
 returns-in-Mended c =
     let counts = c.args.counts.now in
     rw (
-      replied (goal.at.returns-in-Mended c).After-mend-answer c.mend-answer.new.out c.mend-answer.new.places c.mend-answer.ensures,
+      replied (goal.at.returns-in-Mended c).After-mend-answer c.mend-answer.new.out c.mend-answer.new.places
+          c.mend-answer.ensures,
       c.in-Mended.is,
       sets-eq (c.in-Mended.length ∷ c.in-Mended.dropped ∷ []) counts 0 c.if-counts-lt2.false,
     )
+
 pub overflow_cast-counts-in-Mended : goal.overflow_cast-counts-in-Mended
 overflow_cast-counts-in-Mended c = omega (arith, (few (goal.at.overflow_cast-counts-in-Mended c).In-Mended).1)
-

@@ -3,7 +3,6 @@ use mathlib.Core.Path.{refl}
 use lib.Dec.{leb}
 use lib.ListN.{length}
 use borrow.Author.Tests.{le-leb, lt-leb}
-use borrow.Author.Rules.{rules}
 use Rattle.module_set.specs.Members.{members_of}
 use Rattle.icode.proofs.Benching.{run-misfit, run-untaken, run-replied}
 use Rattle.icode.proofs.set.bench_set_run.Goals as goal

@@ -1,5 +1,4 @@
 -- `icode_bench_set_load` meets its contract: the state's length, then what load answers.
-use borrow.Author.Rules.{rules}
 use Rattle.module_set.specs.Members.{members_of}
 use Rattle.icode.proofs.Benching.{load-misfit, load-replied}
 use Rattle.icode.proofs.set.icode_bench_set_load.Goals as goal

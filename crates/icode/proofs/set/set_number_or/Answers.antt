@@ -1,6 +1,5 @@
 -- `set_number_or` meets its contract: the set's number, or the other one.
 use borrow.Author.Tests.{ne_eqb}
-use borrow.Author.Rules.{rules}
 use Rattle.icode.proofs.set.set_number_or.Goals as goal
 
 pub returns-then-number-ne0 : goal.returns-then-number-ne0

@@ -1,5 +1,4 @@
 -- `icode::state_words::read_state` meets its contract, word by word.
-use borrow.Author.Rules.{rules}
 use Rattle.registers.specs.State.{registers_in}
 use Rattle.icode.proofs.state_words.read_state.Goals as goal
 

@@ -1,6 +1,5 @@
 -- `icode::state_words::write_set_outcome` meets its contract: one word more, behind the three.
 use native.Mathlib.Omega.{arith}
-use borrow.Author.Rules.{rules}
 use Rattle.run.specs.Run.{outcome_words}
 use Rattle.icode.proofs.Benching.{laid_more}
 use Rattle.icode.proofs.state_words.write_set_outcome.Goals as goal

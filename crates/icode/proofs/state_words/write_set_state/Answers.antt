@@ -1,6 +1,5 @@
 -- `icode::state_words::write_set_state` meets its contract: one word more, behind the six.
 use native.Mathlib.Omega.{arith}
-use borrow.Author.Rules.{rules}
 use Rattle.registers.specs.State.{state_words}
 use Rattle.icode.proofs.Benching.{laid_more}
 use Rattle.icode.proofs.state_words.write_set_state.Goals as goal

@@ -2,7 +2,6 @@
 use native.Mathlib.Omega.{arith}
 use lib.ListN.{length-set}
 use lib.Seq.{sets-eq}
-use borrow.Author.Rules.{rules}
 use Rattle.registers.specs.State.{state_words}
 use Rattle.icode.proofs.state_words.write_state.Goals as goal
 

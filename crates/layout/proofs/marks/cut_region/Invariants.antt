@@ -1,4 +1,5 @@
--- `marks::cut_region` meets its contract: each turn marks one instruction, and what is left decides. The measure is the turns left.
+-- `marks::cut_region` meets its contract: each turn marks one instruction,
+-- and what is left decides. The measure is the turns left.
 use Prim.Native.Nat.{◌-◌}
 use lib.ListN.{length}
 use Rattle.layout.proofs.Turns.{Region}

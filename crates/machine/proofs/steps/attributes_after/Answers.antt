@@ -1,10 +1,7 @@
 -- `machine::steps::attributes_after` meets its contract: GP stayed, or they are those of the module's row.
-use mathlib.Core.Path.{◌≡◌, ◌∙◌}
 use Prim.Native.Nat.{◌<◌, ◌/◌}
 use native.Mathlib.Omega.{arith}
 use lib.ListN.{length}
-use borrow.Author.Rules.{rules}
-use Rattle.registers.specs.Modules.{modules_in}
 use Rattle.machine.proofs.Anew.{row_below, row-constants, attributes-anew}
 use Rattle.machine.proofs.steps.attributes_after.Goals.{Else-gp-was}
 use Rattle.machine.proofs.steps.attributes_after.Goals as goal

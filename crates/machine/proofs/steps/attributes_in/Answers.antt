@@ -1,6 +1,5 @@
 -- `machine::steps::attributes_in` meets its contract: those of the module whose globals GP points at.
 use native.Mathlib.Omega.{arith}
-use borrow.Author.Rules.{rules}
 use Rattle.registers.specs.Modules.{modules_in}
 use Rattle.registers.proofs.Rows.{modules-length, frames-same}
 use Rattle.registers.proofs.Bases.{base-below}

@@ -1,10 +1,7 @@
 -- `machine::steps::code_after` meets its contract: GP stayed, or the code is the part of the copy that the module's row names.
-use mathlib.Core.Path.{◌≡◌, ◌∙◌}
 use Prim.Native.Nat.{◌<◌, ◌/◌}
 use native.Mathlib.Omega.{arith}
 use lib.ListN.{length}
-use borrow.Author.Rules.{rules}
-use Rattle.registers.specs.Modules.{modules_in}
 use Rattle.registers.proofs.Rows.{module-row}
 use Rattle.machine.proofs.Anew.{row_below}
 use Rattle.machine.proofs.steps.code_after.Goals.{Else-gp-was}

@@ -1,9 +1,7 @@
 -- `machine::steps::code_in` meets its contract: the part of the copy that the module's row names.
-use mathlib.Core.Path.{◌≡◌, ◌∙◌}
 use Prim.Native.Nat.{◌<◌, ◌/◌}
 use native.Mathlib.Omega.{arith}
 use lib.ListN.{length}
-use borrow.Author.Rules.{rules}
 use Rattle.registers.specs.Modules.{modules_in}
 use Rattle.registers.proofs.Rows.{module-row, modules-length}
 use Rattle.registers.proofs.Bases.{base-below}

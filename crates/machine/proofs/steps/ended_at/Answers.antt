@@ -1,7 +1,6 @@
 -- `machine::steps::ended_at` meets its contract: the module whose globals GP points at.
 use native.Mathlib.Omega.{arith}
 use mathlib.Core.List.{[]}
-use borrow.Author.Rules.{rules}
 use Rattle.registers.specs.Modules.{modules_in}
 use Rattle.registers.proofs.Rows.{modules-length}
 use Rattle.registers.proofs.Bases.{number-most}

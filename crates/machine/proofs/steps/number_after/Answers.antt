@@ -1,5 +1,4 @@
 -- `machine::steps::number_after` meets its contract: it is looked up where GP has changed.
-use borrow.Author.Rules.{rules}
 use Rattle.machine.proofs.steps.number_after.Goals as goal
 
 pub returns-then-gp-was : goal.returns-then-gp-was

@@ -1,14 +1,12 @@
 -- `machine::steps::run_on` meets its contract: each turn unrolls the run by a step, and by what was done at once after it.
-use mathlib.Core.Path.{◌≡◌, ◌∙◌, refl, sym, subst}
-use Prim.Native.Nat.{◌-◌}
+use mathlib.Core.Path.{◌∙◌, refl}
 use native.Mathlib.Omega.{arith}
-use borrow.Author.Rules.{rules}
 use Rattle.registers.specs.Modules.{modules_in}
 use Rattle.registers.specs.Program.{running}
 use Rattle.registers.specs.State.{state}
 use Rattle.step.specs.Step.{left}
 use Rattle.step.proofs.Running.{ready-bounds}
-use Rattle.machine.proofs.Unrolling.{running-start, Turning, turning-ready, turning-short, turning-frames}
+use Rattle.machine.proofs.Unrolling.{running-start, turning-ready, turning-short, turning-frames}
 use Rattle.machine.proofs.Unrolling.{spent, finished, trapped, still-ready, went, taken-anew, turned}
 use Rattle.machine.proofs.steps.run_on.Goals as goal
 

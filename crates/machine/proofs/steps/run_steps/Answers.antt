@@ -1,7 +1,6 @@
 -- `machine::steps::run_steps` meets its contract: what is done at once is steps of the run, and the rest goes on from there.
 use mathlib.Core.Path.{◌∙◌}
 use native.Mathlib.Omega.{arith}
-use borrow.Author.Rules.{rules}
 use Rattle.registers.specs.Modules.{modules_in}
 use Rattle.registers.specs.Program.{running}
 use Rattle.registers.specs.State.{state}

@@ -2,7 +2,6 @@
 -- makes it.
 use mathlib.Core.Path.{◌≡◌, ◌∙◌, sym, ap, subst}
 use mathlib.Core.Bool.{true}
-use borrow.Author.Rules.{rules}
 use Rattle.registers.specs.Modules.{modules_in}
 use Rattle.registers.specs.Program.{program}
 use Rattle.registers.specs.State.{State, state}

@@ -102,4 +102,8 @@ pub returns-in-159 : goal.returns-in-159
 returns-in-159 c = rw (← c.byte_at-opcode.ensures, c.in-159.is)
 
 pub returns-in_default : goal.returns-in_default
-returns-in_default c = rw (← c.byte_at-opcode.ensures, find-rest data_table [] c.byte_at-opcode.result c.in_default.in_default-own.rest)
+returns-in_default c = rw (
+  ← c.byte_at-opcode.ensures,
+  find-rest data_table [] c.byte_at-opcode.result
+      c.in_default.in_default-own.rest,
+)

@@ -95,4 +95,8 @@ pub returns-in-217 : goal.returns-in-217
 returns-in-217 c = rw (← c.byte_at-opcode.ensures, c.in-217.is)
 
 pub returns-in_default : goal.returns-in_default
-returns-in_default c = rw (← c.byte_at-opcode.ensures, find-rest operation_table [] c.byte_at-opcode.result c.in_default.in_default-own.rest)
+returns-in_default c = rw (
+  ← c.byte_at-opcode.ensures,
+  find-rest operation_table [] c.byte_at-opcode.result
+      c.in_default.in_default-own.rest,
+)

@@ -32,20 +32,33 @@ unfolding length_at
 returns-then-format-lt32768 c =
     let a = c.args in
     rw (
-      not-prefix (byte_at a.code.now a.at) _ (found (goal.at.returns-then-format-lt32768 c).After-format_of-format) c.if-format-lt32768.true,
+      not-prefix (byte_at a.code.now a.at) _ (found (goal.at.returns-then-format-lt32768 c).After-format_of-format)
+          c.if-format-lt32768.true,
       c.normal_length.ensures,
     )
 
 pub overflow_add-at : goal.overflow_add-at
 overflow_add-at c =
     let a = c.args in
-    omega (arith, byte-present a.code.now a.at (λ e. omega (arith, prefixed (goal.at.overflow_add-at c).Else-format-lt32768 (found (goal.at.overflow_add-at c).After-format_of-format))))
+    omega (
+      arith,
+      byte-present a.code.now a.at (λ e. omega (
+        arith,
+        prefixed (goal.at.overflow_add-at c).Else-format-lt32768
+            (found (goal.at.overflow_add-at c).After-format_of-format),
+      )),
+    )
 
 pub returns-then-length-eq0 : goal.returns-then-length-eq0
 unfolding length_at
 returns-then-length-eq0 c =
     let length-in = c.length_in-length in
-    rw (prefixed (goal.at.returns-then-length-eq0 c).Else-format-lt32768 (found (goal.at.returns-then-length-eq0 c).After-format_of-format), ← length-in.ensures, eq-eqb length-in.result 0 c.if-length-eq0.true)
+    rw (
+      prefixed (goal.at.returns-then-length-eq0 c).Else-format-lt32768 (found
+          (goal.at.returns-then-length-eq0 c).After-format_of-format),
+      ← length-in.ensures,
+      eq-eqb length-in.result 0 c.if-length-eq0.true,
+    )
 
 pub overflow_add-result : goal.overflow_add-result
 overflow_add-result c =
@@ -56,4 +69,8 @@ pub returns : goal.returns
 unfolding length_at
 returns c =
     let length-in = c.length_in-length in
-    rw (prefixed (goal.at.returns c).Else-format-lt32768 (found (goal.at.returns c).After-format_of-format), ← length-in.ensures, ne_eqb length-in.result 0 c.if-length-eq0.false)
+    rw (
+      prefixed (goal.at.returns c).Else-format-lt32768 (found (goal.at.returns c).After-format_of-format),
+      ← length-in.ensures,
+      ne_eqb length-in.result 0 c.if-length-eq0.false,
+    )

@@ -16,10 +16,12 @@ pub normal_length-requires : goal.normal_length-requires
 normal_length-requires c = found (goal.at.normal_length-requires c).After-format_of-format
 
 pub returns-then-format-eq0 : goal.returns-then-format-eq0
-returns-then-format-eq0 c = rw c.in-Double.is (sym (length_none _ _ _ (found (goal.at.returns-then-format-eq0 c).After-format_of-format) c.if-format-eq0.true))
+returns-then-format-eq0 c = rw c.in-Double.is (sym (length_none _ _ _ (found
+    (goal.at.returns-then-format-eq0 c).After-format_of-format) c.if-format-eq0.true))
 
 pub returns-in-Normal : goal.returns-in-Normal
 returns-in-Normal c = rw c.in-Normal.is c.normal_length.ensures
 
 pub returns-else-format-eq0 : goal.returns-else-format-eq0
-returns-else-format-eq0 c = rw c.in-Double.is (sym (double-some _ _ _ (found (goal.at.returns-else-format-eq0 c).After-format_of-format) c.if-format-eq0.false))
+returns-else-format-eq0 c = rw c.in-Double.is (sym (double-some _ _ _ (found
+    (goal.at.returns-else-format-eq0 c).After-format_of-format) c.if-format-eq0.false))

@@ -45,7 +45,8 @@ returns-then-divisor-lt0 c = let d : After-signed = (goal.at.returns-then-diviso
     (rest-same (first d) (second d) (c.if-rest-lt0.true ∙ sym c.if-divisor-lt0.true))
 
 pub overflow_add-rest : goal.overflow_add-rest
-overflow_add-rest c = sum_fits (first (goal.at.overflow_add-rest c).After-signed) (second (goal.at.overflow_add-rest c).After-signed)
+overflow_add-rest c = sum_fits (first (goal.at.overflow_add-rest c).After-signed) (second
+    (goal.at.overflow_add-rest c).After-signed)
 
 pub returns-then-rest-lt0 : goal.returns-then-rest-lt0
 returns-then-rest-lt0 c = let d : After-signed = (goal.at.returns-then-rest-lt0 c).After-signed in
@@ -54,7 +55,8 @@ returns-then-rest-lt0 c = let d : After-signed = (goal.at.returns-then-rest-lt0 
     (c.if-rest-lt0.true ∙ sym (ap not c.if-divisor-lt0.false)))
 
 pub overflow_add-rest-then-divisor-lt0-2 : goal.overflow_add-rest-then-divisor-lt0-2
-overflow_add-rest-then-divisor-lt0-2 c = sum_fits (first (goal.at.overflow_add-rest-then-divisor-lt0-2 c).After-signed) (second (goal.at.overflow_add-rest-then-divisor-lt0-2 c).After-signed)
+overflow_add-rest-then-divisor-lt0-2 c = sum_fits (first (goal.at.overflow_add-rest-then-divisor-lt0-2 c).After-signed)
+    (second (goal.at.overflow_add-rest-then-divisor-lt0-2 c).After-signed)
 
 pub returns-then-divisor-lt0-2 : goal.returns-then-divisor-lt0-2
 returns-then-divisor-lt0-2 c = let d : After-signed = (goal.at.returns-then-divisor-lt0-2 c).After-signed in
