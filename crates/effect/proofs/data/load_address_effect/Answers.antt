@@ -3,6 +3,7 @@ use borrow.Author.Tests.{lt-ltb, le-ltb}
 use Prim.Native.Nat.{◌+◌, ◌≤◌}
 use native.Mathlib.Omega.{arith}
 use Rattle.effect.specs.Data.{load_address_effect}
+use Rattle.effect.proofs.data.load_address_effect.Goals.{Else-a-lt4294967296}
 use Rattle.effect.proofs.data.load_address_effect.Goals as goal
 
 pub returns-then-is_no_base : goal.returns-then-is_no_base
@@ -32,17 +33,25 @@ returns-then-a-lt4294967296 c =
       popped-words.ensures,
     )
 
+abbrev Large : Else-a-lt4294967296 → Type 0
+Large c = 0x1_0000_0000 ≤ c.base_of.result + c.args.offset
+
 -- The sum is no word, and the trap is then 31.
-pub returns : goal.returns
+large : (c : Else-a-lt4294967296) → Large c
+large c = omega (arith, c.if-a-lt4294967296.false)
+
+large-is-31 : ((c : Else-a-lt4294967296) → Large c) → goal.returns
 unfolding load_address_effect
-returns c =
+large-is-31 past c =
     let base-of = c.base_of in
     let is-no-base = c.is_no_base in
     let a = c.args in
-    let past : 0x1_0000_0000 ≤ base-of.result + a.offset = omega (arith, c.if-a-lt4294967296.false) in
     λ copy. rw (
       ← is-no-base.ensures copy,
       c.if-is_no_base.false,
       ← base-of.ensures.0 copy,
-      le-ltb (base-of.result + a.offset) 0x1_0000_0000 past,
+      le-ltb (base-of.result + a.offset) 0x1_0000_0000 (past (goal.at.returns c).Else-a-lt4294967296),
     )
+
+pub returns : goal.returns
+returns = large-is-31 large

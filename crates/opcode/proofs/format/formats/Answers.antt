@@ -10,6 +10,8 @@ use borrow.Author.Rules.{rules}
 use Rattle.opcode.specs.Table.{row_of}
 use Rattle.opcode.specs.Sheet.{Sheet, sheet_of}
 use Rattle.opcode.proofs.Entries.{right, sheet}
+use Rattle.opcode.proofs.format.formats.Reads as reads
+use Rattle.opcode.proofs.format.formats.Lts as lts
 use Rattle.opcode.proofs.format.formats.Goals as goal
 
 joined : (n first : ℕ) (t : List ℕ) → right first (take n t) ≡ true → right (first + n) (drop n t) ≡ true → right first t ≡ true
@@ -24,6 +26,15 @@ whole : (t : List ℕ) → length t ≡ 256 → right 0 (take 0xA0 t) ≡ true �
 whole t size e f = sheet t size (joined 0xA0 0 t e f)
 
 -- Both are searched for, since the search says of a wrong table that it finds no proof.
-pub returns : goal.returns
+below-A0 : lts.Need-returns reads.Pre (λ κs a t ended. right 0 (take 0xA0 t) ≡ true)
 unfolding sheet_of row_of
-returns c = whole _ refl (search rules) (search rules)
+below-A0 c = search rules
+
+from-A0 : lts.Need-returns reads.Pre (λ κs a t ended. right 0xA0 (drop 0xA0 t) ≡ true)
+unfolding sheet_of row_of
+from-A0 c = search rules
+
+pub returns : goal.returns
+returns c =
+    whole _ refl (below-A0 record { args = record {}; well_formed = c.well_formed; requires = c.requires })
+    (from-A0 record { args = record {}; well_formed = c.well_formed; requires = c.requires })
