@@ -462,12 +462,13 @@ READ = "tests/edits.read"
 
 
 def sum_of(batch, root=ROOT):
-    """A sum of what the reading of a batch rests on: the kit, the crate's own files and the batch. What the crates below promise is left out."""
-    folder = root / "crates" / batch.crate
-    files = sorted(path for part in edit_checks.PARTS for path in (folder / part).rglob("*") if path.is_file())
+    """A sum of what the reading of a batch rests on: the kit, the crate's own files, code and definitions of the crates below, the batch."""
     found = hashlib.sha256((edit_checks.kit() / "KIT-ID").read_bytes())
-    for path in [*files, folder / "must-fail" / f"{batch.label}.edit"]:
-        found.update(repr((path.relative_to(folder).as_posix(), path.read_bytes())).encode())
+    parts = [(batch.crate, part) for part in edit_checks.PARTS]
+    parts += [(name, part) for name in sorted(edit_checks.below(batch.crate, edit_checks.listed(root))) for part in ("src", "specs")]
+    files = [path for crate, part in parts for path in sorted((root / "crates" / crate / part).rglob("*")) if path.is_file()]
+    for path in [*files, root / "crates" / batch.crate / "must-fail" / f"{batch.label}.edit"]:
+        found.update(repr((path.relative_to(root).as_posix(), path.read_bytes())).encode())
     return found.hexdigest()[:32]
 
 

@@ -77,6 +77,7 @@ def repository(folder, **changed):
         path = Path(folder, place)
         path.parent.mkdir(parents=True, exist_ok=True)
         path.write_text(text)
+    Path(folder, "crates.txt").write_text("one:\n")
     return Path(folder)
 
 
@@ -257,6 +258,16 @@ class After(unittest.TestCase):
             self.assertEqual(edits.sum_of(two, root), before[1])
             (root / "crates/one/specs/Order.antt").write_text(SPECS + "\n")
             self.assertNotEqual(edits.sum_of(two, root), before[1])
+
+    def test_batch_over_a_crate_that_changed(self):
+        with tempfile.TemporaryDirectory() as folder:
+            root = repository(folder)
+            one, *_ = edits.batches(root)
+            (root / "crates.txt").write_text("one: below\nbelow:\n")
+            (root / "crates/below/src").mkdir(parents=True)
+            before = edits.sum_of(one, root)
+            (root / "crates/below/src/lib.rt").write_text("")
+            self.assertNotEqual(edits.sum_of(one, root), before)
 
 
 if __name__ == "__main__":
