@@ -375,13 +375,18 @@ def tell(results):
 # ---- the checks for it
 
 
-NUMBER = r"\b(?:0x[\dA-Fa-f_]+|\d[\d_]*)\b"
+NUMBER = r"(?:\b(?:0x[\dA-Fa-f_]+|\d[\d_]*)\b|b'[^'\\]')"
 COMPARED = re.compile(rf"(?<![=<>-])(?:[<>]=?|[=!]=)\s*({NUMBER})|({NUMBER})\s*(?:[<>]=?|[=!]=)(?![<>]|\s*\d)")
+
+
+def value(text):
+    """The number that a literal is."""
+    return ord(text[2]) if text.startswith("b'") else int(text, 0)
 
 
 def compared(text):
     """The numbers that stand in comparisons."""
-    return [int(one or other, 0) for one, other in COMPARED.findall(text)]
+    return [value(one or other) for one, other in COMPARED.findall(text)]
 
 
 def followed(edit, crate, root):

@@ -239,6 +239,7 @@ class After(unittest.TestCase):
         self.assertEqual(texts.pop("proofs/low/Answers.antt"), "returns-then-x-lt129 c = f 128 c.if-x-lt129 c.if-x-lt1280")
         self.assertEqual(texts, {"src/lib.rt": code.replace("0x80", "129")})
         self.assertEqual(edits.compared("7 < x && y >= 0x10 => z >> 8 == 1_000 / 3"), [7, 16, 1000])
+        self.assertEqual(edits.compared("a != b'/' || b' ' == c"), [47, 32])
 
     def test_what_the_gate_says(self):
         with tempfile.TemporaryDirectory() as folder:
