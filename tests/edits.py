@@ -428,8 +428,8 @@ def logs_of(found, root=ROOT):
 
 
 def alone(batch, edit):
-    """A batch of one edit of a batch; whatever it breaks of its function or theorem counts."""
-    return Batch(batch.crate, f"{batch.label}.{edit.name}", [Edit(edit.name, edit.kind, edit.breaks, pairs=edit.pairs)])
+    """A batch of one edit of a batch."""
+    return Batch(batch.crate, f"{batch.label}.{edit.name}", [edit])
 
 
 def checked_and_read(found, root=ROOT):
@@ -467,13 +467,15 @@ READ = "tests/edits.read"
 
 
 def sum_of(batch, root=ROOT):
-    """A sum of what the reading of a batch rests on: the kit, the crate's own files, code and definitions of the crates below, the batch."""
+    """A sum of what the reading of a batch rests on: the kit, the crate's own files and those of the crates below, the batch, these scripts."""
     found = hashlib.sha256((edit_checks.kit() / "KIT-ID").read_bytes())
-    parts = [(batch.crate, part) for part in edit_checks.PARTS]
-    parts += [(name, part) for name in sorted(edit_checks.below(batch.crate, edit_checks.listed(root))) for part in ("src", "specs")]
-    files = [path for crate, part in parts for path in sorted((root / "crates" / crate / part).rglob("*")) if path.is_file()]
+    crates = [batch.crate, *sorted(edit_checks.below(batch.crate, edit_checks.listed(root)))]
+    folders = [root / "crates" / crate / part for crate in crates for part in edit_checks.PARTS]
+    files = [path for folder in folders for path in sorted(folder.rglob("*")) if path.is_file()]
     for path in [*files, root / "crates" / batch.crate / "must-fail" / f"{batch.label}.edit"]:
         found.update(repr((path.relative_to(root).as_posix(), path.read_bytes())).encode())
+    for script in (__file__, edit_checks.__file__):
+        found.update(Path(script).read_bytes())
     return found.hexdigest()[:32]
 
 

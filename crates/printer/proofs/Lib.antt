@@ -1,2 +1,2 @@
--- What printing answers.
+-- What reading and printing answer.
 pub mod Answers
