@@ -5,11 +5,13 @@ it: over what a check of the crate as it stands proved (the seed), which a batch
 are those in crates/*/out/rlib, as `rt ci` or `rt check` left them.
 """
 
+import json
 import os
 import shutil
 import subprocess
 import tempfile
 from concurrent.futures import ThreadPoolExecutor
+from contextlib import contextmanager
 from functools import cache
 from pathlib import Path
 
@@ -54,17 +56,33 @@ def command(crate, root):
     return words + ["--links", f"{crate}=", "--jobs", "1", *(["--crate-type", "staticlib"] if "staticlib" in kind else [])]
 
 
-def checked(crate, root, texts, kept):
-    """Checks a crate with some of its files replaced, over the folder `kept`: whether it is proved, and what the checker said."""
+@contextmanager
+def copied(crate, root, texts):
+    """A folder that has the files of a crate, some of them replaced."""
     with tempfile.TemporaryDirectory(prefix="edits.") as folder:
         for part in PARTS:
             if (root / "crates" / crate / part).is_dir():
                 shutil.copytree(root / "crates" / crate / part, Path(folder, part))
         for file, text in texts.items():
             Path(folder, file).write_text(text)
+        yield folder
+
+
+def checked(crate, root, texts, kept):
+    """Checks a crate with some of its files replaced, over the folder `kept`: whether it is proved, and what the checker said."""
+    with copied(crate, root, texts) as folder:
         words = [*command(crate, root), "--incremental", kept]
         run = subprocess.run(words, cwd=folder, stdin=subprocess.DEVNULL, stdout=subprocess.PIPE, stderr=subprocess.STDOUT, check=False)
     return run.returncode == 0, run.stdout.decode(errors="replace")
+
+
+def names(crate, root, texts):
+    """What the goals, places and steps of each function are called with some of a crate's files replaced; nothing where it is no code."""
+    with copied(crate, root, texts) as folder:
+        words = [*command(crate, root), "--generated", f"{folder}/names", "--old-names"]
+        subprocess.run(words, cwd=folder, stdin=subprocess.DEVNULL, capture_output=True, check=False)
+        path = Path(folder, "names/names.json")
+        return json.loads(path.read_text()) if path.is_file() else {}
 
 
 def link(source, target):

@@ -26,10 +26,12 @@ its edits names a clause of its own, once a clause.
 """
 
 import hashlib
+import os
 import re
 import sys
 from collections import Counter
-from dataclasses import dataclass, field
+from concurrent.futures import ThreadPoolExecutor
+from dataclasses import dataclass, field, replace
 from pathlib import Path
 
 import edit_checks
@@ -375,32 +377,43 @@ def tell(results):
 # ---- the checks for it
 
 
-NUMBER = r"(?:\b(?:0x[\dA-Fa-f_]+|\d[\d_]*)\b|b'[^'\\]')"
-COMPARED = re.compile(rf"(?<![=<>-])(?:[<>]=?|[=!]=)\s*({NUMBER})|({NUMBER})\s*(?:[<>]=?|[=!]=)(?![<>]|\s*\d)")
+# A name, or names with dots between them, as `c.if-x-lt128.true`.
+PATH = re.compile(r"\.?[\w'′◌-]+(?:\.[\w'′◌-]+)*")
 
 
-def value(text):
-    """The number that a literal is."""
-    return ord(text[2]) if text.startswith("b'") else int(text, 0)
+def pairs_of(now, then):
+    """What the goals, places and loops of a function are called, as it stands and with an edit; and its steps, which stand after a dot."""
+    if any(len(now[kind]) != len(then[kind]) for kind in ("needs", "places", "loops")):
+        return [], []
+    whole = [(one, other) for (_, one), (_, other) in zip(now["needs"], then["needs"])]
+    for one, other in zip(now["places_by_name"], then["places_by_name"]):
+        whole += [(one, other), (one[0].lower() + one[1:], other[0].lower() + other[1:])]  # the place, and a case of that name
+    for ((_, one), _), ((_, other), _) in zip(now["loops"], then["loops"]):
+        whole += [(f"{word}-{one}", f"{word}-{other}") for word in ("invariant", "decreases")]
+    return whole, [(one[2][1], other[2][1]) for one, other in zip(now["places"], then["places"])]
 
 
-def compared(text):
-    """The numbers that stand in comparisons."""
-    return [value(one or other) for one, other in COMPARED.findall(text)]
+def single(pairs):
+    """The pairs as a table, without the names that would become several."""
+    others = {}
+    for one, other in pairs:
+        others.setdefault(one, set()).add(other)
+    return {one: other.pop() for one, other in others.items() if len(other) == 1}
 
 
-def followed(edit, crate, root):
-    """The proof files of a function, with the names of the goals behind a test in which an edit changes a number: `returns-then-b-lt128`
-    is `returns-then-b-lt129` where the test is `b < 129`. Else the file would not fit, and nothing else could be seen."""
-    pairs = [(compared(old), compared(new)) for file, old, new in edit.pairs if edit.kind == "function" and file.startswith("src/")]
-    changed = [(one, other) for old, new in pairs if len(old) == len(new) for one, other in zip(old, new) if one != other]
-    folder = root / "crates" / crate / "proofs" / edit.breaks.replace("::", "/")
-    for path in sorted(folder.glob("*.antt")) if changed else ():
-        text = path.read_text()
-        for one, other in changed:
-            text = re.sub(rf"(?<=[a-z])(-(?:lt|le|gt|ge|eq|ne)){one}(?!\d)", rf"\g<1>{other}", text)
-        if text != path.read_text():
-            yield path.relative_to(root / "crates" / crate).as_posix(), text
+def renamed(text, whole, steps):
+    """A text with other names, all at once. The names of modules stay, and the ends of names that tell a clause, or a field's own facts."""
+    steps = whole | steps
+
+    def named(name, table):
+        stem, end = re.fullmatch(r"(.+?)(-clause-.+|-own)?|", name).groups("")
+        return table.get(name) or table.get(stem, stem) + end
+
+    def path(found):
+        head, *rest = found.group().split(".")
+        return ".".join([named(head, whole), *(named(name, steps) for name in rest)]) if head != "Rattle" else found.group()
+
+    return PATH.sub(path, text)
 
 
 def texts_of(batch, root=ROOT):
@@ -410,21 +423,41 @@ def texts_of(batch, root=ROOT):
         raise Fault("\n".join(faults))
     texts = {}
     for edit in batch.edits:
-        texts |= dict(followed(edit, batch.crate, root))
         for file, old, new in edit.pairs:
             text = texts.get(file) or (root / "crates" / batch.crate / file).read_text()
             texts[file] = text.replace(old, new)
     return texts
 
 
+def followed(batch, now, root=ROOT):
+    """A batch and the texts of the files that it changes, where the proof files of the functions that it names, and its clauses, call goals
+    and steps as these are called with its edits. They are called after the code: `returns-then-b-lt128` is `returns-then-b-lt129` where the
+    test is `b < 129`. Else a file would not fit, and nothing else could be seen. `now` has what they are called in the crate as it stands."""
+    texts, edits = texts_of(batch, root), []
+    then = edit_checks.names(batch.crate, root, texts) if any(edit.kind == "function" for edit in batch.edits) else {}
+    for edit in batch.edits:
+        key = f"Rattle-{batch.crate}-proofs.{edit.breaks.replace('::', '.')}.Lts"
+        if edit.kind == "function" and key in now and key in then:
+            tables = [single(pairs) for pairs in pairs_of(now[key], then[key])]
+            crate = root / "crates" / batch.crate
+            for path in sorted((crate / "proofs" / edit.breaks.replace("::", "/")).glob("*.antt")):
+                texts[path.relative_to(crate).as_posix()] = renamed(path.read_text(), *tables)
+            edit = replace(edit, clause=renamed(edit.clause, *tables))
+        edits.append(edit)
+    return Batch(batch.crate, batch.label, edits), texts
+
+
 def logs_of(found, root=ROOT):
-    """What the checker says of some batches, which is kept in target/must-fail too."""
-    logs = edit_checks.checked_all({(batch.crate, batch.label): texts_of(batch, root) for batch in found}, root)
+    """Some batches, with their clauses as these are called, and what the checker says of each, which is kept in target/must-fail too."""
+    with ThreadPoolExecutor(os.cpu_count()) as pool:
+        now = {crate: pool.submit(edit_checks.names, crate, root, {}) for crate in {batch.crate for batch in found}}
+        changed = list(pool.map(lambda batch: followed(batch, now[batch.crate].result(), root), found))
+    logs = edit_checks.checked_all({(batch.crate, batch.label): texts for batch, texts in changed}, root)
     for (crate, label), log in logs.items():
         path = root / "target/must-fail" / crate / f"{label}.log"
         path.parent.mkdir(parents=True, exist_ok=True)
         path.write_text(log)
-    return logs
+    return [batch for batch, _ in changed], logs
 
 
 def alone(batch, edit):
@@ -435,12 +468,12 @@ def alone(batch, edit):
 def checked_and_read(found, root=ROOT):
     """Checks some batches and goes through their edits. One that is not seen to be refused for a fact, for example as the checker tries no goal
     of a function while another edit breaks what that calls, is checked by itself."""
-    results = list(read_logs(found, logs_of(found, root), root))
+    results = list(read_logs(*logs_of(found, root), root))
     edits = [(batch, edit) for batch in found for edit in batch.edits]
     again = [alone(*pair) for pair, (_, wrong) in zip(edits, results) if wrong]
     if not again:
         return results
-    wrong_alone = dict(read_logs(again, logs_of(again, root), root))
+    wrong_alone = dict(read_logs(*logs_of(again, root), root))
     for number, (batch, edit) in enumerate(edits):
         name = f"{alone(batch, edit).name}: {edit.name}: {edit.breaks}"
         if name in wrong_alone:

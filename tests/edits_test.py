@@ -4,6 +4,7 @@
 import tempfile
 import unittest
 from pathlib import Path
+from unittest import mock
 
 import edits
 
@@ -227,19 +228,52 @@ class After(unittest.TestCase):
         self.assertEqual(results["one/code_2: low_adds_0: low"], "there is no log")
         self.assertEqual(len(results), 5)
 
-    def test_proof_file_follows_a_test(self):
-        code = CODE.replace("    x + 1\n", "    if x < 0x80 { 1 } else { 2 }\n")
-        batch = "edit: low_below_129\nfunction: low\nfile: src/lib.rt\nold: x < 0x80\nnew: x < 129\n"
-        with tempfile.TemporaryDirectory() as folder:
-            root = repository(folder, code=code, code_1=batch)
+    def followed(self, proof, **changed):
+        """A proof file and the clause of its function's edit, as they are called with the edit; `changed` is what else the edit changes."""
+
+        def named(test, *steps):
+            places = [[f"{kind}1", None, ["if1", f"if-{test}"], None, []] for kind in ("Then", "Else")]
+            places += [["After", "Else1", [f"word_at{number}", step], None, []] for number, step in enumerate(steps)]
+            needs = [["returns", f"returns-then-{test}"], ["returns-2", "returns"]]
+            by_name = [f"Then-{test}", f"Else-{test}", *(f"After-{step}" for step in steps)]
+            loops = [[["loop", f"loop-{steps[0]}"], []]]
+            return {"needs": needs, "places": places, "places_by_name": by_name, "loops": loops}
+
+        now, then = named("x-lt128", "word_at", "word_at-2"), named("x-lt129", "word_at-2", "word_at-y") | changed
+        now, then = ({"Rattle-one-proofs.low.Lts": lists} for lists in (now, then))
+        batch = BATCH.split("\n\n", maxsplit=1)[0].replace("function: low", "function: low\nclause: returns-then-x-lt128")
+        with tempfile.TemporaryDirectory() as folder, mock.patch.object(edits.edit_checks, "names", return_value=then):
+            root = repository(folder, code_1=batch)
             path = root / "crates/one/proofs/low/Answers.antt"
             path.parent.mkdir()
-            path.write_text("returns-then-x-lt128 c = f 128 c.if-x-lt128 c.if-x-lt1280")
-            texts = edits.texts_of(next(edits.batches(root)), root)
-        self.assertEqual(texts.pop("proofs/low/Answers.antt"), "returns-then-x-lt129 c = f 128 c.if-x-lt129 c.if-x-lt1280")
-        self.assertEqual(texts, {"src/lib.rt": code.replace("0x80", "129")})
-        self.assertEqual(edits.compared("7 < x && y >= 0x10 => z >> 8 == 1_000 / 3"), [7, 16, 1000])
-        self.assertEqual(edits.compared("a != b'/' || b' ' == c"), [47, 32])
+            path.write_text(proof)
+            batch, texts = edits.followed(edits.parse("one", "code_1", batch), now, root)
+        self.assertEqual(texts["src/lib.rt"], CODE.replace("x + 1", "x + 2"))
+        return texts.get("proofs/low/Answers.antt", proof), batch.edits[0].clause
+
+    def test_proof_file_follows_the_code(self):
+        proof = """use Rattle.one.specs.word_at.{word_at, else-x-lt128}
+returns-then-x-lt128-clause-a : goal.returns-then-x-lt128-clause-a
+returns-then-x-lt128-clause-a c = f (g c).if-x-lt128.true c.if-x-lt1280 c.word_at.ensures c.word_at-2 word_at c.word_at-own.x
+h : (c : After-word_at) → invariant-loop-word_at c
+returns c = elim [ else-x-lt128 w ↦ h 128 ]
+"""
+        other = """use Rattle.one.specs.word_at.{word_at, else-x-lt129}
+returns-then-x-lt129-clause-a : goal.returns-then-x-lt129-clause-a
+returns-then-x-lt129-clause-a c = f (g c).if-x-lt129.true c.if-x-lt1280 c.word_at-2.ensures c.word_at-y word_at c.word_at-2-own.x
+h : (c : After-word_at-2) → invariant-loop-word_at-2 c
+returns c = elim [ else-x-lt129 w ↦ h 128 ]
+"""
+        self.assertEqual(self.followed(proof), (other, "returns-then-x-lt129"))
+
+    def test_proof_file_stays_where_goals_or_places_are_more_or_fewer(self):
+        proof = "returns-then-x-lt128 c = c.if-x-lt128.true\n"
+        self.assertEqual(self.followed(proof, needs=[["returns", "returns"]]), (proof, "returns-then-x-lt128"))
+        self.assertEqual(self.followed(proof, places=[]), (proof, "returns-then-x-lt128"))
+
+    def test_name_that_would_become_two(self):
+        self.assertEqual(edits.single([("a", "b"), ("a", "c"), ("b", "c"), ("b", "c")]), {"b": "c"})
+        self.assertEqual(edits.renamed("a b c.a-b.a", {"b": "c"}, {"a": "d"}), "a c c.a-b.d")
 
     def test_what_the_gate_says(self):
         with tempfile.TemporaryDirectory() as folder:
