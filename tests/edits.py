@@ -376,14 +376,19 @@ def tell(results):
 
 # ---- the checks for it
 
-
 # A name, or names with dots between them, as `c.if-x-lt128.true`.
 PATH = re.compile(r"\.?[\w'′◌-]+(?:\.[\w'′◌-]+)*")
 
 
+def alike(now, then):
+    """Whether two lists are as long, and have no name in different places: what is one more, one fewer or exchanged cannot be paired."""
+    return len(now) == len(then) and all(one == other or not (one in then or other in now) for one, other in zip(now, then))
+
+
 def pairs_of(now, then):
     """What the goals, places and loops of a function are called, as it stands and with an edit; and its steps, which stand after a dot."""
-    if any(len(now[kind]) != len(then[kind]) for kind in ("needs", "places", "loops")):
+    numbered = [[[by_number for by_number, *_ in lists[kind]] for kind in ("needs", "places")] for lists in (now, then)]
+    if len(now["loops"]) != len(then["loops"]) or not all(map(alike, *numbered)):
         return [], []
     whole = [(one, other) for (_, one), (_, other) in zip(now["needs"], then["needs"])]
     for one, other in zip(now["places_by_name"], then["places_by_name"]):
@@ -432,7 +437,7 @@ def texts_of(batch, root=ROOT):
 def followed(batch, now, root=ROOT):
     """A batch and the texts of the files that it changes, where the proof files of the functions that it names, and its clauses, call goals
     and steps as these are called with its edits. They are called after the code: `returns-then-b-lt128` is `returns-then-b-lt129` where the
-    test is `b < 129`. Else a file would not fit, and nothing else could be seen. `now` has what they are called in the crate as it stands."""
+    test is `b < 129`. Else a file would not fit, and nothing else could be seen. `now` has how the crate calls them as it stands."""
     texts, edits = texts_of(batch, root), []
     then = edit_checks.names(batch.crate, root, texts) if any(edit.kind == "function" for edit in batch.edits) else {}
     for edit in batch.edits:

@@ -266,10 +266,11 @@ returns c = elim [ else-x-lt129 w ↦ h 128 ]
 """
         self.assertEqual(self.followed(proof), (other, "returns-then-x-lt129"))
 
-    def test_proof_file_stays_where_goals_or_places_are_more_or_fewer(self):
+    def test_proof_file_stays_where_goals_or_places_cannot_be_paired(self):
         proof = "returns-then-x-lt128 c = c.if-x-lt128.true\n"
-        self.assertEqual(self.followed(proof, needs=[["returns", "returns"]]), (proof, "returns-then-x-lt128"))
-        self.assertEqual(self.followed(proof, places=[]), (proof, "returns-then-x-lt128"))
+        fewer, exchanged = [["returns", "returns"]], [["returns-2", "returns-then-x-lt129"], ["returns", "returns"]]
+        for changed in ({"needs": fewer}, {"needs": exchanged}, {"places": []}, {"loops": []}):
+            self.assertEqual(self.followed(proof, **changed), (proof, "returns-then-x-lt128"))
 
     def test_name_that_would_become_two(self):
         self.assertEqual(edits.single([("a", "b"), ("a", "c"), ("b", "c"), ("b", "c")]), {"b": "c"})
