@@ -265,7 +265,8 @@ def lint(root=ROOT):
 
 # What the checker says of an answer that does not hold: a goal that is another one than what was proved, or that nothing proves.
 FACT = re.compile(
-    r"the two (types|values|indices)|^expected type|does not follow|no proof of|give a proof of that|no occurrence of the path's"
+    r"the two (types|values|indices)|^computed as a goal is, one side reads|^expected type|does not follow|no proof of|give a proof of that"
+    r"|no occurrence of the path's"
 )
 # What it says where a proof file does not fit the code, or rests on something that is not proved. Whatever is in neither list is no fact.
 UNFIT = re.compile(r"was not admitted|can be named from here|has no field|`: module|on the face `κs = 1`|not in scope")
@@ -385,17 +386,26 @@ def alike(now, then):
     return len(now) == len(then) and all(one == other or not (one in then or other in now) for one, other in zip(now, then))
 
 
-def pairs_of(now, then):
-    """What the goals, places and loops of a function are called, as it stands and with an edit; and its steps, which stand after a dot."""
+def pairs_of(now, then, all_alike):
+    """What the goals, places and loops of a function are called, as it stands and with an edit; and its steps, which stand after a dot. Where an
+    edit makes others or takes some away, those that have one number in both are one: for who asks for it, since that may be wrong."""
     numbered = [[[by_number for by_number, *_ in lists[kind]] for kind in ("needs", "places")] for lists in (now, then)]
-    if len(now["loops"]) != len(then["loops"]) or not all(map(alike, *numbered)):
+    if len(now["loops"]) != len(then["loops"]):
         return [], []
-    whole = [(one, other) for (_, one), (_, other) in zip(now["needs"], then["needs"])]
-    for one, other in zip(now["places_by_name"], then["places_by_name"]):
+    goals = list(zip(now["needs"], then["needs"]))
+    places = list(zip(zip(now["places"], now["places_by_name"]), zip(then["places"], then["places_by_name"])))
+    if not all(map(alike, *numbered)):
+        if all_alike:
+            return [], []
+        goals = [(one, other) for one in now["needs"] for other in then["needs"] if one[0] == other[0]]
+        there = list(zip(then["places"], then["places_by_name"]))
+        places = [(one, other) for one in zip(now["places"], now["places_by_name"]) for other in there if one[0][0] == other[0][0]]
+    whole = [(one, other) for (_, one), (_, other) in goals]
+    for (_, one), (_, other) in places:
         whole += [(one, other), (one[0].lower() + one[1:], other[0].lower() + other[1:])]  # the place, and a case of that name
     for ((_, one), _), ((_, other), _) in zip(now["loops"], then["loops"]):
         whole += [(f"{word}-{one}", f"{word}-{other}") for word in ("invariant", "decreases")]
-    return whole, [(one[2][1], other[2][1]) for one, other in zip(now["places"], then["places"])]
+    return whole, [(one[2][1], other[2][1]) for (one, _), (other, _) in places]
 
 
 def single(pairs):
@@ -434,7 +444,7 @@ def texts_of(batch, root=ROOT):
     return texts
 
 
-def followed(batch, now, root=ROOT):
+def followed(batch, now, root=ROOT, all_alike=True):
     """A batch and the texts of the files that it changes, where the proof files of the functions that it names, and its clauses, call goals
     and steps as these are called with its edits. They are called after the code: `returns-then-b-lt128` is `returns-then-b-lt129` where the
     test is `b < 129`. Else a file would not fit, and nothing else could be seen. `now` has how the crate calls them as it stands."""
@@ -443,7 +453,7 @@ def followed(batch, now, root=ROOT):
     for edit in batch.edits:
         key = f"Rattle-{batch.crate}-proofs.{edit.breaks.replace('::', '.')}.Lts"
         if edit.kind == "function" and key in now and key in then:
-            tables = [single(pairs) for pairs in pairs_of(now[key], then[key])]
+            tables = [single(pairs) for pairs in pairs_of(now[key], then[key], all_alike)]
             crate = root / "crates" / batch.crate
             for path in sorted((crate / "proofs" / edit.breaks.replace("::", "/")).glob("*.antt")):
                 texts[path.relative_to(crate).as_posix()] = renamed(path.read_text(), *tables)
@@ -452,11 +462,11 @@ def followed(batch, now, root=ROOT):
     return Batch(batch.crate, batch.label, edits), texts
 
 
-def logs_of(found, root=ROOT):
+def logs_of(found, root=ROOT, all_alike=True):
     """Some batches, with their clauses as these are called, and what the checker says of each, which is kept in target/must-fail too."""
     with ThreadPoolExecutor(os.cpu_count()) as pool:
         now = {crate: pool.submit(edit_checks.names, crate, root, {}) for crate in {batch.crate for batch in found}}
-        changed = list(pool.map(lambda batch: followed(batch, now[batch.crate].result(), root), found))
+        changed = list(pool.map(lambda batch: followed(batch, now[batch.crate].result(), root, all_alike), found))
     logs = edit_checks.checked_all({(batch.crate, batch.label): texts for batch, texts in changed}, root)
     for (crate, label), log in logs.items():
         path = root / "target/must-fail" / crate / f"{label}.log"
@@ -472,17 +482,18 @@ def alone(batch, edit):
 
 def checked_and_read(found, root=ROOT):
     """Checks some batches and goes through their edits. One that is not seen to be refused for a fact, for example as the checker tries no goal
-    of a function while another edit breaks what that calls, is checked by itself."""
+    of a function while another edit breaks what that calls, is checked by itself; if need be once more, with names by their numbers alone."""
     results = list(read_logs(*logs_of(found, root), root))
     edits = [(batch, edit) for batch in found for edit in batch.edits]
-    again = [alone(*pair) for pair, (_, wrong) in zip(edits, results) if wrong]
-    if not again:
-        return results
-    wrong_alone = dict(read_logs(*logs_of(again, root), root))
-    for number, (batch, edit) in enumerate(edits):
-        name = f"{alone(batch, edit).name}: {edit.name}: {edit.breaks}"
-        if name in wrong_alone:
-            results[number] = results[number][0], wrong_alone[name]
+    for all_alike in (True, False):
+        again = [alone(*pair) for pair, (_, wrong) in zip(edits, results) if wrong]
+        if not again:
+            break
+        wrong_alone = dict(read_logs(*logs_of(again, root, all_alike), root))
+        for number, (batch, edit) in enumerate(edits):
+            name = f"{alone(batch, edit).name}: {edit.name}: {edit.breaks}"
+            if name in wrong_alone:
+                results[number] = results[number][0], wrong_alone[name]
     return results
 
 
