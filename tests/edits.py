@@ -108,15 +108,19 @@ def functions(root=ROOT):
         if module == "main":
             continue
         text, owner = path.read_text(), ""
-        for line in re.finditer(r"^impl (\w+)|^( *)(#\[.*\] )?(pub )?(const )?(extern \"C\" )?fn (\w+)", text, re.M):
+        for line in re.finditer(
+            r"^(impl)\b(?:<[^>\n]*>)? (\w+)(?:<([^>\n]*)>)?(?: for (\w+))?|^( *)(#\[.*\] )?(pub )?(const )?(extern \"C\" )?fn (\w+)", text, re.M
+        ):
             if line.group(1):
-                owner = line.group(1)
+                # An impl of a trait goes by the type, the trait and what stands in its brackets, as the checker names it.
+                trait = line.group(2) + re.sub(r"\W", "", re.sub(r"'\w+", "", line.group(3) or ""))
+                owner = line.group(4) + trait if line.group(4) else line.group(2)
                 continue
-            indent = line.group(2)
+            indent = line.group(5)
             begin = re.compile(r"\{$", re.M).search(text, line.end()).start()
             end = text.index(f"\n{indent}}}", begin)
-            parts = [module if module != "lib" else "", owner if indent else "", line.group(7)]
-            yield crate, "::".join(part for part in parts if part), line.group(4) is not None, file, begin, end
+            parts = [module if module != "lib" else "", owner if indent else "", line.group(10)]
+            yield crate, "::".join(part for part in parts if part), line.group(7) is not None, file, begin, end
 
 
 def bodies(root=ROOT):

@@ -1,3 +1,2 @@
--- Laws about heights and topmost labels.
-pub mod Origins
+-- Slots taken off one by one.
 pub mod Lowering

@@ -1,22 +1,12 @@
--- What can be popped lies in the height, and slots taken off one by one: those still to come off decide the list that is left.
+-- Slots taken off one by one: those still to come off decide the list that is left.
 use Prim.Native.Nat.{ℕ, ◌+◌, ◌-◌, ◌≤◌, ◌<◌}
 use mathlib.Core.Path.{◌≡◌, refl, sym, ◌∙◌, ap}
-use mathlib.Core.Bool.{Bool, false, not}
 use mathlib.Core.List.{List}
 use native.Mathlib.Nat.{sub-eq-zero_of_le}
 use native.Mathlib.Omega.{arith}
-use borrow.Author.Tests.{leb-true, not-false}
 use Rattle.words.proofs.Left.{one_left}
 use Rattle.compact.specs.declared.top.Top.{Top}
-use Rattle.compact.specs.Tops.{label_height, poppable, lowered, lowered_by}
-
--- What was found poppable lies in the height.
-pub popped-height : (code w : List ℕ) (t : Top) (n : ℕ) (b : Bool) → b ≡ poppable code w t n → not b ≡ false → n ≤ t.height
-unfolding poppable
-popped-height code w t n b e h =
-    let above : n + label_height code w t.origin ≤ t.height =
-    leb-true (n + label_height code w t.origin) t.height (sym e ∙ not-false b h) in
-    omega arith
+use Rattle.compact.specs.Tops.{lowered, lowered_by}
 
 lowered-height : (code w : List ℕ) (t : Top) → (lowered code w t).height ≡ t.height - 1
 unfolding lowered

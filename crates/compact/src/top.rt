@@ -1,5 +1,5 @@
 // The height of a list of slots and its topmost label.
-ghost use Rattle.std.specs.Prelude.{◌≡◌, ◌≤◌, ◌<◌};
+ghost use Rattle.std.specs.Prelude.{◌≡◌, ◌≤◌, ◌<◌, IsTrue};
 ghost use Rattle.stackmap.specs.Ways.{is_iter, is_switch};
 ghost use Rattle.compact.specs.Tops.{label_height, origin_under, poppable, labelled, lowered, lowered_by};
 
@@ -20,70 +20,66 @@ pub fn is_iter(code: &[u8], at: usize) -> bool
 pub fn is_switch(code: &[u8], at: usize) -> bool
     ensures { result ≡ is_switch code.now at }
 {
-    let opcode = words::byte_at(code, at);
-    if opcode == 0xE2 {
-        return true;
-    }
-    opcode == 0xE3
+    matches!(words::byte_at(code, at), 0xE2 | 0xE3)
 }
 
 // The height up to and with the topmost label.
-fn label_height(code: &[u8], w: &[u16], origin: u16) -> u32
+fn label_height(code: &[u8], w: &[u16], origin: u16) -> u16
     ensures { result ≡ label_height code.now w.now origin }
 {
-    if origin == 0 {
+    let Some(before) = origin.checked_sub(1) else {
         return 0;
-    }
-    let at = (origin - 1) as usize;
-    let shown = workspace::half_at(w, 4 * at) as u32;
+    };
+    let at = before as usize;
+    let shown = workspace::half_at(w, 4 * at);
     if is_iter(code, at) {
-        return shown;
+        shown
+    } else {
+        shown.saturating_sub(1)
     }
-    if shown == 0 {
-        return 0;
-    }
-    shown - 1
 }
 
 // The origin of the next label under the topmost one.
 pub fn origin_under(w: &[u16], origin: u16) -> u16
     ensures { result ≡ origin_under w.now origin }
 {
-    if origin == 0 {
-        return 0;
+    match origin.checked_sub(1) {
+        None => 0,
+        Some(at) => workspace::half_at(w, 4 * at as usize + 1),
     }
-    workspace::half_at(w, 4 * ((origin - 1) as usize) + 1)
 }
 
 impl Top {
     // Whether the top `n` slots are words.
+    #[tactic(auto, unfolding(crate::specs::Tops::poppable))]
     pub fn is_poppable(self, code: &[u8], w: &[u16], n: u32) -> bool
-        ensures { result ≡ poppable code.now w.now self n }
+        ensures value { result ≡ poppable code.now w.now self n }
+        ensures within { IsTrue result → n ≤ self.height }
     {
-        (n as u64) + (label_height(code, w, self.origin) as u64) <= self.height as u64
+        n as u64 + label_height(code, w, self.origin) as u64 <= self.height as u64
     }
 
     // Whether the topmost label is the top slot; without a label, whether the list is empty.
+    #[tactic(auto, unfolding(crate::specs::Tops::labelled))]
     pub fn is_labelled(self, code: &[u8], w: &[u16]) -> bool
         ensures { result ≡ labelled code.now w.now self }
     {
-        label_height(code, w, self.origin) == self.height
+        label_height(code, w, self.origin) as u32 == self.height
     }
 
     // Without the top slot.
+    #[tactic(auto, unfolding(crate::specs::Tops::lowered))]
     fn lowered(self, code: &[u8], w: &[u16]) -> Top
         requires { 1 ≤ self.height }
         ensures { result ≡ lowered code.now w.now self }
     {
-        if self.is_labelled(code, w) {
-            return Top {
-                height: self.height - 1,
-                origin: origin_under(w, self.origin),
-            };
-        }
         Top {
             height: self.height - 1,
-            origin: self.origin,
+            origin: if self.is_labelled(code, w) {
+                origin_under(w, self.origin)
+            } else {
+                self.origin
+            },
         }
     }
 

@@ -2,12 +2,13 @@
 #![tactic(auto)]
 
 ghost use Rattle.std.specs.Prelude.{◌≡◌, ◌<◌};
-ghost use Rattle.entries.specs.Libraries.{libraries_in};
+ghost use Rattle.entries.specs.Listed.{listed};
 ghost use Rattle.stackmap.specs.Ways.{parameters_in, results_in};
 ghost use Rattle.compact_ways.specs.Ways.{toward, in_order, straight_ways, pop_ways, jump_c_ways, jump_tf_ways, iter_ways, next_ways, leave_ways, switch_ways, rtn_ways, external_ways, ways_top};
 
 use compact::top;
 use compact::top::Top;
+use entries::Libraries;
 use shape::{Shape, Table};
 
 // A successor, and the list that it is given.
@@ -36,7 +37,7 @@ pub fn callee_parameters(code: &[u8], p: u32) -> u32
     if p == 0 {
         return 0;
     }
-    words::byte_at(code, (entries::entry_at(code, p) as usize) + 1) as u32
+    words::byte_at(code, entries::entry_at(code, p) as usize + 1) as u32
 }
 
 pub fn callee_results(results: &[u8], p: u32) -> u32
@@ -49,35 +50,38 @@ pub fn way_toward(place: usize, t: Top) -> Way
     ensures { result ≡ toward place t }
 {
     Way {
-        place: place,
+        place,
         height: t.height as usize,
         origin: t.origin,
     }
 }
 
+#[tactic(auto, unfolding(crate::specs::Ways::in_order))]
 fn in_order(on: Way, away: Way) -> Ways
     ensures { result ≡ in_order on away }
 {
     if on.place <= away.place {
-        return Ways::Two(on, away);
+        Ways::Two(on, away)
+    } else {
+        Ways::Two(away, on)
     }
-    Ways::Two(away, on)
 }
 
+#[tactic(auto, unfolding(crate::specs::Ways::straight_ways))]
 fn straight_ways(code: &[u8], w: &[u16], next: usize, t: Top, pops: u32, pushes: u32) -> Ways
     ensures { result ≡ straight_ways code.now w.now next t pops pushes }
 {
     if !t.is_poppable(code, w, pops) {
         return Ways::Broken;
     }
-    let height = ((t.height - pops) as usize) + (pushes as usize);
     Ways::One(Way {
         place: next,
-        height: height,
+        height: (t.height - pops) as usize + pushes as usize,
         origin: t.origin,
     })
 }
 
+#[tactic(auto, unfolding(crate::specs::Ways::pop_ways))]
 fn pop_ways(code: &[u8], w: &[u16], next: usize, t: Top, n: u32) -> Ways
     ensures { result ≡ pop_ways code.now w.now next t n }
 {
@@ -87,6 +91,7 @@ fn pop_ways(code: &[u8], w: &[u16], next: usize, t: Top, n: u32) -> Ways
     Ways::One(way_toward(next, t.lowered_by(code, w, n)))
 }
 
+#[tactic(auto, unfolding(crate::specs::Ways::jump_c_ways))]
 fn jump_c_ways(code: &[u8], w: &[u16], at: usize, next: usize, t: Top, distance: u32) -> Ways
     requires { at < 65535 }
     ensures { result ≡ jump_c_ways code.now w.now at next t distance }
@@ -94,20 +99,19 @@ fn jump_c_ways(code: &[u8], w: &[u16], at: usize, next: usize, t: Top, distance:
     if !t.is_poppable(code, w, 1) {
         return Ways::Broken;
     }
-    let rest = (t.height - 1) as usize;
     let on = Way {
         place: next,
-        height: rest,
+        height: (t.height - 1) as usize,
         origin: t.origin,
     };
     let away = Way {
         place: successors::place_at(at, distance),
-        height: rest,
-        origin: t.origin,
+        ..on
     };
     in_order(on, away)
 }
 
+#[tactic(auto, unfolding(crate::specs::Ways::jump_tf_ways))]
 fn jump_tf_ways(code: &[u8], w: &[u16], at: usize, next: usize, t: Top, distance: u32) -> Ways
     requires { at < 65535 }
     ensures { result ≡ jump_tf_ways code.now w.now at next t distance }
@@ -123,6 +127,7 @@ fn jump_tf_ways(code: &[u8], w: &[u16], at: usize, next: usize, t: Top, distance
     in_order(on, way_toward(successors::place_at(at, distance), t))
 }
 
+#[tactic(auto, unfolding(crate::specs::Ways::iter_ways))]
 fn iter_ways(code: &[u8], w: &[u16], at: usize, next: usize, t: Top, distance: u32) -> Ways
     requires { at < 65535 }
     ensures { result ≡ iter_ways code.now w.now at next t distance }
@@ -132,70 +137,55 @@ fn iter_ways(code: &[u8], w: &[u16], at: usize, next: usize, t: Top, distance: u
     }
     let on = Way {
         place: next,
-        height: (t.height as usize) + 1,
-        origin: (at as u16) + 1,
+        height: t.height as usize + 1,
+        origin: at as u16 + 1,
     };
-    let height = (t.height - 4) as usize;
     let away = Way {
         place: successors::place_at(at, distance),
-        height: height,
+        height: (t.height - 4) as usize,
         origin: t.origin,
     };
     in_order(on, away)
 }
 
+#[tactic(auto, unfolding(crate::specs::Ways::next_ways))]
 fn next_ways(code: &[u8], w: &[u16], next: usize, t: Top) -> Ways
     ensures { result ≡ next_ways code.now w.now next t }
 {
-    if t.origin == 0 {
+    let Some(origin) = t.origin.checked_sub(1) else {
         return Ways::Broken;
-    }
-    let origin = (t.origin - 1) as usize;
-    if !top::is_iter(code, origin) {
-        return Ways::Broken;
-    }
-    if !t.is_labelled(code, w) {
-        return Ways::Broken;
-    }
-    let height = if t.height < 5 {
-        0
-    } else {
-        (t.height - 5) as usize
     };
+    let origin = origin as usize;
+    if !top::is_iter(code, origin) || !t.is_labelled(code, w) {
+        return Ways::Broken;
+    }
     let on = Way {
         place: next,
-        height: height,
+        height: t.height.saturating_sub(5) as usize,
         origin: top::origin_under(w, t.origin),
     };
     in_order(on, way_toward(origin + 3, t))
 }
 
+#[tactic(auto, unfolding(crate::specs::Ways::leave_ways))]
 fn leave_ways(code: &[u8], w: &[u16], t: Top) -> Ways
     ensures { result ≡ leave_ways code.now w.now t }
 {
-    if t.origin == 0 {
+    let Some(origin) = t.origin.checked_sub(1) else {
         return Ways::Broken;
-    }
-    let origin = (t.origin - 1) as usize;
-    if !top::is_switch(code, origin) {
-        return Ways::Broken;
-    }
-    if !t.is_labelled(code, w) {
-        return Ways::Broken;
-    }
-    let height = if t.height < 1 {
-        0
-    } else {
-        (t.height - 1) as usize
     };
-    let label = successors::exit_label(code, origin);
+    let origin = origin as usize;
+    if !top::is_switch(code, origin) || !t.is_labelled(code, w) {
+        return Ways::Broken;
+    }
     Ways::One(Way {
-        place: label,
-        height: height,
+        place: successors::exit_label(code, origin),
+        height: t.height.saturating_sub(1) as usize,
         origin: top::origin_under(w, t.origin),
     })
 }
 
+#[tactic(auto, unfolding(crate::specs::Ways::switch_ways))]
 fn switch_ways(code: &[u8], w: &[u16], at: usize, t: Top, table: Table, n: u32) -> Ways
     requires { at < 65535 }
     ensures { result ≡ switch_ways code.now w.now at t table n }
@@ -208,50 +198,45 @@ fn switch_ways(code: &[u8], w: &[u16], at: usize, t: Top, table: Table, n: u32) 
         n,
         Top {
             height: t.height,
-            origin: (at as u16) + 1,
+            origin: at as u16 + 1,
         },
     )
 }
 
+#[tactic(auto, unfolding(crate::specs::Ways::rtn_ways))]
 fn rtn_ways(t: Top, results: u32) -> Ways
     ensures { result ≡ rtn_ways t results }
 {
-    if t.height != results {
-        return Ways::Broken;
-    }
-    if t.origin != 0 {
+    if t.height != results || t.origin != 0 {
         return Ways::Broken;
     }
     Ways::Ended
 }
 
 // CALL_E: parameters and results are those of the library's own module.
+#[tactic(auto, unfolding(crate::specs::Ways::external_ways))]
 fn external_ways(
     code: &[u8],
-    libraries: &[u32],
-    records: &[u8],
-    lists: &[u8],
+    libraries: Libraries<'_>,
     w: &[u16],
     next: usize,
     t: Top,
     l: u32,
     c: u32,
 ) -> Ways
-    ensures { result ≡ external_ways code.now (libraries_in libraries.now records.now lists.now) w.now next t l c }
+    ensures { result ≡ external_ways code.now (listed libraries.entry) w.now next t l c }
 {
-    let own = entries::library_code(libraries, records, l);
-    let parameters = callee_parameters(own, c);
-    let list = entries::library_results(libraries, lists, l);
-    straight_ways(code, w, next, t, parameters, callee_results(list, c))
+    let parameters = callee_parameters(libraries.code(l), c);
+    let results = callee_results(libraries.results(l), c);
+    straight_ways(code, w, next, t, parameters, results)
 }
 
 // The ways out of an instruction at an offset of procedure `p`, of a shape, before `next`.
+#[tactic(auto, unfolding(crate::specs::Ways::ways_top))]
 pub fn ways_of(
     code: &[u8],
     results: &[u8],
-    libraries: &[u32],
-    records: &[u8],
-    lists: &[u8],
+    libraries: Libraries<'_>,
     w: &[u16],
     p: u32,
     at: usize,
@@ -260,7 +245,7 @@ pub fn ways_of(
     t: Top,
 ) -> Ways
     requires { at < 65535 }
-    ensures { result ≡ ways_top code.now (libraries_in libraries.now records.now lists.now) results.now w.now p at next shape t }
+    ensures { result ≡ ways_top code.now (listed libraries.entry) results.now w.now p at next shape t }
 {
     match shape {
         Shape::Straight(pops, pushes) => straight_ways(code, w, next, t, pops, pushes),
@@ -273,18 +258,10 @@ pub fn ways_of(
         Shape::Switch(table, n) => switch_ways(code, w, at, t, table, n),
         Shape::Leave => leave_ways(code, w, t),
         Shape::Call(c) => {
-            straight_ways(
-                code,
-                w,
-                next,
-                t,
-                callee_parameters(code, c),
-                callee_results(results, c),
-            )
+            let parameters = callee_parameters(code, c);
+            straight_ways(code, w, next, t, parameters, callee_results(results, c))
         }
-        Shape::CallExternal(l, c) => external_ways(
-            code, libraries, records, lists, w, next, t, l, c,
-        ),
+        Shape::CallExternal(l, c) => external_ways(code, libraries, w, next, t, l, c),
         Shape::Enter(parameters) => straight_ways(code, w, next, t, parameters, 0),
         Shape::Rtn => rtn_ways(t, callee_results(results, p)),
     }

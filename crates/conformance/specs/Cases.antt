@@ -5,10 +5,10 @@ use Rattle.std.specs.Prelude.{List, [], ◌∷◌, ◌++◌, map, ◌≡◌, ℕ
 use Rattle.verifier.specs.Check.{check_of}
 use Rattle.registers.specs.Modules.{header_words}
 use Rattle.registers.specs.State.{state}
-use Rattle.load.specs.declared.Loaded.{Loaded}
-use Rattle.load.specs.declared.Loaded.TheVariants.{Refused, Ready}
-use Rattle.run.specs.declared.Answer.{Answer}
-use Rattle.run.specs.declared.Answer.TheVariants.{Refused as NotRun, Ended}
+use Rattle.load.specs.Loaded.{Loaded}
+use Rattle.std.specs.Prelude.{Err, Ok}
+use Rattle.run.specs.Answer.{Answer}
+use Rattle.std.specs.Prelude.{Err, Ok}
 use Rattle.load.specs.Load.{load_of}
 use Rattle.run.specs.Run.{end_number, run_of}
 
@@ -37,13 +37,13 @@ record_for c =
     word 0 ++ (word (length c.code) ++ (word c.globals ++ (word 0 ++ (word 0 ++ (word 0 ++ (word 0 ++ c.code))))))
 
 abbrev pub shown : Case → Answer → List ℕ → List ℕ → Outcome
-shown c (NotRun n) m s = refused n
-shown c (Ended e) m s =
+shown c (Err n) m s = refused n
+shown c (Ok e) m s =
     ended (end_number e.ending) e.registers.pc e.steps (take c.globals (drop header_words m)) (take e.registers.height s)
 
 abbrev pub outcome_of : Case → Loaded → List ℕ → List ℕ → Outcome
-outcome_of c (Refused n) m s = refused n
-outcome_of c (Ready q) m s =
+outcome_of c (Err n) m s = refused n
+outcome_of c (Ok q) m s =
     let a = run_of (record_for c) 1000 (state q m s) in
     shown c a.answer a.state.memory a.state.stack
 

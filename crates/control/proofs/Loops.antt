@@ -10,15 +10,17 @@ use mir.Val.{Fits, to_z}
 use mir.Facts.{sfits_to_z, of_z-to_z}
 use borrow.Author.Tests.{lt-ltb, le-leb}
 use Rattle.words.proofs.Tests.{by-test}
-use Rattle.operate.specs.Value.{is_signed, signed_word}
+use Rattle.operate.specs.Value.{is_signed, signed_word, Value}
 use Rattle.operate.specs.Arithmetic.{signed_value}
-use Rattle.operate.specs.declared.Value.{Value}
-use Rattle.operate.specs.declared.Value.TheVariants.{Word, Trap as Stop}
 use Rattle.effect.specs.declared.effect.Effect.{Effect}
 use Rattle.effect.specs.declared.effect.Effect.TheVariants.{Trap, Finish, Go}
 use Rattle.registers.specs.Memory.{read, live, protects}
 use Rattle.control.specs.Control.{beyond, next_sum, sum_effect, next_effect}
 use Rattle.control.specs.Loops.{LeavesAtRangeEnd, TestsAddress, NeverTraps31, ZeroGoesRound}
+use Rattle.std.specs.Prelude.{Ok, Err}
+use Rattle.numbers.specs.declared.Trap.TheVariants.{OutOfRange, NotLive, Protected}
+use Rattle.numbers.specs.declared.Trap.{Trap as Cause}
+use Rattle.numbers.specs.TrapNumber.{trap_number}
 
 pub leaves-at-range-end : LeavesAtRangeEnd
 unfolding next_effect next_sum signed_value signed_word
@@ -30,16 +32,16 @@ tests-address Ms q m next a l s label = (λ dead. rw dead, λ is_live kept. rw (
 
 -- No trap with 31.
 abbrev Not31 : Effect → Type 0
-Not31 (Trap n) = n ≡ 31 → ⊥
+Not31 (Trap t) = trap_number t ≡ 31 → ⊥
 Not31 Finish = Unit {0}
 Not31 (Go pops push write q) = Unit {0}
 
-by_value : (f : Value → Effect) → ((x : ℕ) → Not31 (f (Word x))) → ((n : ℕ) → Not31 (f (Stop n))) → (v : Value) → Not31 (f v)
-by_value f w s (Word x) = w x
-by_value f w s (Stop n) = s n
+by_value : (f : Value → Effect) → ((x : ℕ) → Not31 (f (Ok x))) → ((t : Cause) → Not31 (f (Err t))) → (v : Value) → Not31 (f v)
+by_value f w s (Ok x) = w x
+by_value f w s (Err t) = s t
 
-never-31 : (e : Effect) → Not31 e → e ≡ Trap 31 → ⊥
-never-31 (Trap n) h e = let n31 : n ≡ 31 = cc in h n31
+never-31 : (e : Effect) → Not31 e → e ≡ Trap OutOfRange → ⊥
+never-31 (Trap t) h e = let same : t ≡ OutOfRange = cc in h (ap trap_number same)
 never-31 Finish h e = let z : ◌≡◌ {A = ℕ} 0 1 = cc in absurd (omega (arith, z))
 never-31 (Go pops push write q) h e = let z : ◌≡◌ {A = ℕ} 0 1 = cc in absurd (omega (arith, z))
 
@@ -50,8 +52,8 @@ never-traps-31 Ms q m next a l s label e =
     by_value (sum_effect q next a l s label)
     (λ x. by-test Not31 (beyond (to_z w32 s) (to_z w32 x) (to_z w32 l)) _ _ (λ h. tt) (λ h. tt)) (λ n. tt) (next_sum m a s) in
     never-31 (next_effect Ms q m next a l s label)
-    (by-test Not31 (live q a 1) _ (Trap 32)
-    (λ h. by-test Not31 (protects Ms q m a) (Trap 33) _ (λ k z. omega (arith, z)) (λ k. sum)) (λ h z. omega (arith, z)))
+    (by-test Not31 (live q a 1) _ (Trap NotLive)
+    (λ h. by-test Not31 (protects Ms q m a) (Trap Protected) _ (λ k z. omega (arith, z)) (λ k. sum)) (λ h z. omega (arith, z)))
     e
 
 plus-zero : (z : ℤ) → z +ℤ pos 0 ≡ z

@@ -1,6 +1,6 @@
 -- Jumps, loops, switches and calls (5.2.4.11 to 5.2.4.15); q, m and next as in Data. 01: "Distances count from the
 -- instruction's own first byte", which is at PC.
-use Rattle.std.specs.Prelude.{Bool, cond, ◌&&◌, ◌||◌, List, ℕ, ◌+◌, eqb, leb, ℤ, pos, length}
+use Rattle.std.specs.Prelude.{Bool, cond, ◌&&◌, ◌||◌, List, ℕ, ◌+◌, eqb, leb, ℤ, pos, length, Ok, Err}
 use Rattle.std.specs.Int.Signed.{lt_z}
 use Rattle.std.specs.Int.{w32}
 use Rattle.std.proofs.Common.{to_z}
@@ -12,8 +12,6 @@ use Rattle.shape.specs.declared.Table.TheVariants.{Branches, Ranges}
 use Rattle.opcode.specs.declared.instruction.Mode.TheVariants.{Normal}
 use Rattle.opcode.specs.declared.instruction.Arithmetic.TheVariants.{Add}
 use Rattle.operate.specs.Arithmetic.{signed_value}
-use Rattle.operate.specs.declared.Value.{Value}
-use Rattle.operate.specs.declared.Value.TheVariants.{Word, Trap}
 use Rattle.registers.specs.declared.Registers.{Registers}
 use Rattle.effect.specs.declared.effect.Push.TheVariants.{NoPush, PushOne}
 use Rattle.effect.specs.declared.effect.Write.TheVariants.{NoWrite, WriteOne, WriteTwo, WriteThree, WritePopped}
@@ -23,6 +21,8 @@ use Rattle.registers.specs.Modules.{Modules, module_at, globals_start, no_librar
 use Rattle.registers.specs.Memory.{read, negated}
 use Rattle.registers.specs.Changes.{moved, sized, called, returned}
 use Rattle.effect.specs.Data.{if_boolean, if_storable}
+use Rattle.operate.specs.Value.{Value}
+use Rattle.numbers.specs.declared.Trap.TheVariants.{Uncallable, CallsFull, MemoryFull}
 
 -- JUMP.
 unfoldable pub jump_effect : (q : Registers) (distance : ℕ) → Effect
@@ -47,7 +47,7 @@ iter_effect Ms q m next d a f l s =
     cond (beyond (to_z w32 s) (to_z w32 f) (to_z w32 l)) (Go 4 NoPush NoWrite (moved q (place_at q.pc d)))
     (if_storable Ms q m a Normal (Go 0 (PushOne next) (WriteOne a f) (moved q next)))
 
--- NEXT's sum: MEMORY(A) + S, signed. `Trap` says here that it leaves the range; NEXT does not trap for it.
+-- NEXT's sum: MEMORY(A) + S, signed. `Err` says here that it leaves the range; NEXT does not trap for it.
 unfoldable pub next_sum : List ℕ → ℕ → ℕ → Value
 next_sum m a s = signed_value Add (read m a) s
 
@@ -60,8 +60,8 @@ round_effect q next a l s label x =
 -- 02, K3: "Where the sum in NEXT leaves the signed range, the loop is left as if the sum had passed the last value, five words
 -- go, and the variable keeps its value."
 abbrev pub sum_effect : (q : Registers) (next address last step label : ℕ) → Value → Effect
-sum_effect q next a l s label (Word x) = round_effect q next a l s label x
-sum_effect q next a l s label (Trap n) = Go 5 NoPush NoWrite (moved q next)
+sum_effect q next a l s label (Ok x) = round_effect q next a l s label x
+sum_effect q next a l s label (Err t) = Go 5 NoPush NoWrite (moved q next)
 
 -- NEXT [ adr, first, last, step, label ]. 02, K3: "The address must still be live and unprotected." So 32, 33, then the sum.
 unfoldable pub next_effect : (Ms : Modules) (q : Registers) (m : List ℕ) (next address last step label : ℕ) → Effect
@@ -81,7 +81,8 @@ switch_effect code q t n x =
 -- 01: "CALL tests callee, depth, memory": 23, 37, 35. "At most 64 calls are active". CALL_E does likewise, with three link words.
 abbrev pub if_callable : (absent : Bool) (q : Registers) (m : List ℕ) (links : ℕ) → Effect → Effect
 if_callable absent q m links e =
-    cond absent (trap 23) (cond (leb 64 q.calls) (trap 37) (cond (leb (q.mp + links) (length m)) e (trap 35)))
+    cond absent (trap Uncallable)
+    (cond (leb 64 q.calls) (trap CallsFull) (cond (leb (q.mp + links) (length m)) e (trap MemoryFull)))
 
 unfoldable pub call_effect : (code : List ℕ) (q : Registers) (m : List ℕ) (next callee : ℕ) → Effect
 call_effect code q m next p =
@@ -97,7 +98,8 @@ call_external_effect Ms q m next l p =
 -- ENTER: MEMORY(MP..MP+par-1) := the top par words; MP := MP + par + dat.
 unfoldable pub enter_effect : (q : Registers) (m : List ℕ) (next parameters words : ℕ) → Effect
 enter_effect q m next par dat =
-    cond (leb (q.mp + par + dat) (length m)) (Go par NoPush (WritePopped q.mp) (sized q next (q.mp + par + dat))) (trap 35)
+    cond (leb (q.mp + par + dat) (length m)) (Go par NoPush (WritePopped q.mp) (sized q next (q.mp + par + dat)))
+    (trap MemoryFull)
 
 -- 01: "RTN with no active call finishes and changes nothing."
 unfoldable pub rtn_effect : Registers → List ℕ → Effect

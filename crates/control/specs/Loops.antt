@@ -12,6 +12,7 @@ use Rattle.registers.specs.declared.Registers.{Registers}
 use Rattle.registers.specs.Memory.{read, live, protects}
 use Rattle.registers.specs.Changes.{moved}
 use Rattle.control.specs.Control.{next_effect}
+use Rattle.numbers.specs.declared.Trap.TheVariants.{NotLive, Protected, OutOfRange}
 
 -- In either direction, whatever the last value is.
 abbrev pub LeavesAtRangeEnd : Type 0
@@ -24,13 +25,14 @@ LeavesAtRangeEnd =
 abbrev pub TestsAddress : Type 0
 TestsAddress =
     (Ms : Modules) (q : Registers) (m : List ℕ) (next a l s label : ℕ)
-    → (live q a 1 ≡ false → next_effect Ms q m next a l s label ≡ Trap 32)
-    × (live q a 1 ≡ true → protects Ms q m a ≡ true → next_effect Ms q m next a l s label ≡ Trap 33)
+    → (live q a 1 ≡ false → next_effect Ms q m next a l s label ≡ Trap NotLive)
+    × (live q a 1 ≡ true → protects Ms q m a ≡ true → next_effect Ms q m next a l s label ≡ Trap Protected)
 
 -- "Refusals: NEXT no longer gives 31."
 abbrev pub NeverTraps31 : Type 0
 NeverTraps31 =
-    (Ms : Modules) (q : Registers) (m : List ℕ) (next a l s label : ℕ) → next_effect Ms q m next a l s label ≡ Trap 31 → ⊥
+    (Ms : Modules) (q : Registers) (m : List ℕ) (next a l s label : ℕ)
+    → next_effect Ms q m next a l s label ≡ Trap OutOfRange → ⊥
 
 -- 01: "with a step of 0 NEXT always goes round again".
 abbrev pub ZeroGoesRound : Type 0

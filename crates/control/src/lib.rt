@@ -11,8 +11,8 @@ ghost use Rattle.registers.specs.Modules.{modules_in, frames_start};
 ghost use Rattle.registers.specs.Changes.{moved};
 
 use effect::effect::{Effect, Push, Write};
+use numbers::Trap;
 use opcode::instruction::Arithmetic;
-use operate::Value;
 use registers::{Registers, access, table};
 use shape::Table;
 
@@ -34,7 +34,7 @@ pub fn jump_c_effect(q: Registers, next: u32, distance: u32, b: u32) -> Effect
     ensures { result ≡ jump_c_effect q next distance b }
 {
     if 1 < b {
-        return Effect::Trap(34);
+        return Effect::Trap(Trap::NotBoolean);
     }
     if b == 0 {
         return jump_to(q, 1, operand::place_at(q.pc, distance));
@@ -47,7 +47,7 @@ pub fn jump_tf_effect(q: Registers, next: u32, truth: u32, distance: u32, b: u32
     ensures { result ≡ jump_tf_effect q next truth distance b }
 {
     if 1 < b {
-        return Effect::Trap(34);
+        return Effect::Trap(Trap::NotBoolean);
     }
     if b == truth {
         return jump_to(q, 0, operand::place_at(q.pc, distance));
@@ -69,6 +69,7 @@ pub fn is_beyond(step: u32, x: u32, last: u32) -> bool
 }
 
 // ITER.
+#[tactic(auto, unfolding(crate::specs::Control::iter_effect))]
 pub fn iter_effect(
     table: &[u32],
     frames: u32,
@@ -90,10 +91,10 @@ pub fn iter_effect(
         return jump_to(q, 4, operand::place_at(q.pc, distance));
     }
     if !access::is_live(q, a as usize, 1) {
-        return Effect::Trap(32);
+        return Effect::Trap(Trap::NotLive);
     }
     if access::is_protected(table, frames, q, m, a as usize) {
-        return Effect::Trap(33);
+        return Effect::Trap(Trap::Protected);
     }
     Effect::Go(
         0,
@@ -113,7 +114,7 @@ fn round_effect(q: Registers, next: u32, a: u32, last: u32, step: u32, label: u3
     Effect::Go(0, Push::NoPush, Write::WriteOne(a, x), q.moved(label))
 }
 
-// NEXT with its sum: one outside the signed range (`Trap`) leaves the loop, and the variable keeps its value.
+// NEXT with its sum: one outside the signed range leaves the loop, and the variable keeps its value.
 fn sum_effect(
     q: Registers,
     next: u32,
@@ -121,13 +122,13 @@ fn sum_effect(
     last: u32,
     step: u32,
     label: u32,
-    sum: Value,
+    sum: Result<u32, Trap>,
 ) -> Effect
     ensures { result ≡ sum_effect q next a last step label sum }
 {
     match sum {
-        Value::Word(x) => round_effect(q, next, a, last, step, label, x),
-        Value::Trap(_) => jump_to(q, 5, next),
+        Ok(x) => round_effect(q, next, a, last, step, label, x),
+        Err(_) => jump_to(q, 5, next),
     }
 }
 
@@ -149,16 +150,17 @@ pub fn next_effect(
         → result ≡ next_effect (modules_in table.now copy) q m.now next a last step label }
 {
     if !access::is_live(q, a as usize, 1) {
-        return Effect::Trap(32);
+        return Effect::Trap(Trap::NotLive);
     }
     if access::is_protected(table, frames, q, m, a as usize) {
-        return Effect::Trap(33);
+        return Effect::Trap(Trap::Protected);
     }
     sum_effect(q, next, a, last, step, label, next_sum(m, a, step))
 }
 
 // The loop variable with the step added.
-fn next_sum(m: &[u32], a: u32, step: u32) -> Value
+#[tactic(auto, unfolding(crate::specs::Control::next_sum))]
+fn next_sum(m: &[u32], a: u32, step: u32) -> Result<u32, Trap>
     ensures { result ≡ next_sum m.now a step }
 {
     operate::arithmetic::signed_value(Arithmetic::Add, access::word_at(m, a as usize), step)
@@ -199,18 +201,19 @@ pub fn switch_effect(code: &[u8], q: Registers, table: Table, n: u32, x: u32) ->
 }
 
 // CALL.
+#[tactic(auto, unfolding(crate::specs::Control::call_effect))]
 pub fn call_effect(code: &[u8], q: Registers, m: &[u32], next: u32, p: u32) -> Effect
     requires { length m.now ≤ 16384 }
     ensures { result ≡ call_effect code.now q m.now next p }
 {
     if entries::is_no_callee(code, p) {
-        return Effect::Trap(23);
+        return Effect::Trap(Trap::Uncallable);
     }
     if 64 <= q.calls {
-        return Effect::Trap(37);
+        return Effect::Trap(Trap::CallsFull);
     }
     if m.len() < (q.mp as usize) + 2 {
-        return Effect::Trap(35);
+        return Effect::Trap(Trap::MemoryFull);
     }
     let entry = entries::entry_at(code, p) as u32;
     Effect::Go(
@@ -237,7 +240,7 @@ pub fn call_external_effect(
     ensures { result ≡ call_external_effect (modules_in table.now copy.now) q m.now next l p }
 {
     if table::is_no_library(table, l) {
-        return Effect::Trap(23);
+        return Effect::Trap(Trap::Uncallable);
     }
     let k = l as usize;
     let code = words::part(
@@ -246,13 +249,13 @@ pub fn call_external_effect(
         table::row_word(table, k, 1),
     );
     if entries::is_no_callee(code, p) {
-        return Effect::Trap(23);
+        return Effect::Trap(Trap::Uncallable);
     }
     if 64 <= q.calls {
-        return Effect::Trap(37);
+        return Effect::Trap(Trap::CallsFull);
     }
     if m.len() < (q.mp as usize) + 3 {
-        return Effect::Trap(35);
+        return Effect::Trap(Trap::MemoryFull);
     }
     let entry = entries::entry_at(code, p) as u32;
     let gp = table::globals_start(table, l) as u32;
@@ -265,13 +268,14 @@ pub fn call_external_effect(
 }
 
 // ENTER.
+#[tactic(auto, unfolding(crate::specs::Control::enter_effect))]
 pub fn enter_effect(q: Registers, m: &[u32], next: u32, parameters: u32, locals: u32) -> Effect
     requires { length m.now ≤ 16384 }
     ensures { result ≡ enter_effect q m.now next parameters locals }
 {
     let mp = (q.mp as usize) + (parameters as usize) + (locals as usize);
     if m.len() < mp {
-        return Effect::Trap(35);
+        return Effect::Trap(Trap::MemoryFull);
     }
     Effect::Go(
         parameters,

@@ -1,3 +1,2 @@
--- A cursor taken apart, and the words of a pair.
-pub mod Parts
+-- The words of a pair.
 pub mod Pairs

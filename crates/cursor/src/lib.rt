@@ -1,4 +1,4 @@
-// A cursor: a record and a place in it, kept together. Its functions take it apart and call `words` on the slice and the place.
+// A cursor: a record and a place in it, kept together. Its methods take it apart and call `words` on the slice and the place.
 #![tactic(auto)]
 
 ghost use Rattle.std.specs.Prelude.{◌≡◌};
@@ -18,31 +18,34 @@ pub struct Pair {
     pub second: u32,
 }
 
-// Where the cursor stands after a word; at or past the end it stays: what is read there is 0 in any case.
-pub fn place_after(record: &[u8], at: usize) -> usize
-    ensures { result ≡ place_after «record».now at }
-{
-    if at < record.len() { at + 4 } else { at }
-}
+impl<'a> Cursor<'a> {
+    pub fn opened(record: &'a [u8], at: usize) -> Self
+        ensures { (result.record ≡ «record».entry) × (result.at ≡ at) }
+    {
+        Cursor { record, at }
+    }
 
-pub fn opened<'a>(record: &'a [u8], at: usize) -> Cursor<'a>
-    ensures { (result.record ≡ «record».entry) × (result.at ≡ at) }
-{
-    Cursor { record, at }
-}
+    pub fn word(self) -> u32
+        ensures { result ≡ word_at self.entry.record.now self.entry.at }
+    {
+        words::word_at(self.record, self.at)
+    }
 
-pub fn word<'a>(c: Cursor<'a>) -> u32
-    ensures { result ≡ word_at c.entry.record.now c.entry.at }
-{
-    words::word_at(c.record, c.at)
-}
+    // Where the cursor stands after a word; at or past the end it stays: what is read there is 0 in any case.
+    pub fn place_after(self) -> usize
+        ensures { result ≡ place_after self.entry.record.now self.entry.at }
+    {
+        let Cursor { record, at } = self;
+        if at < record.len() { at + 4 } else { at }
+    }
 
-pub fn advanced<'a>(c: Cursor<'a>) -> Cursor<'a>
-    ensures { (result.record ≡ c.entry.record) × (result.at ≡ place_after c.entry.record.now c.entry.at) }
-{
-    Cursor {
-        record: c.record,
-        at: place_after(c.record, c.at),
+    pub fn advanced(self) -> Self
+        ensures { (result.record ≡ self.entry.record) × (result.at ≡ place_after self.entry.record.now self.entry.at) }
+    {
+        Cursor {
+            at: self.place_after(),
+            ..self
+        }
     }
 }
 
@@ -50,8 +53,8 @@ pub fn advanced<'a>(c: Cursor<'a>) -> Cursor<'a>
 pub fn pair_at(record: &[u8], at: usize) -> Pair
     ensures { result ≡ pair_at «record».now at }
 {
-    let c = opened(record, at);
-    let first = word(c);
-    let second = word(advanced(c));
+    let c = Cursor::opened(record, at);
+    let first = c.word();
+    let second = c.advanced().word();
     Pair { first, second }
 }

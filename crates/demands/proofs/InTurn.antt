@@ -13,8 +13,8 @@ use Rattle.module_set.specs.Members.{Members, single}
 use Rattle.relocation.specs.Relocation.{set_number}
 use Rattle.registers.specs.declared.Registers.{Registers}
 use Rattle.registers.specs.State.{state, registers_in}
-use Rattle.load.specs.declared.Loaded.{Loaded}
-use Rattle.load.specs.declared.Loaded.TheVariants.{Refused, Ready}
+use Rattle.load.specs.Loaded.{Loaded}
+use Rattle.std.specs.Prelude.{Err, Ok}
 use Rattle.load.specs.Load.{Loading, set_load, load_of}
 use Rattle.load.proofs.Modules.{set-some}
 use Rattle.verifier.specs.Exact.{AllBytes}
@@ -31,7 +31,7 @@ use Rattle.demands.specs.Calls.{SetInTurn, RecordInTurn}
 record Was (words : ℕ) (S : Members) (ps copy m s u : List ℕ) : Type 0 where
   registers : Registers
   sound : set_number S ≡ 0
-  ready : (set_load S ps copy m s).answer ≡ Ready registers
+  ready : (set_load S ps copy m s).answer ≡ Ok registers
   copied : (bench_load words S ps copy m s u).copy ≡ (set_load S ps copy m s).copy
   memory : (bench_load words S ps copy m s u).memory ≡ (set_load S ps copy m s).memory
   words_left : (bench_load words S ps copy m s u).state ≡ placed_state words registers 0
@@ -49,10 +49,10 @@ module _ (words : ℕ) (whole : Whole words) (S : Members) (ps copy m s u : List
   was-loaded : set_number S ≡ 0 → eqb (length u) words ≡ true → (l : Loaded) → (set_load S ps copy m s).answer ≡ l
       → (bench_load words S ps copy m s u).answer ≡ 0 → Was words S ps copy m s u
   unfolding bench_load
-  was-loaded sound fits (Refused n) e answered =
+  was-loaded sound fits (Err n) e answered =
       let none : n ≡ 0 = rw (sound, fits, e) at answered in
       absurd (not-zero n (load-numbers S ps copy m s n e) none)
-  was-loaded sound fits (Ready q) e answered =
+  was-loaded sound fits (Ok q) e answered =
       let behind : drop (length (placed_state words q 0)) u ≡ [] =
       drop_of_length-le u {i = length (placed_state words q 0)} (omega (arith, whole q, eqb-true (length u) words fits)) in
       record {

@@ -8,7 +8,7 @@ use Rattle.module_set.specs.Members.{Members}
 use Rattle.registers.specs.declared.Registers.{Registers}
 use Rattle.registers.specs.Modules.{Modules}
 use Rattle.registers.specs.State.{State, state}
-use Rattle.load.specs.declared.Loaded.TheVariants.{Ready}
+use Rattle.std.specs.Prelude.{Ok}
 use Rattle.load.specs.Modules.{modules_of}
 use Rattle.load.specs.Load.{Loading, set_load}
 use Rattle.stackmap.specs.Slots.{Slot}
@@ -29,7 +29,7 @@ pub record Fresh : Type 0 where
   pub registers : Registers
   pub are_bytes : AllBytes members
   pub accepted : AllAccepted members spaces
-  pub loaded : (set_load members parameters copy memory stack).answer ≡ Ready registers
+  pub loaded : (set_load members parameters copy memory stack).answer ≡ Ok registers
   pub ruled : Ruled members
 
 abbrev pub modules_in : Fresh → Modules

@@ -3,9 +3,11 @@
 
 ghost use Rattle.std.specs.Prelude.{◌≡◌};
 ghost use Rattle.joined.specs.Joined.{joined, joined_of};
+ghost use Rattle.numbers.specs.Number.{numbered};
 ghost use Rattle.demands.specs.Demands.{Demands};
 
-use run::Answer;
+use numbers::Refusal;
+use run::Ended;
 
 // Gives the check's number or the load's, or how the run ended.
 pub fn check_load_run(
@@ -16,8 +18,8 @@ pub fn check_load_run(
     budget: u32,
     memory: &mut [u32],
     stack: &mut [u32],
-) -> Answer
-    ensures { (joined result workspace.new memory.new stack.new
+) -> Result<Ended, Refusal>
+    ensures { (joined (numbered result) workspace.new memory.new stack.new
         ≡ joined_of r.now results.now workspace.old parameters.now budget
         memory.old stack.old) × Demands }
 {

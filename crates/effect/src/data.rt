@@ -6,8 +6,8 @@ ghost use Rattle.registers.specs.Memory.{chained};
 ghost use Rattle.registers.specs.Modules.{modules_in};
 
 use crate::effect::{Effect, Push, Write};
+use numbers::Trap;
 use opcode::instruction::{Base, Mode, Operation};
-use operate::Value;
 use registers::{Registers, access, table};
 
 // Whether a base is a library that is not there.
@@ -15,10 +15,7 @@ fn is_no_base(table: &[u32], base: Base) -> bool
     ensures { (copy : List ℕ) → result ≡ no_base (modules_in table.now copy) base }
 {
     match base {
-        Base::Local => false,
-        Base::Global => false,
-        Base::Constant => false,
-        Base::Popped => false,
+        Base::Local | Base::Global | Base::Constant | Base::Popped => false,
         Base::External(l) => table::is_no_library(table, l),
     }
 }
@@ -32,12 +29,7 @@ fn base_of(table: &[u32], q: Registers, m: &[u32], popped: u32, base: Base) -> u
     match base {
         Base::Local => q.fp as usize,
         Base::Global => q.gp as usize,
-        Base::Constant => {
-            if q.gp == 0 {
-                return access::word_at(m, 0) as usize;
-            }
-            access::word_at(m, (q.gp - 1) as usize) as usize
-        }
+        Base::Constant => access::word_at(m, q.gp.saturating_sub(1) as usize) as usize,
         Base::Popped => popped as usize,
         Base::External(l) => table::globals_start(table, l),
     }
@@ -59,11 +51,11 @@ pub fn load_effect(
         → result ≡ load_effect (modules_in table.now copy) q m.now next base mode offset popped }
 {
     if is_no_base(table, base) {
-        return Effect::Trap(23);
+        return Effect::Trap(Trap::Uncallable);
     }
     let a = base_of(table, q, m, popped, base) + (offset as usize);
     if !access::is_live(q, a, shape::words_in(mode) as usize) {
-        return Effect::Trap(32);
+        return Effect::Trap(Trap::NotLive);
     }
     Effect::Go(
         shape::popped_words(base),
@@ -99,13 +91,13 @@ pub fn load_address_effect(
         → result ≡ load_address_effect (modules_in table.now copy) q m.now next base offset popped }
 {
     if is_no_base(table, base) {
-        return Effect::Trap(23);
+        return Effect::Trap(Trap::Uncallable);
     }
     let a = base_of(table, q, m, popped, base) + (offset as usize);
     if a < 0x1_0000_0000 {
         return push_effect(q, next, shape::popped_words(base), a as u32);
     }
-    Effect::Trap(31)
+    Effect::Trap(Trap::OutOfRange)
 }
 
 // STOR_L, _G, _F, _E, of one word or two; `popped` is STOR_F's address word.
@@ -128,15 +120,15 @@ pub fn store_effect(
         → result ≡ store_effect (modules_in table.now copy) q m.now next base mode offset popped x y }
 {
     if is_no_base(table, base) {
-        return Effect::Trap(23);
+        return Effect::Trap(Trap::Uncallable);
     }
     let a = base_of(table, q, m, popped, base) + (offset as usize);
     let pops = shape::popped_words(base) + shape::words_in(mode);
     if !access::is_live(q, a, shape::words_in(mode) as usize) {
-        return Effect::Trap(32);
+        return Effect::Trap(Trap::NotLive);
     }
     if is_any_protected(table, frames, q, m, a, mode) {
-        return Effect::Trap(33);
+        return Effect::Trap(Trap::Protected);
     }
     Effect::Go(
         pops,
@@ -163,10 +155,8 @@ fn is_any_protected(
     match mode {
         Mode::Normal => access::is_protected(table, frames, q, m, a),
         Mode::Double => {
-            if access::is_protected(table, frames, q, m, a) {
-                return true;
-            }
-            access::is_protected(table, frames, q, m, a + 1)
+            access::is_protected(table, frames, q, m, a)
+                || access::is_protected(table, frames, q, m, a + 1)
         }
     }
 }
@@ -191,21 +181,21 @@ pub fn push_effect(q: Registers, next: u32, pops: u32, x: u32) -> Effect
 pub fn operate_effect(wraps: bool, q: Registers, next: u32, op: Operation, x: u32, y: u32) -> Effect
     ensures { result ≡ operate_effect wraps q next op x y }
 {
-    let value = operate::operation::operation_value(wraps, op, x, y);
-    match value {
-        Value::Word(x) => push_effect(q, next, shape::operand_words(op), x),
-        Value::Trap(n) => Effect::Trap(n),
+    match operate::operation::operation_value(wraps, op, x, y) {
+        Ok(x) => push_effect(q, next, shape::operand_words(op), x),
+        Err(trap) => Effect::Trap(trap),
     }
 }
 
 // ALLOC.
+#[tactic(auto, unfolding(crate::specs::Data::alloc_effect))]
 pub fn alloc_effect(q: Registers, m: &[u32], next: u32, size: u32) -> Effect
     requires { length m.now ≤ 16384 }
     ensures { result ≡ alloc_effect q m.now next size }
 {
     let mp = (q.mp as usize) + (size as usize);
     if m.len() < mp {
-        return Effect::Trap(35);
+        return Effect::Trap(Trap::MemoryFull);
     }
     Effect::Go(
         1,
@@ -220,7 +210,7 @@ pub fn free_effect(q: Registers, next: u32, size: u32) -> Effect
     ensures { result ≡ free_effect q next size }
 {
     if (q.mp as usize) < (q.fp as usize) + (size as usize) {
-        return Effect::Trap(38);
+        return Effect::Trap(Trap::BelowFrame);
     }
     Effect::Go(1, Push::NoPush, Write::NoWrite, q.sized(next, q.mp - size))
 }

@@ -1,5 +1,6 @@
 // What an instruction does, before any of it is done.
 
+use numbers::Trap;
 use registers::Registers;
 
 // The words that it pushes, the first one lower.
@@ -24,7 +25,7 @@ pub enum Write {
 // height, which the words give).
 #[derive(Clone, Copy)]
 pub enum Effect {
-    Trap(u32),
+    Trap(Trap),
     Finish,
     Go(u32, Push, Write, Registers),
 }

@@ -24,8 +24,6 @@ use Rattle.opcode.specs.declared.instruction.Mode.{Mode}
 use Rattle.opcode.specs.declared.instruction.Mode.TheVariants.{Normal, Double}
 use Rattle.operate.specs.Traps.{DataTrap}
 use Rattle.operate.specs.Operation.{operation_value}
-use Rattle.operate.specs.declared.Value.{Value}
-use Rattle.operate.specs.declared.Value.TheVariants.{Word, Trap as Stop}
 use Rattle.operate.proofs.Traps.{data-number, Valued, a-trap, operation-valued}
 use Rattle.shape.specs.Counts.{words_in, operands}
 use Rattle.shape.specs.declared.Shape.{Shape}
@@ -49,6 +47,11 @@ use Rattle.control.specs.Control.{beyond, jump_effect, jump_c_effect, jump_tf_ef
 use Rattle.control.specs.Control.{switch_distance, switch_effect, call_effect, call_external_effect, enter_effect, rtn_effect}
 use Rattle.registers.proofs.Rows.{library-below}
 use Rattle.execute.specs.Execute.{word, execute}
+use Rattle.std.specs.Prelude.{Ok, Err}
+use Rattle.operate.specs.Value.{Value}
+use Rattle.numbers.specs.declared.Trap.TheVariants.{Uncallable, OutOfRange, NotLive, Protected, NotBoolean, MemoryFull, CallsFull, BelowFrame}
+use Rattle.numbers.specs.declared.Trap.{Trap as Cause}
+use Rattle.numbers.specs.TrapNumber.{trap_number}
 
 -- The instruction names a library that is not there.
 abbrev pub lacks : Modules → Instruction → Bool
@@ -77,8 +80,8 @@ lacks Ms (Enter par dat) = false
 lacks Ms Rtn = false
 
 pub data Acts (P : Program) (S : State) (next : ℕ) (i : Instruction) : Shape → Effect → Type 0 where
-  traps : {s : Shape} {n : ℕ} → DataTrap n → Acts P S next i s (Trap n)
-  no-library : {s : Shape} → lacks P.modules i ≡ true → Acts P S next i s (Trap 23)
+  traps : {s : Shape} {t : Cause} → DataTrap (trap_number t) → Acts P S next i s (Trap t)
+  no-library : {s : Shape} → lacks P.modules i ≡ true → Acts P S next i s (Trap Uncallable)
   passes : {pops come : ℕ} {push : Push} → pushes push ≡ come
       → Acts P S next i (shape.Straight pops come) (Go pops push NoWrite (moved S.registers next))
   resizes : {pops come mp : ℕ} {push : Push} → pushes push ≡ come
@@ -106,12 +109,12 @@ pub data Acts (P : Program) (S : State) (next : ℕ) (i : Instruction) : Shape �
       → Acts P S next i (shape.Switch t n) (Go 1 (PushOne (exit_label P.code S.registers.pc)) NoWrite
       (moved S.registers (place_at S.registers.pc (switch_distance P.code S.registers.pc t n x))))
   leaves-switch : Acts P S next i shape.Leave (Go 1 NoPush NoWrite (moved S.registers (word S 0)))
-  no-callee : {p : ℕ} → no_callee P.code p ≡ true → Acts P S next i (shape.Call p) (Trap 23)
+  no-callee : {p : ℕ} → no_callee P.code p ≡ true → Acts P S next i (shape.Call p) (Trap Uncallable)
   calls : {p : ℕ} → S.registers.calls < 64 → S.registers.mp + 2 ≤ length S.memory
       → Acts P S next i (shape.Call p) (Go 0 NoPush (WriteTwo S.registers.mp S.registers.fp next)
       (called S.registers 2 S.registers.gp (entry_at P.code p)))
   no-external-callee : {l p : ℕ} → no_callee (module_at P.modules l).code p ≡ true
-      → Acts P S next i (shape.CallExternal l p) (Trap 23)
+      → Acts P S next i (shape.CallExternal l p) (Trap Uncallable)
   calls-external : {l p : ℕ} → l < length P.modules → S.registers.calls < 64 → S.registers.mp + 3 ≤ length S.memory
       → Acts P S next i (shape.CallExternal l p) (Go 0 NoPush
       (WriteThree S.registers.mp S.registers.gp S.registers.fp (negated next))
@@ -140,49 +143,51 @@ module _ (P : Program) (S : State) (next : ℕ) where
     Is s e = Acts P S next i s e
 
     -- A test whose failure is a data trap.
-    tested : (s : Shape) (t : Bool) (e : Effect) (n : ℕ) → DataTrap n → (t ≡ true → Is s e) → Is s (cond t e (Trap n))
-    tested s t e n d h = by-test (Is s) t e (Trap n) h (λ l. traps d)
+    tested : (s : Shape) (t : Bool) (e : Effect) (w : Cause) → DataTrap (trap_number w) → (t ≡ true → Is s e)
+        → Is s (cond t e (Trap w))
+    tested s t e w d h = by-test (Is s) t e (Trap w) h (λ l. traps d)
 
-    guarded : (s : Shape) (t : Bool) (e : Effect) (n : ℕ) → DataTrap n → (t ≡ false → Is s e) → Is s (cond t (Trap n) e)
-    guarded s t e n d h = by-test (Is s) t (Trap n) e (λ l. traps d) h
+    guarded : (s : Shape) (t : Bool) (e : Effect) (w : Cause) → DataTrap (trap_number w) → (t ≡ false → Is s e)
+        → Is s (cond t (Trap w) e)
+    guarded s t e w d h = by-test (Is s) t (Trap w) e (λ l. traps d) h
 
     value-acts : (pops : ℕ) (v : Value) → Valued v → Is (shape.Straight pops 1) (value_effect q next pops v)
-    value-acts pops (Word x) h = passes refl
-    value-acts pops (Stop n) (a-trap d) = traps d
+    value-acts pops (Ok x) h = passes refl
+    value-acts pops (Err t) (a-trap d) = traps d
 
     storable-acts : (s : Shape) (a : ℕ) (mode : Mode) (e : Effect) → (protects_any Ms q m a mode ≡ false → Is s e)
         → Is s (if_storable Ms q m a mode e)
     storable-acts s a mode e h =
-        tested s (live q a (words_in mode)) _ 32 (data-number 32 refl refl)
-        (λ l. guarded s (protects_any Ms q m a mode) e 33 (data-number 33 refl refl) h)
+        tested s (live q a (words_in mode)) _ NotLive (data-number 32 refl refl)
+        (λ l. guarded s (protects_any Ms q m a mode) e Protected (data-number 33 refl refl) h)
 
     jump-tf-acts : (truth d b : ℕ) → Is (shape.JumpTF d) (jump_tf_effect q next truth d b)
     unfolding jump_tf_effect
     jump-tf-acts truth d b =
-        tested (shape.JumpTF d) (ltb b 2) _ 34 (data-number 34 refl refl)
+        tested (shape.JumpTF d) (ltb b 2) _ NotBoolean (data-number 34 refl refl)
         (λ l. by-test (Is (shape.JumpTF d)) (eqb b truth) _ _ (λ e. keeps-boolean) (λ e. pops-boolean))
 
     sum-acts : (a l s : ℕ) (v : Value) → protects Ms q m a ≡ false
         → Is shape.Next (sum_effect q next a l s (word S 4) v)
-    sum-acts a l s (Word x) p =
+    sum-acts a l s (Ok x) p =
         by-test (Is shape.Next) (beyond (to_z w32 s) (to_z w32 x) (to_z w32 l)) _ _ (λ e. leaves_loop a x p) (λ e. repeats-loop a x p)
-    sum-acts a l s (Stop n) p = leaves-by-sum
+    sum-acts a l s (Err t) p = leaves-by-sum
 
     call-acts : (p : ℕ) → Is (shape.Call p) (call_effect P.code q m next p)
     unfolding call_effect
     call-acts p =
-        by-test (Is (shape.Call p)) (no_callee P.code p) (Trap 23) _ no-callee
-        (λ c. guarded (shape.Call p) (leb 64 q.calls) _ 37 (data-number 37 refl refl)
-        (λ d. tested (shape.Call p) (leb (q.mp + 2) (length m)) _ 35 (data-number 35 refl refl)
+        by-test (Is (shape.Call p)) (no_callee P.code p) (Trap Uncallable) _ no-callee
+        (λ c. guarded (shape.Call p) (leb 64 q.calls) _ CallsFull (data-number 37 refl refl)
+        (λ d. tested (shape.Call p) (leb (q.mp + 2) (length m)) _ MemoryFull (data-number 35 refl refl)
         (λ r. calls (leb-false 64 q.calls d) (leb-true (q.mp + 2) (length m) r))))
 
     -- What counts from a library.
     based : (s : Shape) (base : Base) (e : Effect) → lacks Ms i ≡ no_base Ms base → Is s e → Is s (if_base Ms base e)
-    based s base e h k = by-test (Is s) (no_base Ms base) (Trap 23) e (λ t. no-library (h ∙ t)) (λ t. k)
+    based s base e h k = by-test (Is s) (no_base Ms base) (Trap Uncallable) e (λ t. no-library (h ∙ t)) (λ t. k)
 
   -- No such library, or no such callee in it.
   either-lacks : (l p : ℕ) (t : Bool) → no_library Ms l ≡ t → (t || no_callee (module_at Ms l).code p) ≡ true
-      → Acts P S next (CallExternal l p) (shape.CallExternal l p) (Trap 23)
+      → Acts P S next (CallExternal l p) (shape.CallExternal l p) (Trap Uncallable)
   either-lacks l p true e h = no-library e
   either-lacks l p false e h = no-external-callee h
 
@@ -197,10 +202,11 @@ module _ (P : Program) (S : State) (next : ℕ) where
   acts (Load base mode n) =
       let a = base_of Ms q m (word S 0) base + n in
       based _ _ base _ refl
-      (tested _ _ (live q a (words_in mode)) _ 32 (data-number 32 refl refl) (λ l. passes (loaded-words a mode)))
+      (tested _ _ (live q a (words_in mode)) _ NotLive (data-number 32 refl refl) (λ l. passes (loaded-words a mode)))
   acts (LoadAddress base n) =
       based _ _ base _ refl
-      (tested _ _ (ltb (base_of Ms q m (word S 0) base + n) 0x1_0000_0000) _ 31 (data-number 31 refl refl) (λ l. passes refl))
+      (tested _ _ (ltb (base_of Ms q m (word S 0) base + n) 0x1_0000_0000) _ OutOfRange (data-number 31 refl refl)
+      (λ l. passes refl))
   acts (Store base mode n) =
       based _ _ base _ refl (storable-acts _ _ (base_of Ms q m (word S 0) base + n) mode _ (stores _ _ _ mode))
   acts (Pop n) = drops
@@ -210,13 +216,13 @@ module _ (P : Program) (S : State) (next : ℕ) where
       value-acts _ (operands op) (operation_value P.attributes.wraps op (word S 0) (word S 1))
       (operation-valued P.attributes.wraps op (word S 0) (word S 1))
   acts Alloc =
-      tested _ _ (leb (q.mp + word S 0) (length m)) _ 35 (data-number 35 refl refl)
+      tested _ _ (leb (q.mp + word S 0) (length m)) _ MemoryFull (data-number 35 refl refl)
       (λ l. resizes refl (λ f. omega arith) (λ f. leb-true (q.mp + word S 0) (length m) l))
   acts Free =
-      tested _ _ (leb (q.fp + word S 0) q.mp) _ 38 (data-number 38 refl refl)
+      tested _ _ (leb (q.fp + word S 0) q.mp) _ BelowFrame (data-number 38 refl refl)
       (λ l. resizes refl (λ f. omega (arith, leb-true (q.fp + word S 0) q.mp l)) (λ f. omega arith))
   acts (Jump d) = jumps
-  acts (JumpC d) = tested _ _ (ltb (word S 0) 2) _ 34 (data-number 34 refl refl) (λ l. branches (eqb (word S 0) 0))
+  acts (JumpC d) = tested _ _ (ltb (word S 0) 2) _ NotBoolean (data-number 34 refl refl) (λ l. branches (eqb (word S 0) 0))
   acts (JumpT d) = jump-tf-acts _ 1 d (word S 0)
   acts (JumpF d) = jump-tf-acts _ 0 d (word S 0)
   acts (Iter d) =
@@ -230,13 +236,13 @@ module _ (P : Program) (S : State) (next : ℕ) where
   acts Leave = leaves-switch
   acts (Call p) = call-acts _ p
   acts (CallExternal l p) =
-      by-test (Acts P S next _ (shape.CallExternal l p)) (no_library Ms l || no_callee (module_at Ms l).code p) (Trap 23) _
+      by-test (Acts P S next _ (shape.CallExternal l p)) (no_library Ms l || no_callee (module_at Ms l).code p) (Trap Uncallable) _
       (λ t. either-lacks l p (no_library Ms l) refl t)
-      (λ t. guarded _ (shape.CallExternal l p) (leb 64 q.calls) _ 37 (data-number 37 refl refl)
-      (λ d. tested _ (shape.CallExternal l p) (leb (q.mp + 3) (length m)) _ 35 (data-number 35 refl refl)
+      (λ t. guarded _ (shape.CallExternal l p) (leb 64 q.calls) _ CallsFull (data-number 37 refl refl)
+      (λ d. tested _ (shape.CallExternal l p) (leb (q.mp + 3) (length m)) _ MemoryFull (data-number 35 refl refl)
       (λ r. calls-external (library-below Ms l (first (no_library Ms l) _ t)) (leb-false 64 q.calls d)
       (leb-true (q.mp + 3) (length m) r))))
   acts (Enter par dat) =
-      tested _ _ (leb (q.mp + par + dat) (length m)) _ 35 (data-number 35 refl refl)
+      tested _ _ (leb (q.mp + par + dat) (length m)) _ MemoryFull (data-number 35 refl refl)
       (λ l. enters (q.mp + par + dat) (omega arith) (leb-true (q.mp + par + dat) (length m) l))
   acts Rtn = by-test (Acts P S next _ shape.Rtn) (eqb q.calls 0) Finish _ (λ e. finishes) (λ e. returns (eqb-false q.calls 0 e))

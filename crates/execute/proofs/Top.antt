@@ -14,7 +14,6 @@ use Rattle.opcode.specs.declared.instruction.Operation.{Operation}
 use Rattle.opcode.specs.declared.instruction.Operation.TheVariants.{Signed, Unsigned, Negate, Equal, NotEqual}
 use Rattle.opcode.specs.declared.instruction.Operation.TheVariants.{CompareSigned, CompareUnsigned, Set, Not}
 use Rattle.opcode.specs.declared.instruction.Instruction.TheVariants.{Store, Iter, Next}
-use Rattle.operate.specs.declared.Value.{Value}
 use Rattle.operate.specs.Operation.{operation_value}
 use Rattle.shape.specs.Counts.{popped, words_in, operands}
 use Rattle.shape.specs.Shape.{shape_of}
@@ -27,6 +26,7 @@ use Rattle.control.specs.Control.{iter_effect, next_effect}
 use Rattle.registers.specs.State.{state}
 use Rattle.effect.specs.declared.effect.Effect.{Effect}
 use Rattle.execute.specs.Execute.{top_words, executed, execute}
+use Rattle.operate.specs.Value.{Value}
 
 -- Word j of the top n stands at depth n - j.
 pub found : (s : List ℕ) (h n j : ℕ) → n ≤ h → j < n → read (top_words n h s) j ≡ read s (h - (n - j))

@@ -19,10 +19,7 @@ use shape::Table;
 fn peek(s: &[u32], q: Registers, depth: u32) -> u32
     ensures { result ≡ read s.now (q.height - depth) }
 {
-    if q.height < depth {
-        return access::word_at(s, 0);
-    }
-    access::word_at(s, (q.height - depth) as usize)
+    access::word_at(s, q.height.saturating_sub(depth) as usize)
 }
 
 // STOR: the address, if it is popped, lies below the words.

@@ -7,7 +7,7 @@ use native.Mathlib.Omega.{arith}
 use lib.ListN.{length, set}
 use borrow.Author.Tests.{lt-ltb, le-leb}
 use Rattle.opcode.specs.Decode.{decode_at}
-use Rattle.opcode.specs.declared.Decoded.TheVariants.{At}
+use Rattle.std.specs.Prelude.{Ok}
 use Rattle.opcode.specs.declared.instruction.Instruction.{Instruction}
 use Rattle.opcode.specs.declared.instruction.Instruction.TheVariants.{LoadConstant, Load, LoadAddress, Store, Pop, Swap, Nop}
 use Rattle.opcode.specs.declared.instruction.Base.TheVariants.{Local, Global, Constant, Popped}
@@ -29,7 +29,7 @@ module _ (P : Program) (q : Registers) (pc h : ℕ) (m s : List ℕ) (R : Ready 
     (next : ℕ)
     (inside : next < length P.code) where
   abbrev Decodes : Instruction → Type 0
-  Decodes i = decode_at P.code (length P.code) pc ≡ At i next
+  Decodes i = decode_at P.code (length P.code) pc ≡ Ok (i, next)
 
   F : Fitting P.attributes (state_at q (spot pc h m s))
   F = ready-fitting P (state_at q (spot pc h m s)) R

@@ -11,7 +11,7 @@ use Rattle.operand.specs.Operand.{Operands, extent, operand, operand2}
 use Rattle.opcode.specs.Table.{Modes, allows, row, find, short_table, row_of}
 use Rattle.opcode.specs.Length.{length_in}
 use Rattle.opcode.specs.Decode.{instruction_at, decode_at}
-use Rattle.opcode.specs.declared.Decoded.TheVariants.{At}
+use Rattle.std.specs.Prelude.{Ok}
 use Rattle.opcode.specs.declared.instruction.Instruction.{Instruction}
 use Rattle.opcode.specs.declared.instruction.Mode.{Mode}
 use Rattle.opcode.specs.declared.instruction.Mode.TheVariants.{Normal, Double}
@@ -29,13 +29,13 @@ module _ (code : List ℕ) (operands : Operands) (modes : Modes) (make : Mode �
   pub decodes : (at next : ℕ) → row_of (byte_at code at) ≡ row operands modes make → (byte_at code at ≡ 0xF5 → ⊥)
       → allows modes Normal ≡ true
       → at < next → next ≡ at + extent operands code at → next ≤ length code
-      → decode_at code (length code) at ≡ At (make Normal (operand operands code at) (operand2 operands code at)) next
+      → decode_at code (length code) at ≡ Ok ((make Normal (operand operands code at) (operand2 operands code at)), next)
   decodes at next e f a l n w = decoded code (length code) _ next at (single f (in-mode Normal (length code) at next e a l n w))
 
   pub decodes-double : (at next : ℕ) → byte_at code at ≡ 0xF5 → row_of (byte_at code (at + 1)) ≡ row operands modes make
       → allows modes Double ≡ true → at + 1 < next → next ≡ at + 1 + extent operands code (at + 1) → next ≤ length code
-      → decode_at code (length code) at ≡ At (make Double (operand operands code (at + 1)) (operand2 operands code (at + 1)))
-      next
+      → decode_at code (length code) at
+      ≡ Ok (make Double (operand operands code (at + 1)) (operand2 operands code (at + 1)), next)
   decodes-double at next f e a l n w =
       decoded code (length code) _ next at (double f (in-mode Double (length code) (at + 1) next e a l n w))
 

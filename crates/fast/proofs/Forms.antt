@@ -6,7 +6,7 @@ use native.Mathlib.Numerals.{add-one}
 use native.Mathlib.Omega.{arith}
 use lib.ListN.{length, set}
 use Rattle.opcode.specs.Decode.{decode_at}
-use Rattle.opcode.specs.declared.Decoded.TheVariants.{At}
+use Rattle.std.specs.Prelude.{Ok}
 use Rattle.opcode.specs.declared.instruction.Instruction.{Instruction}
 use Rattle.shape.specs.Shape.{needed}
 use Rattle.effect.specs.declared.effect.Push.{Push}
@@ -29,7 +29,7 @@ Ends P q T N = (N.pc < length P.code) × (step_of P (state_at q T) ≡ after Wen
 
 -- `low` is where the words that go began.
 module _ (P : Program) (q : Registers) (pc h : ℕ) (m s : List ℕ) (i : Instruction) (next place : ℕ)
-    (d : decode_at P.code (length P.code) pc ≡ At i next) (enough : needed i ≤ h) (stays : q.gp ≡ P.attributes.globals)
+    (d : decode_at P.code (length P.code) pc ≡ Ok (i, next)) (enough : needed i ≤ h) (stays : q.gp ≡ P.attributes.globals)
     (inside : place < length P.code) where
   abbrev T : Spot
   T = spot pc h m s

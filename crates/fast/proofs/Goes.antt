@@ -6,7 +6,7 @@ use lib.ListN.{length}
 use lib.Seq.{sets}
 use borrow.Author.Tests.{lt-ltb, le-ltb, eq-eqb}
 use Rattle.opcode.specs.Decode.{decode_at}
-use Rattle.opcode.specs.declared.Decoded.TheVariants.{At}
+use Rattle.std.specs.Prelude.{Ok}
 use Rattle.opcode.specs.declared.instruction.Instruction.{Instruction}
 use Rattle.shape.specs.Shape.{needed}
 use Rattle.effect.specs.declared.effect.Push.{Push}
@@ -26,7 +26,7 @@ use Rattle.fast.specs.Fast.{Spot, state_at, Became, Did}
 
 -- Where the instruction's words are there and its effect has room and a place within the code, the effect is carried out.
 pub went : (P : Program) (S : State) (i : Instruction) (next pops : ℕ) (push : Push) (write : Write) (q : Registers)
-    → decode_at P.code (length P.code) S.registers.pc ≡ At i next → needed i ≤ S.registers.height
+    → decode_at P.code (length P.code) S.registers.pc ≡ Ok (i, next) → needed i ≤ S.registers.height
     → executed P S next i ≡ Go pops push write q → S.registers.height - pops + pushes push ≤ length S.stack
     → q.gp ≡ P.attributes.globals → q.pc < length P.code → step_of P S ≡ after Went (applied S pops push write q)
 unfolding step_of perform apply
@@ -42,7 +42,7 @@ went P S i next pops push write q d enough e room stays inside =
 
 -- The same of a spot: the registers but for place and height stay.
 pub goes : (P : Program) (q : Registers) (T N : Spot) (i : Instruction) (next pops : ℕ) (push : Push) (write : Write)
-    → decode_at P.code (length P.code) T.pc ≡ At i next → needed i ≤ T.height
+    → decode_at P.code (length P.code) T.pc ≡ Ok (i, next) → needed i ≤ T.height
     → executed P (state_at q T) next i ≡ Go pops push write (moved (state_at q T).registers N.pc)
     → T.height - pops + pushes push ≤ length T.stack → q.gp ≡ P.attributes.globals → N.pc < length P.code
     → N.height ≡ T.height - pops + pushes push → N.memory ≡ written T.memory (top_words pops T.height T.stack) write

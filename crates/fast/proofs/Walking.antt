@@ -1,14 +1,14 @@
 -- A walk down the links of the active calls, without a count: an address past the data areas ends it, since the first frame
 -- lies at their end.
-use mathlib.Core.Path.{◌≡◌, refl, sym}
-use mathlib.Core.Bool.{Bool, true, false}
+use mathlib.Core.Path.{◌≡◌, sym}
+use mathlib.Core.Bool.{true, false}
 use mathlib.Core.List.{List}
 use Prim.Native.Nat.{ℕ, ◌+◌, ◌-◌, ◌≤◌, ◌<◌}
 use native.Mathlib.Nat.{lt_of_not-le}
 use native.Mathlib.Omega.{arith}
 use lib.Dec.{leb}
 use lib.ListN.{length}
-use borrow.Author.Tests.{le-leb, lt-leb, leb-true, leb-false}
+use borrow.Author.Tests.{lt-leb}
 use Rattle.words.proofs.Left.{one_left}
 use Rattle.registers.specs.Memory.{saved_fp, link_words, is_link, chained}
 use Rattle.registers.proofs.Links.{link-range, Walked, walked_start, walked-above, walked_near, walked_next, chain-end, chain-lower}
@@ -55,10 +55,3 @@ module _ (m : List ℕ) (start fp calls a frame : ℕ) (low : start ≤ a) (W : 
 -- A link word is at most three below its frame.
 pub near-far : (m : List ℕ) (frame a : ℕ) → 3 < frame - a → false ≡ leb frame (a + link_words m frame)
 near-far m frame a h = sym (lt-leb frame (a + link_words m frame) (omega (arith, link-range m frame)))
-
-pub near-words : (frame a n : ℕ) → a < frame → leb (frame - a) n ≡ leb frame (a + n)
-near-words frame a n h = by (leb (frame - a) n) refl
-  where
-    by : (t : Bool) → leb (frame - a) n ≡ t → leb (frame - a) n ≡ leb frame (a + n)
-    by true e = rw (e, le-leb frame (a + n) (omega (arith, leb-true (frame - a) n e)))
-    by false e = rw (e, lt-leb frame (a + n) (omega (arith, leb-false (frame - a) n e)))

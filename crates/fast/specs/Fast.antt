@@ -1,8 +1,7 @@
 -- Steps that complete, as the fast loop holds them: place, height, memory and stack go on, the other registers stay. Each function
 -- answers whether it was done; where it was not, nothing was written. These are no rules: the general step has them.
-use Rattle.std.specs.Prelude.{◌≡◌, Bool, true, false, not, ◌&&◌, ◌||◌, List, ℕ, suc, ◌-◌, ◌<◌, ◌≤◌, leb, ltb, length}
+use Rattle.std.specs.Prelude.{◌≡◌, Bool, true, false, not, ◌&&◌, ◌||◌, List, ℕ, suc, ◌-◌, ◌<◌, ◌≤◌, leb, ltb, length, Ok, Err}
 use Rattle.opcode.specs.Decode.{decode_at}
-use Rattle.opcode.specs.declared.Decoded.TheVariants.{At}
 use Rattle.opcode.specs.declared.instruction.Instruction.{Instruction}
 use Rattle.registers.specs.declared.Attributes.{Attributes}
 use Rattle.registers.specs.declared.Registers.{Registers}
@@ -11,11 +10,10 @@ use Rattle.registers.specs.Program.{Program}
 use Rattle.registers.specs.Memory.{is_link}
 use Rattle.registers.specs.State.{State, state}
 use Rattle.registers.specs.Changes.{moved, raised}
-use Rattle.operate.specs.declared.Value.{Value}
-use Rattle.operate.specs.declared.Value.TheVariants.{Word, Trap}
 use Rattle.step.specs.declared.Outcome.TheVariants.{Went}
 use Rattle.step.specs.Step.{after, step_of}
 use Rattle.step.specs.Ready.{Ready}
+use Rattle.operate.specs.Value.{Value}
 
 -- What a fast step changes.
 pub record Spot : Type 0 where
@@ -32,7 +30,7 @@ state_at q T = state (raised (moved q T.pc) T.height) T.memory T.stack
 
 -- The instruction at a place, and the place after it.
 abbrev pub Decodes : (code : List ℕ) (pc : ℕ) → Instruction → (next : ℕ) → Type 0
-Decodes code pc i next = decode_at code (length code) pc ≡ At i next
+Decodes code pc i next = decode_at code (length code) pc ≡ Ok (i, next)
 
 -- Done: C holds, and N stands for T. Not done: T stays, and nothing is said of C.
 abbrev pub Became : Bool → (C : Type 0) (T N T' : Spot) → Type 0
@@ -73,9 +71,9 @@ free A q m a = plain A q.fp a || (leb A.frames a && not (is_link m q.fp q.calls 
 
 -- What an operation gives: a word, and which.
 abbrev pub is_word : Value → Bool
-is_word (Word x) = true
-is_word (Trap n) = false
+is_word (Ok x) = true
+is_word (Err t) = false
 
 abbrev pub word_of : Value → ℕ
-word_of (Word x) = x
-word_of (Trap n) = 0
+word_of (Ok x) = x
+word_of (Err t) = 0

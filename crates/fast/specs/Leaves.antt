@@ -3,8 +3,8 @@ use Rattle.std.specs.Prelude.{◌≡◌, Bool, true, ℕ, ◌+◌, ◌-◌, ◌<
 use Rattle.registers.specs.declared.Attributes.{Attributes}
 use Rattle.registers.specs.declared.Registers.{Registers}
 use Rattle.registers.specs.Memory.{read}
-use Rattle.operate.specs.declared.Value.{Value}
 use Rattle.fast.specs.Fast.{Spot, spot, Became, plain, free, is_word, word_of}
+use Rattle.operate.specs.Value.{Value}
 
 -- The k-th word from the top of the stack, which is word 1.
 abbrev pub top : Spot → ℕ → ℕ

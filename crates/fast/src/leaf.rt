@@ -112,13 +112,7 @@ pub fn address_popped(
 pub fn is_plain(attributes: Attributes, fp: usize, a: usize) -> bool
     ensures { result ≡ plain attributes fp a }
 {
-    if fp <= a {
-        return true;
-    }
-    if a < (attributes.globals as usize) {
-        return false;
-    }
-    a < (attributes.constants as usize)
+    fp <= a || ((attributes.globals as usize) <= a && a < (attributes.constants as usize))
 }
 
 // Says whether `a` is one of the link words just below a frame.
@@ -126,10 +120,7 @@ fn is_near(memory: &[u32], frame: usize, a: usize) -> bool
     requires { a < frame }
     ensures { result ≡ leb frame (a + link_words memory.now frame) }
 {
-    if 3 < frame - a {
-        return false;
-    }
-    frame - a <= access::link_words(memory, frame)
+    frame - a <= 3 && frame - a <= access::link_words(memory, frame)
 }
 
 // Says whether `a`, past the data frames, is a link word. Each saved FP lies below its frame, and the last one at `start`.
@@ -155,14 +146,9 @@ fn is_free(attributes: Attributes, q: Registers, memory: &[u32], a: usize) -> bo
     requires fp_in_bounds { q.fp ≤ length memory.now }
     ensures { result ≡ free attributes q memory.now a }
 {
-    if is_plain(attributes, q.fp as usize, a) {
-        return true;
-    }
     let start = attributes.frames as usize;
-    if a < start {
-        return false;
-    }
-    !is_link(memory, start, q.fp as usize, q.calls as usize, a)
+    is_plain(attributes, q.fp as usize, a)
+        || (start <= a && !is_link(memory, start, q.fp as usize, q.calls as usize, a))
 }
 
 // Stores the top word to a live word of the running frame, or a live global.

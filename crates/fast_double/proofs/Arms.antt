@@ -6,7 +6,7 @@ use Prim.Native.Nat.{ℕ, ◌+◌, ◌≤◌, ◌<◌}
 use native.Mathlib.Omega.{arith}
 use lib.ListN.{length}
 use Rattle.opcode.specs.Decode.{decode_at}
-use Rattle.opcode.specs.declared.Decoded.TheVariants.{At}
+use Rattle.std.specs.Prelude.{Ok}
 use Rattle.opcode.specs.declared.instruction.Instruction.{Instruction}
 use Rattle.opcode.specs.declared.instruction.Instruction.TheVariants.{Load, Store}
 use Rattle.opcode.specs.declared.instruction.Base.TheVariants.{Local, Global, Constant, Popped}
@@ -42,7 +42,7 @@ module _ (code : List ℕ) (A : Attributes) (q : Registers) (pc h : ℕ) (m s : 
   T = spot pc h m s
 
   abbrev Decodes : Instruction → Type 0
-  Decodes i = decode_at code (length code) pc ≡ At i next
+  Decodes i = decode_at code (length code) pc ≡ Ok (i, next)
 
   abbrev Done : Type 0
   Done = Did t L q T T'

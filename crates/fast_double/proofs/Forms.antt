@@ -11,7 +11,7 @@ use Rattle.words.specs.Bytes.{byte_at, halfword_at}
 use Rattle.operand.specs.Operand.{Operands, digit, unsigned, b as byte, h as half, extent, operand, operand2}
 use Rattle.opcode.specs.Table.{Modes, allows, row, find, short_table, row_of}
 use Rattle.opcode.specs.Decode.{decode_at}
-use Rattle.opcode.specs.declared.Decoded.TheVariants.{At}
+use Rattle.std.specs.Prelude.{Ok}
 use Rattle.opcode.specs.declared.instruction.Instruction.{Instruction}
 use Rattle.opcode.specs.declared.instruction.Mode.{Mode}
 use Rattle.opcode.specs.declared.instruction.Mode.TheVariants.{Normal, Double}
@@ -25,7 +25,7 @@ pub data Starts (code : List ℕ) (pc : ℕ) : Mode → ℕ → Type 0 where
 module _ (code : List ℕ) (pc : ℕ) (operands : Operands) (modes : Modes) (make : Mode → ℕ → ℕ → Instruction) where
   in-form : (mode : Mode) (at next : ℕ) → Starts code pc mode at → row_of (byte_at code at) ≡ row operands modes make
       → allows modes mode ≡ true → at < next → next ≡ at + extent operands code at → next ≤ length code
-      → decode_at code (length code) pc ≡ At (make mode (operand operands code at) (operand2 operands code at)) next
+      → decode_at code (length code) pc ≡ Ok ((make mode (operand operands code at) (operand2 operands code at)), next)
   in-form Normal at next (at_once f) r a l n w = decodes code operands modes make pc next r f a l n w
   in-form Double at next (behind f) r a l n w = decodes-double code operands modes make pc next f r a l n w
 
@@ -34,7 +34,7 @@ module _ (code : List ℕ) (pc : ℕ) (operands : Operands) (modes : Modes) (mak
       → row_of k ≡ row operands modes make
       → allows modes mode ≡ true → operand operands code at ≡ n → at < next → next ≡ at + extent operands code at
       → next ≤ length code
-      → decode_at code (length code) pc ≡ At (make mode n (operand2 operands code at)) next
+      → decode_at code (length code) pc ≡ Ok ((make mode n (operand2 operands code at)), next)
   long-form mode at next k n st e r a o l x w = rw (← o) (in-form mode at next st (rw e r) a l x w)
 
 -- Codes that are not DOUBLE.
@@ -45,7 +45,7 @@ module _ (code : List ℕ) (pc : ℕ) (modes : Modes) (make : Mode → ℕ → �
   -- The operand is the last digit.
   pub short-form : (mode : Mode) (at b k : ℕ) → Starts code pc mode at → b ≡ byte_at code at → b < 0x70 → b / 16 ≡ k
       → find short_table k ≡ row digit modes make → allows modes mode ≡ true → at + 1 < length code
-      → decode_at code (length code) pc ≡ At (make mode (b % 16) 0) (at + 1)
+      → decode_at code (length code) pc ≡ Ok ((make mode (b % 16) 0), (at + 1))
   short-form mode at b k st is low e r a w =
       rw is
       (in-form code pc digit modes make mode at (at + 1) st (rw (← is) (short_row b k low e ∙ r)) a (omega arith) (omega arith)
@@ -55,7 +55,7 @@ module _ (code : List ℕ) (pc : ℕ) (modes : Modes) (make : Mode → ℕ → �
   pub byte-form : (mode : Mode) (at k n : ℕ) → Starts code pc mode at → byte_at code at ≡ k
       → row_of k ≡ row (unsigned byte) modes make
       → allows modes mode ≡ true → n ≡ byte_at code (at + 1) → at + 2 < length code
-      → decode_at code (length code) pc ≡ At (make mode n 0) (at + 2)
+      → decode_at code (length code) pc ≡ Ok ((make mode n 0), (at + 2))
   byte-form mode at k n st e r a o w =
       long-form code pc (unsigned byte) modes make mode at (at + 2) k n st e r a (sym o) (omega arith) (omega arith)
       (omega arith)
@@ -63,7 +63,7 @@ module _ (code : List ℕ) (pc : ℕ) (modes : Modes) (make : Mode → ℕ → �
   pub half-form : (mode : Mode) (at k n : ℕ) → Starts code pc mode at → byte_at code at ≡ k
       → row_of k ≡ row (unsigned half) modes make
       → allows modes mode ≡ true → n ≡ halfword_at code (at + 1) → at + 3 < length code
-      → decode_at code (length code) pc ≡ At (make mode n 0) (at + 3)
+      → decode_at code (length code) pc ≡ Ok ((make mode n 0), (at + 3))
   half-form mode at k n st e r a o w =
       long-form code pc (unsigned half) modes make mode at (at + 3) k n st e r a (sym o) (omega arith) (omega arith)
       (omega arith)

@@ -9,7 +9,7 @@ use lib.ListN.{length, set}
 use borrow.Author.Tests.{ne_eqb, lt-leb, le-leb, lt-ltb, le-ltb}
 use Rattle.entries.specs.Entries.{entry_at, no_callee}
 use Rattle.opcode.specs.Decode.{decode_at}
-use Rattle.opcode.specs.declared.Decoded.TheVariants.{At}
+use Rattle.std.specs.Prelude.{Ok}
 use Rattle.opcode.specs.declared.instruction.Instruction.{Instruction}
 use Rattle.opcode.specs.declared.instruction.Instruction.TheVariants.{CallExternal, Rtn}
 use Rattle.shape.specs.Shape.{shape_of, needed}
@@ -38,7 +38,7 @@ use Rattle.fast.specs.Fast.{Decodes}
 
 -- Where the instruction's words are there and its effect has room and a place within the code that is gone to, it is carried out.
 pub went_to : (P : Program) (S : State) (i : Instruction) (next pops : ℕ) (push : Push) (write : Write) (q : Registers)
-    → decode_at P.code (length P.code) S.registers.pc ≡ At i next → needed i ≤ S.registers.height
+    → decode_at P.code (length P.code) S.registers.pc ≡ Ok (i, next) → needed i ≤ S.registers.height
     → executed P S next i ≡ Go pops push write q → S.registers.height - pops + pushes push ≤ length S.stack
     → (code : List ℕ) → code_after P q.gp ≡ code → q.pc < length code
     → step_of P S ≡ after Went (applied S pops push write q)

@@ -1,4 +1,4 @@
-// Completes steps that look at other modules, or writes nothing.
+// Completes steps that look at other modules, and gives the registers after; or writes nothing.
 #![tactic(auto)]
 
 ghost use Rattle.std.specs.Prelude.{◌≡◌, ◌≤◌, ◌<◌, length};
@@ -15,13 +15,6 @@ ghost use Rattle.fast_external.specs.External.{Passed};
 
 use registers::{Attributes, Registers, access, table};
 
-// Whether a step was completed, and the registers after it.
-#[derive(Clone, Copy)]
-pub struct Tried {
-    pub done: bool,
-    pub registers: Registers,
-}
-
 // Serves CALL_E, where library, callee, depth, link words and entry are in order.
 fn call_external(
     table: &[u32],
@@ -34,19 +27,15 @@ fn call_external(
     l: u32,
     p: u32,
     next: u32,
-) -> Tried
+) -> Option<Registers>
     requires table_len_bound { length table.now ≤ 80 }
     requires decodes { Decodes code.now q.pc (CallExternal l p) next }
     requires ready { Ready (program code.now attributes (modules_in table.now copy.now)) (state q memory.old stack.now) }
-    ensures { Passed result.done
-        (program code.now attributes (modules_in table.now copy.now))
-        (state q memory.old stack.now) (state result.registers memory.new stack.now) }
+    ensures { Passed result (program code.now attributes (modules_in table.now copy.now))
+        (state q memory.old stack.now) memory.new stack.now }
 {
     if table::is_no_library(table, l) {
-        return Tried {
-            done: false,
-            registers: q,
-        };
+        return None;
     }
     let k = l as usize;
     let part = words::part(
@@ -55,40 +44,24 @@ fn call_external(
         table::row_word(table, k, 1),
     );
     if entries::is_no_callee(part, p) {
-        return Tried {
-            done: false,
-            registers: q,
-        };
+        return None;
     }
     if 64 <= q.calls {
-        return Tried {
-            done: false,
-            registers: q,
-        };
+        return None;
     }
     let old = q.mp as usize;
     if memory.len() < old + 3 {
-        return Tried {
-            done: false,
-            registers: q,
-        };
+        return None;
     }
     let entry = entries::entry_at(part, p);
     if part.len() <= (entry as usize) {
-        return Tried {
-            done: false,
-            registers: q,
-        };
+        return None;
     }
     let gp = table::globals_start(table, l) as u32;
     memory[old] = q.gp;
     memory[old + 1] = q.fp;
     memory[old + 2] = access::negated(next);
-    let registers = q.called(3, gp, entry as u32);
-    Tried {
-        done: true,
-        registers,
-    }
+    Some(q.called(3, gp, entry as u32))
 }
 
 // Serves RTN, where a call is active and the return word is a place in the module that is gone back to.
@@ -101,19 +74,15 @@ fn return_external(
     memory: &[u32],
     stack: &[u32],
     next: u32,
-) -> Tried
+) -> Option<Registers>
     requires table_len_bound { length table.now ≤ 80 }
     requires decodes { Decodes code.now q.pc Rtn next }
     requires ready { Ready (program code.now attributes (modules_in table.now copy.now)) (state q memory.now stack.now) }
-    ensures { Passed result.done
-        (program code.now attributes (modules_in table.now copy.now))
-        (state q memory.now stack.now) (state result.registers memory.now stack.now) }
+    ensures { Passed result (program code.now attributes (modules_in table.now copy.now))
+        (state q memory.now stack.now) memory.now stack.now }
 {
     if q.calls == 0 {
-        return Tried {
-            done: false,
-            registers: q,
-        };
+        return None;
     }
     let registers = q.returned(memory);
     let k = table::number_at(table, registers.gp as usize);
@@ -123,15 +92,9 @@ fn return_external(
         table::row_word(table, k, 1),
     );
     if part.len() <= (registers.pc as usize) {
-        return Tried {
-            done: false,
-            registers: q,
-        };
+        return None;
     }
-    Tried {
-        done: true,
-        registers,
-    }
+    Some(registers)
 }
 
 // Serves LOAD_E, where the library's word is live and the stack has room.
@@ -146,46 +109,29 @@ fn load_external(
     l: u32,
     n: u32,
     next: u32,
-) -> Tried
+) -> Option<Registers>
     requires table_len_bound { length table.now ≤ 80 }
     requires decodes { Decodes code.now q.pc (Load (External l) Normal n) next }
     requires ready { Ready (program code.now attributes (modules_in table.now copy.now)) (state q memory.now stack.old) }
-    ensures { Passed result.done
-        (program code.now attributes (modules_in table.now copy.now))
-        (state q memory.now stack.old) (state result.registers memory.now stack.new) }
+    ensures { Passed result (program code.now attributes (modules_in table.now copy.now))
+        (state q memory.now stack.old) memory.now stack.new }
 {
     if table::is_no_library(table, l) {
-        return Tried {
-            done: false,
-            registers: q,
-        };
+        return None;
     }
     let a = table::globals_start(table, l) + (n as usize);
     if (q.mp as usize) <= a {
-        return Tried {
-            done: false,
-            registers: q,
-        };
+        return None;
     }
     let height = q.height as usize;
     if stack.len() <= height {
-        return Tried {
-            done: false,
-            registers: q,
-        };
+        return None;
     }
     if code.len() <= (next as usize) {
-        return Tried {
-            done: false,
-            registers: q,
-        };
+        return None;
     }
     stack[height] = memory[a];
-    let registers = q.moved(next).raised((height + 1) as u32);
-    Tried {
-        done: true,
-        registers,
-    }
+    Some(q.moved(next).raised((height + 1) as u32))
 }
 
 // Serves LOAD_A_E, where the stack has room.
@@ -200,41 +146,27 @@ fn address_external(
     l: u32,
     n: u32,
     next: u32,
-) -> Tried
+) -> Option<Registers>
     requires table_len_bound { length table.now ≤ 80 }
     requires n_bound { n < 256 }
     requires decodes { Decodes code.now q.pc (LoadAddress (External l) n) next }
     requires ready { Ready (program code.now attributes (modules_in table.now copy.now)) (state q memory.now stack.old) }
-    ensures { Passed result.done
-        (program code.now attributes (modules_in table.now copy.now))
-        (state q memory.now stack.old) (state result.registers memory.now stack.new) }
+    ensures { Passed result (program code.now attributes (modules_in table.now copy.now))
+        (state q memory.now stack.old) memory.now stack.new }
 {
     if table::is_no_library(table, l) {
-        return Tried {
-            done: false,
-            registers: q,
-        };
+        return None;
     }
     let height = q.height as usize;
     if stack.len() <= height {
-        return Tried {
-            done: false,
-            registers: q,
-        };
+        return None;
     }
     if code.len() <= (next as usize) {
-        return Tried {
-            done: false,
-            registers: q,
-        };
+        return None;
     }
     let address = table::globals_start(table, l) + (n as usize);
     stack[height] = address as u32;
-    let registers = q.moved(next).raised((height + 1) as u32);
-    Tried {
-        done: true,
-        registers,
-    }
+    Some(q.moved(next).raised((height + 1) as u32))
 }
 
 // Serves STOR_E into one of the library's globals, which are never protected.
@@ -249,46 +181,29 @@ fn store_external(
     l: u32,
     n: u32,
     next: u32,
-) -> Tried
+) -> Option<Registers>
     requires table_len_bound { length table.now ≤ 80 }
     requires decodes { Decodes code.now q.pc (Store (External l) Normal n) next }
     requires ready { Ready (program code.now attributes (modules_in table.now copy.now)) (state q memory.old stack.now) }
-    ensures { Passed result.done
-        (program code.now attributes (modules_in table.now copy.now))
-        (state q memory.old stack.now) (state result.registers memory.new stack.now) }
+    ensures { Passed result (program code.now attributes (modules_in table.now copy.now))
+        (state q memory.old stack.now) memory.new stack.now }
 {
     if table::is_no_library(table, l) {
-        return Tried {
-            done: false,
-            registers: q,
-        };
+        return None;
     }
     if table::row_word(table, l as usize, 2) <= (n as usize) {
-        return Tried {
-            done: false,
-            registers: q,
-        };
+        return None;
     }
     let height = q.height as usize;
     if height == 0 {
-        return Tried {
-            done: false,
-            registers: q,
-        };
+        return None;
     }
     if code.len() <= (next as usize) {
-        return Tried {
-            done: false,
-            registers: q,
-        };
+        return None;
     }
     let a = table::globals_start(table, l) + (n as usize);
     memory[a] = stack[height - 1];
-    let registers = q.moved(next).raised((height - 1) as u32);
-    Tried {
-        done: true,
-        registers,
-    }
+    Some(q.moved(next).raised((height - 1) as u32))
 }
 
 // Reads an operand byte.
@@ -308,22 +223,15 @@ pub fn external_step(
     q: Registers,
     memory: &mut [u32],
     stack: &mut [u32],
-) -> Tried
+) -> Option<Registers>
     requires code_len_bound { length code.now ≤ 4096 }
     requires table_len_bound { length table.now ≤ 80 }
     requires ready { Ready (program code.now attributes (modules_in table.now copy.now)) (state q memory.old stack.old) }
-    ensures { Passed result.done
-        (program code.now attributes (modules_in table.now copy.now))
-        (state q memory.old stack.old) (state result.registers memory.new stack.new) }
+    ensures { Passed result (program code.now attributes (modules_in table.now copy.now))
+        (state q memory.old stack.old) memory.new stack.new }
 {
     let pc = q.pc as usize;
-    if code.len() <= pc {
-        return Tried {
-            done: false,
-            registers: q,
-        };
-    }
-    let b = code[pc];
+    let b = *code.get(pc)?;
     if b == 0xE9 {
         return return_external(
             table,
@@ -337,28 +245,16 @@ pub fn external_step(
         );
     }
     if code.len() < pc + 3 {
-        return Tried {
-            done: false,
-            registers: q,
-        };
+        return None;
     }
     let l = byte(code, pc + 1);
     let n = byte(code, pc + 2);
     let next = (pc + 3) as u32;
-    if b == 0xE6 {
-        return call_external(table, copy, code, attributes, q, memory, stack, l, n, next);
-    }
-    if b == 0x89 {
-        return load_external(table, copy, code, attributes, q, memory, stack, l, n, next);
-    }
-    if b == 0x98 {
-        return store_external(table, copy, code, attributes, q, memory, stack, l, n, next);
-    }
-    if b == 0x91 {
-        return address_external(table, copy, code, attributes, q, memory, stack, l, n, next);
-    }
-    Tried {
-        done: false,
-        registers: q,
+    match b {
+        0xE6 => call_external(table, copy, code, attributes, q, memory, stack, l, n, next),
+        0x89 => load_external(table, copy, code, attributes, q, memory, stack, l, n, next),
+        0x98 => store_external(table, copy, code, attributes, q, memory, stack, l, n, next),
+        0x91 => address_external(table, copy, code, attributes, q, memory, stack, l, n, next),
+        _ => None,
     }
 }

@@ -11,7 +11,6 @@ use borrow.Author.Tests.{le-leb}
 use Rattle.operand.specs.Distance.{place_at}
 use Rattle.opcode.specs.declared.instruction.Instruction.TheVariants.{Iter, Next}
 use Rattle.shape.specs.Shape.{shape_of}
-use Rattle.operate.specs.declared.Value.TheVariants.{Word}
 use Rattle.effect.specs.declared.effect.Push.TheVariants.{NoPush}
 use Rattle.effect.specs.declared.effect.Write.TheVariants.{WriteOne}
 use Rattle.effect.specs.declared.effect.Effect.TheVariants.{Go}
@@ -31,6 +30,7 @@ use Rattle.fast.proofs.Forms.{stores_one, stores-and-gives}
 use Rattle.fast.proofs.Plain.{ready-fitting, plain-free}
 use Rattle.fast.specs.Fast.{Decodes}
 use Rattle.fast_flow.proofs.Jumping.{Going, going}
+use Rattle.std.specs.Prelude.{Ok}
 
 -- Whether a loop with this step and last value is over at x.
 abbrev over : (step x last : ℕ) → Bool
@@ -96,7 +96,7 @@ module _ (code : List ℕ) (A : Attributes) (q : Registers) (pc h : ℕ) (m s : 
         (iter-found (L Ms) r m s next d four
         ∙ rw (is-a, is-first, e, le-leb (a + 1) q.mp (omega arith), unprotected Ms R)) room)
 
-    pub next-rounds : (x : ℕ) → 5 ≤ h → read s (h - 5) ≡ a → next_sum m a (read s (h - 2)) ≡ Word x
+    pub next-rounds : (x : ℕ) → 5 ≤ h → read s (h - 5) ≡ a → next_sum m a (read s (h - 2)) ≡ Ok x
         → (Ms : Modules) → Ready (L Ms) (state_at q T) → executed (L Ms) (state_at q T) next Next
         ≡ round_effect r next a (read s (h - 3)) (read s (h - 2)) (read s (h - 1)) x
     unfolding next_effect live

@@ -8,7 +8,6 @@ ghost use Rattle.fast_flow.specs.Flow.{DoesRound};
 
 use fast::leaf;
 use opcode::instruction::Arithmetic;
-use operate::Value;
 use registers::{Attributes, Registers};
 
 // Stores a word, pushes the place that is next as a label, and goes there.
@@ -163,9 +162,8 @@ pub fn next(
     if !leaf::is_plain(attributes, q.fp as usize, a) {
         return false;
     }
-    let sum = operate::arithmetic::signed_value(Arithmetic::Add, memory[a], stack[h - 2]);
-    match sum {
-        Value::Word(x) => round(memory, stack, pc, height, code.len(), here + 1, a, x),
-        Value::Trap(_) => false,
-    }
+    let Ok(x) = operate::arithmetic::signed_value(Arithmetic::Add, memory[a], stack[h - 2]) else {
+        return false;
+    };
+    round(memory, stack, pc, height, code.len(), here + 1, a, x)
 }

@@ -61,21 +61,12 @@ fn data_steps(
         (state_at q (spot pc.old height.old memory.old stack.old)) budget result
         (state_at q (spot pc.new height.new memory.new stack.new)) }
 {
-    let mut left = budget;
-    if code.len() == 0 {
-        return left;
+    let limit = code.len().saturating_sub(1);
+    let mut rest = budget;
+    while rest != 0 && *pc < limit && data_step(code, attributes, q, memory, stack, pc, height) {
+        rest -= 1;
     }
-    let limit = code.len() - 1;
-    while left != 0 {
-        if limit <= *pc {
-            return left;
-        }
-        if !data_step(code, attributes, q, memory, stack, pc, height) {
-            return left;
-        }
-        left -= 1;
-    }
-    left
+    rest
 }
 
 // Holds what is left of the budget, and the registers that were reached.
@@ -144,38 +135,36 @@ pub fn fast_steps(
     let count = entries::entry_count(code);
     while left != 0 {
         let here = reached_at(left, pc, fp, mp, gp, height, calls);
-        let registers = here.registers;
         left = data_steps(
             table,
             copy,
             code,
             attributes,
-            registers,
+            here.registers,
             memory,
             stack,
             &mut pc,
             &mut height,
             left,
         );
-        if left == 0 {
-            return reached_at(left, pc, fp, mp, gp, height, calls);
+        if left == 0
+            || !fast_frames::frame_step(
+                code,
+                attributes,
+                memory,
+                stack,
+                &mut pc,
+                &mut fp,
+                &mut mp,
+                gp,
+                &mut height,
+                &mut calls,
+                count,
+            )
+        {
+            break;
         }
-        if !fast_frames::frame_step(
-            code,
-            attributes,
-            memory,
-            stack,
-            &mut pc,
-            &mut fp,
-            &mut mp,
-            gp,
-            &mut height,
-            &mut calls,
-            count,
-        ) {
-            return reached_at(left, pc, fp, mp, gp, height, calls);
-        }
-        left = left - 1;
+        left -= 1;
     }
     reached_at(left, pc, fp, mp, gp, height, calls)
 }

@@ -1,2 +1,3 @@
 -- Laws of the arms that compute.
 pub mod OperationArms
+pub mod Putting

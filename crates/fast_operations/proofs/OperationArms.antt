@@ -9,14 +9,12 @@ use Rattle.words.specs.Bytes.{byte_at}
 use Rattle.operand.specs.Operand.{none}
 use Rattle.opcode.specs.Table.{normal, row, row_of}
 use Rattle.opcode.specs.Decode.{decode_at}
-use Rattle.opcode.specs.declared.Decoded.TheVariants.{At}
+use Rattle.std.specs.Prelude.{Ok, Err}
 use Rattle.opcode.specs.declared.instruction.Instruction.TheVariants.{Operate, Nop}
 use Rattle.opcode.specs.declared.instruction.Operation.{Operation}
 use Rattle.shape.specs.Shape.{shape_of}
 use Rattle.shape.specs.Counts.{operands}
 use Rattle.operate.specs.Operation.{operation_value}
-use Rattle.operate.specs.declared.Value.{Value}
-use Rattle.operate.specs.declared.Value.TheVariants.{Word, Trap}
 use Rattle.registers.specs.declared.Attributes.{Attributes}
 use Rattle.registers.specs.declared.Registers.{Registers}
 use Rattle.registers.specs.Modules.{Modules}
@@ -32,6 +30,7 @@ use Rattle.fast.proofs.Goes.{did}
 use Rattle.fast.proofs.Forms.{Ends, gives_one}
 use Rattle.fast.proofs.Data.{nop-goes}
 use Rattle.fast.proofs.Decoding.{decodes}
+use Rattle.operate.specs.Value.{Value}
 
 module _ (code : List ℕ) (A : Attributes) (q : Registers) (pc h : ℕ) (m s : List ℕ)
     (f : bounded A (state_at q (spot pc h m s)) ≡ true) where
@@ -46,27 +45,27 @@ module _ (code : List ℕ) (A : Attributes) (q : Registers) (pc h : ℕ) (m s : 
 
   two-goes : (Ms : Modules) (op : Operation) (v : Value) → operands op ≡ 2
       → operation_value A.wraps op (read s (h - 2)) (read s (h - 1)) ≡ v
-      → decode_at code (length code) pc ≡ At (Operate op) (pc + 1) → pc + 1 < length code → (2 ≤ h) × (is_word v ≡ true)
+      → decode_at code (length code) pc ≡ Ok ((Operate op), (pc + 1)) → pc + 1 < length code → (2 ≤ h) × (is_word v ≡ true)
       → Ends (L Ms) q T (spot (pc + 1) (h - 1) m (set s (h - 2) (word_of v)))
   unfolding execute shape_of
-  two-goes Ms op (Word x) two e d inside (enough, word) =
+  two-goes Ms op (Ok x) two e d inside (enough, word) =
       gives_one (L Ms) q pc h m s (Operate op) (pc + 1) (pc + 1) d (rw two enough) F.global inside 2 (h - 2) (h - 1) x refl
       (omega arith) (rw (two, found s h 2 0 enough (omega arith), found s h 2 1 enough (omega arith), e))
       (omega (arith, F.height))
-  two-goes Ms op (Trap n) two e d inside (enough, word) = absurd (let z : ◌≡◌ {A = ℕ} 0 1 = cc in omega arith)
+  two-goes Ms op (Err t) two e d inside (enough, word) = absurd (let z : ◌≡◌ {A = ℕ} 0 1 = cc in omega arith)
 
   one-goes : (Ms : Modules) (op : Operation) (v : Value) → operands op ≡ 1
       → ((y : ℕ) → operation_value A.wraps op (read s (h - 1)) y ≡ v)
-      → decode_at code (length code) pc ≡ At (Operate op) (pc + 1) → pc + 1 < length code → (1 ≤ h) × (is_word v ≡ true)
+      → decode_at code (length code) pc ≡ Ok ((Operate op), (pc + 1)) → pc + 1 < length code → (1 ≤ h) × (is_word v ≡ true)
       → Ends (L Ms) q T (spot (pc + 1) h m (set s (h - 1) (word_of v)))
   unfolding execute shape_of
-  one-goes Ms op (Word x) one e d inside (enough, word) =
+  one-goes Ms op (Ok x) one e d inside (enough, word) =
       gives_one (L Ms) q pc h m s (Operate op) (pc + 1) (pc + 1) d (rw one enough) F.global inside 1 (h - 1) h x refl
       (omega arith) (rw (one, found s h 1 0 enough (omega arith), e)) (omega (arith, F.height))
-  one-goes Ms op (Trap n) one e d inside (enough, word) = absurd (let z : ◌≡◌ {A = ℕ} 0 1 = cc in omega arith)
+  one-goes Ms op (Err t) one e d inside (enough, word) = absurd (let z : ◌≡◌ {A = ℕ} 0 1 = cc in omega arith)
 
   decoded : (k : ℕ) (op : Operation) → byte_at code pc ≡ k → row_of k ≡ row none normal (λ mode a b. Operate op) → (k ≡ 0xF5 → ⊥)
-      → pc + 1 ≤ length code → decode_at code (length code) pc ≡ At (Operate op) (pc + 1)
+      → pc + 1 ≤ length code → decode_at code (length code) pc ≡ Ok ((Operate op), (pc + 1))
   decoded k op e r not-double room =
       decodes code none normal (λ mode a b. Operate op) pc (pc + 1) (rw e r) (λ z. not-double (sym e ∙ z)) refl (omega arith)
       (omega arith) room

@@ -1,7 +1,6 @@
 // Serves operations on words.
-ghost use Rattle.std.specs.Prelude.{not, List, ℕ, ◌+◌, ◌-◌, ◌≤◌, ◌<◌, length, eqb};
-ghost use Rattle.operate.specs.declared.Value.TheVariants.{Word};
-ghost use Rattle.operate.specs.Value.{truth_of, inverted_value};
+ghost use Rattle.std.specs.Prelude.{◌≡◌, Bool, not, List, ℕ, ◌+◌, ◌-◌, ◌≤◌, ◌<◌, length, eqb, Ok};
+ghost use Rattle.operate.specs.Value.{Value, truth_of, inverted_value};
 ghost use Rattle.operate.specs.Arithmetic.{signed_value, unsigned_value, negated_value};
 ghost use Rattle.operate.specs.Compare.{signed_test, unsigned_test};
 ghost use Rattle.operate.specs.Sets.{set_word};
@@ -11,52 +10,66 @@ ghost use Rattle.fast.specs.Leaves.{PutsOne, PutsTwo};
 ghost use Rattle.fast_operations.specs.Operations.{DoesByte};
 
 use fast::leaf;
+use numbers::Trap;
 use opcode::instruction::{Arithmetic, Order, SetOperation};
-use operate::{Value, arithmetic, compare, operation, sets};
+use operate::{arithmetic, compare, operation, sets};
 
-// Puts a word in the place of the two top words.
-fn put_two(stack: &mut [u32], pc: &mut usize, height: &mut usize, v: Value) -> bool
-    requires height_in_bounds { height.old ≤ length stack.old }
-    requires le_height { 2 ≤ height.old }
-    requires pc_bound { pc.old + 1 < 0x1_0000_0000_0000_0000 }
-    ensures { (m : List ℕ) → PutsTwo result (pc.old + 1) v
-        (spot pc.old height.old m stack.old)
-        (spot pc.new height.new m stack.new) }
-{
-    match v {
-        Value::Word(x) => {
-            let h = *height;
-            stack[h - 2] = x;
-            *pc = *pc + 1;
-            *height = h - 1;
-            true
-        }
-        Value::Trap(_) => false,
-    }
-}
-
-// Puts a word in the place of the top word.
-fn put_one(stack: &mut [u32], pc: &mut usize, height: &mut usize, v: Value) -> bool
-    requires height_in_bounds { height.old ≤ length stack.old }
-    requires le_height { 1 ≤ height.old }
-    requires pc_bound { pc.old + 1 < 0x1_0000_0000_0000_0000 }
-    ensures { (m : List ℕ) → PutsOne result (pc.old + 1) v
-        (spot pc.old height.old m stack.old)
-        (spot pc.new height.new m stack.new) }
-{
-    match v {
-        Value::Word(x) => {
-            let h = *height;
-            stack[h - 1] = x;
-            *pc = *pc + 1;
-            true
-        }
-        Value::Trap(_) => false,
-    }
-}
-
-// Serve the operations on two words. Each reads them itself, in the width that it takes: fewer instructions
+// Puts what an operation gives, where it is a word, in the place of the two top words. It reads them itself: fewer instructions
 // than reading them before the match.
+fn on_two<F: Fn(u32, u32) -> Result<u32, Trap>>(
+    stack: &mut [u32],
+    pc: &mut usize,
+    height: &mut usize,
+    operation: F,
+) -> bool
+    requires height_in_bounds { height.old ≤ length stack.old }
+    requires pc_bound { pc.old + 1 < 0x1_0000_0000_0000_0000 }
+    requires callable { F.IsAlwaysCallable operation }
+    ensures { (v : Value)
+        × (2 ≤ height.old → F.post operation (read stack.old (height.old - 2)) (read stack.old (height.old - 1)) v)
+        × ((m : List ℕ) → PutsTwo result (pc.old + 1) v
+        (spot pc.old height.old m stack.old) (spot pc.new height.new m stack.new)) }
+{
+    let h = *height;
+    if h < 2 {
+        return false;
+    }
+    let Ok(x) = operation(stack[h - 2], stack[h - 1]) else {
+        return false;
+    };
+    stack[h - 2] = x;
+    *pc += 1;
+    *height = h - 1;
+    true
+}
+
+// Puts what an operation gives in the place of the top word.
+fn on_one<F: Fn(u32) -> Result<u32, Trap>>(
+    stack: &mut [u32],
+    pc: &mut usize,
+    height: &mut usize,
+    operation: F,
+) -> bool
+    requires height_in_bounds { height.old ≤ length stack.old }
+    requires pc_bound { pc.old + 1 < 0x1_0000_0000_0000_0000 }
+    requires callable { F.IsAlwaysCallable operation }
+    ensures { (v : Value)
+        × (1 ≤ height.old → F.post operation (read stack.old (height.old - 1)) v)
+        × ((m : List ℕ) → PutsOne result (pc.old + 1) v
+        (spot pc.old height.old m stack.old) (spot pc.new height.new m stack.new)) }
+{
+    let h = *height;
+    if h < 1 {
+        return false;
+    }
+    let Ok(x) = operation(stack[h - 1]) else {
+        return false;
+    };
+    stack[h - 1] = x;
+    *pc += 1;
+    true
+}
+
 fn signed_two(stack: &mut [u32], pc: &mut usize, height: &mut usize, op: Arithmetic) -> bool
     requires height_in_bounds { height.old ≤ length stack.old }
     requires pc_bound { pc.old + 1 < 0x1_0000_0000_0000_0000 }
@@ -65,13 +78,7 @@ fn signed_two(stack: &mut [u32], pc: &mut usize, height: &mut usize, op: Arithme
         (spot pc.old height.old m stack.old)
         (spot pc.new height.new m stack.new) }
 {
-    let h = *height;
-    if h < 2 {
-        return false;
-    }
-    let x = stack[h - 2];
-    let y = stack[h - 1];
-    put_two(stack, pc, height, arithmetic::signed_value(op, x, y))
+    on_two(stack, pc, height, |x, y| arithmetic::signed_value(op, x, y))
 }
 
 // Wraps unsigned results or not, by the issue of the module.
@@ -89,146 +96,55 @@ pub fn unsigned_two(
         (spot pc.old height.old m stack.old)
         (spot pc.new height.new m stack.new) }
 {
-    let top = *height;
-    if top < 2 {
-        return false;
-    }
-    let x = stack[top - 2];
-    let y = stack[top - 1];
-    put_two(
+    on_two(
         stack,
         pc,
         height,
-        arithmetic::unsigned_value(wraps, op, x, y),
+        |x, y| arithmetic::unsigned_value(wraps, op, x, y),
     )
 }
 
 fn set_two(stack: &mut [u32], pc: &mut usize, height: &mut usize, op: SetOperation) -> bool
     requires height_in_bounds { height.old ≤ length stack.old }
     requires pc_bound { pc.old + 1 < 0x1_0000_0000_0000_0000 }
-    ensures { (m : List ℕ) → PutsTwo result (pc.old + 1) (Word (set_word op
+    ensures { (m : List ℕ) → PutsTwo result (pc.old + 1) (Ok (set_word op
         (read stack.old (height.old - 2)) (read stack.old (height.old - 1))))
         (spot pc.old height.old m stack.old)
         (spot pc.new height.new m stack.new) }
 {
-    let h = *height;
-    if h < 2 {
-        return false;
-    }
-    let x = stack[h - 2];
-    let y = stack[h - 1];
-    put_two(stack, pc, height, Value::Word(sets::set_word(op, x, y)))
+    on_two(stack, pc, height, |x, y| Ok(sets::set_word(op, x, y)))
 }
 
 fn signed_order(stack: &mut [u32], pc: &mut usize, height: &mut usize, order: Order) -> bool
     requires height_in_bounds { height.old ≤ length stack.old }
     requires pc_bound { pc.old + 1 < 0x1_0000_0000_0000_0000 }
-    ensures { (m : List ℕ) → PutsTwo result (pc.old + 1) (Word (truth_of (signed_test order
+    ensures { (m : List ℕ) → PutsTwo result (pc.old + 1) (Ok (truth_of (signed_test order
         (read stack.old (height.old - 2)) (read stack.old (height.old - 1)))))
         (spot pc.old height.old m stack.old)
         (spot pc.new height.new m stack.new) }
 {
-    let h = *height;
-    if h < 2 {
-        return false;
-    }
-    let x = stack[h - 2];
-    let y = stack[h - 1];
-    put_two(
+    on_two(
         stack,
         pc,
         height,
-        Value::Word(operate::truth(compare::signed_test(order, x, y))),
+        |x, y| Ok(operate::truth(compare::signed_test(order, x, y))),
     )
 }
 
 fn unsigned_order(stack: &mut [u32], pc: &mut usize, height: &mut usize, order: Order) -> bool
     requires height_in_bounds { height.old ≤ length stack.old }
     requires pc_bound { pc.old + 1 < 0x1_0000_0000_0000_0000 }
-    ensures { (m : List ℕ) → PutsTwo result (pc.old + 1) (Word (truth_of (unsigned_test order
+    ensures { (m : List ℕ) → PutsTwo result (pc.old + 1) (Ok (truth_of (unsigned_test order
         (read stack.old (height.old - 2)) (read stack.old (height.old - 1)))))
         (spot pc.old height.old m stack.old)
         (spot pc.new height.new m stack.new) }
 {
-    let h = *height;
-    if h < 2 {
-        return false;
-    }
-    let x = stack[h - 2];
-    let y = stack[h - 1];
-    put_two(
+    on_two(
         stack,
         pc,
         height,
-        Value::Word(operate::truth(compare::unsigned_test(order, x, y))),
+        |x, y| Ok(operate::truth(compare::unsigned_test(order, x, y))),
     )
-}
-
-fn equal(stack: &mut [u32], pc: &mut usize, height: &mut usize) -> bool
-    requires height_in_bounds { height.old ≤ length stack.old }
-    requires pc_bound { pc.old + 1 < 0x1_0000_0000_0000_0000 }
-    ensures { (m : List ℕ) → PutsTwo result (pc.old + 1) (Word (truth_of (eqb
-        (read stack.old (height.old - 2)) (read stack.old (height.old - 1)))))
-        (spot pc.old height.old m stack.old)
-        (spot pc.new height.new m stack.new) }
-{
-    let h = *height;
-    if h < 2 {
-        return false;
-    }
-    let x = stack[h - 2];
-    let y = stack[h - 1];
-    put_two(stack, pc, height, Value::Word(operate::truth(x == y)))
-}
-
-fn not_equal(stack: &mut [u32], pc: &mut usize, height: &mut usize) -> bool
-    requires height_in_bounds { height.old ≤ length stack.old }
-    requires pc_bound { pc.old + 1 < 0x1_0000_0000_0000_0000 }
-    ensures { (m : List ℕ) → PutsTwo result (pc.old + 1) (Word (truth_of (not (eqb
-        (read stack.old (height.old - 2)) (read stack.old (height.old - 1))))))
-        (spot pc.old height.old m stack.old)
-        (spot pc.new height.new m stack.new) }
-{
-    let h = *height;
-    if h < 2 {
-        return false;
-    }
-    let x = stack[h - 2];
-    let y = stack[h - 1];
-    put_two(stack, pc, height, Value::Word(operate::truth(x != y)))
-}
-
-// Serve the operations on one word.
-fn negated(stack: &mut [u32], pc: &mut usize, height: &mut usize) -> bool
-    requires height_in_bounds { height.old ≤ length stack.old }
-    requires pc_bound { pc.old + 1 < 0x1_0000_0000_0000_0000 }
-    ensures { (m : List ℕ) → PutsOne result (pc.old + 1) (negated_value
-        (read stack.old (height.old - 1)))
-        (spot pc.old height.old m stack.old)
-        (spot pc.new height.new m stack.new) }
-{
-    let h = *height;
-    if h < 1 {
-        return false;
-    }
-    let x = stack[h - 1];
-    put_one(stack, pc, height, arithmetic::negated_value(x))
-}
-
-fn inverted(stack: &mut [u32], pc: &mut usize, height: &mut usize) -> bool
-    requires height_in_bounds { height.old ≤ length stack.old }
-    requires pc_bound { pc.old + 1 < 0x1_0000_0000_0000_0000 }
-    ensures { (m : List ℕ) → PutsOne result (pc.old + 1) (inverted_value
-        (read stack.old (height.old - 1)))
-        (spot pc.old height.old m stack.old)
-        (spot pc.new height.new m stack.new) }
-{
-    let h = *height;
-    if h < 1 {
-        return false;
-    }
-    let x = stack[h - 1];
-    put_one(stack, pc, height, operation::inverted_value(x))
 }
 
 // Serves NEG_I, NEG and NOP.
@@ -240,8 +156,8 @@ fn one_step(stack: &mut [u32], pc: &mut usize, height: &mut usize, b: u8) -> boo
         (spot pc.new height.new m stack.new) }
 {
     match b {
-        0xA6 => negated(stack, pc, height),
-        0xD7 => inverted(stack, pc, height),
+        0xA6 => on_one(stack, pc, height, |x| arithmetic::negated_value(x)),
+        0xD7 => on_one(stack, pc, height, |x| operation::inverted_value(x)),
         0xFF => leaf::drop(pc, height, *pc + 1, 0),
         _ => false,
     }
@@ -259,8 +175,8 @@ fn set_step(stack: &mut [u32], pc: &mut usize, height: &mut usize, b: u8) -> boo
         0xB8 => set_two(stack, pc, height, SetOperation::Union),
         0xB9 => set_two(stack, pc, height, SetOperation::Difference),
         0xBA => set_two(stack, pc, height, SetOperation::Intersection),
-        0xBE => equal(stack, pc, height),
-        0xBF => not_equal(stack, pc, height),
+        0xBE => on_two(stack, pc, height, |x, y| Ok(operate::truth(x == y))),
+        0xBF => on_two(stack, pc, height, |x, y| Ok(operate::truth(x != y))),
         0xD0 => set_two(stack, pc, height, SetOperation::Subset),
         0xD1 => set_two(stack, pc, height, SetOperation::Superset),
         0xD2 => set_two(stack, pc, height, SetOperation::Member),

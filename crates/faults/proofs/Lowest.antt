@@ -10,8 +10,8 @@ use Rattle.words.proofs.Refusal.{lower-none}
 use Rattle.entries.specs.Entries.{region_end}
 use Rattle.entries.specs.Libraries.{Library}
 use Rattle.opcode.specs.Decode.{decode_at}
-use Rattle.opcode.specs.declared.Decoded.{Decoded}
-use Rattle.opcode.specs.declared.Decoded.TheVariants.{Unserved, Past, At}
+use Rattle.opcode.specs.Decode.{Decoded}
+use Rattle.std.specs.Prelude.{Err, Ok}
 use Rattle.layout.specs.Cut.{Marks}
 use Rattle.faults.specs.Faults.{FaultTest, test_in, test_at, any_from, anywhere, strays, misplaced, uncallable, code_number}
 use Rattle.faults.specs.OnePass.{fault_of, fault_in, fault_at}
@@ -53,9 +53,8 @@ module _ (code : List ℕ) (libraries : List Library) (marks : Marks) where
 
   three-in : (p at : ℕ) (d : Decoded) → three_in p at d ≡ fault_in code libraries marks p at d
   unfolding fault_of
-  three-in p at Unserved = refl
-  three-in p at Past = refl
-  three-in p at (At i next) = refl
+  three-in p at (Err e) = refl
+  three-in p at (Ok (i, next)) = refl
 
   abbrev three_at : ℕ → ℕ → ℕ
   three_at m at =

@@ -1,12 +1,10 @@
 -- The numbers 12 to 14. 01: "12 to 14 look at every instruction cut, reached or not".
-use Rattle.std.specs.Prelude.{Bool, false, not, ◌&&◌, ◌||◌, List, [], ◌∷◌, ℕ, zero, suc, ◌+◌, eqb, length}
+use Rattle.std.specs.Prelude.{Bool, Err, Ok, false, not, ◌&&◌, ◌||◌, List, [], ◌∷◌, ℕ, zero, suc, ◌+◌, eqb, length}
 use Rattle.words.specs.Order.{every}
 use Rattle.words.specs.Refusal.{Test, refusal, ◌when◌}
 use Rattle.entries.specs.Entries.{entry_at, no_callee, region_end}
 use Rattle.entries.specs.Libraries.{Library, library_in}
-use Rattle.opcode.specs.Decode.{decode_at}
-use Rattle.opcode.specs.declared.Decoded.{Decoded}
-use Rattle.opcode.specs.declared.Decoded.TheVariants.{Unserved, Past, At}
+use Rattle.opcode.specs.Decode.{Decoded, decode_at}
 use Rattle.shape.specs.Shape.{shape_of}
 use Rattle.shape.specs.declared.Shape.{Shape}
 use Rattle.shape.specs.Linkage.{Linkage, inside, calling, calling_external, entering, returning, linkage_of}
@@ -50,9 +48,8 @@ abbrev pub FaultTest : Type 0
 FaultTest = ℕ → ℕ → ℕ → Shape → Bool
 
 abbrev pub test_in : FaultTest → ℕ → ℕ → Decoded → Bool
-test_in test p at Unserved = false
-test_in test p at Past = false
-test_in test p at (At i next) = test p at next (shape_of i)
+test_in test p at (Err e) = false
+test_in test p at (Ok (i, next)) = test p at next (shape_of i)
 
 abbrev pub test_at : List ℕ → ℕ → FaultTest → ℕ → Bool
 test_at code zero test at = false

@@ -13,14 +13,15 @@ use borrow.Author.Tests.{leb-true, eqb-false}
 use Rattle.words.specs.Refusal.{refusal}
 use Rattle.words.proofs.Refusal.{most as at_most}
 use Rattle.words.proofs.Tests.{either, by-test}
-use Rattle.record.specs.declared.Reading.{Reading}
+use Rattle.record.specs.Number.{Reading}
 use Rattle.record.specs.Number.{record_number, reading_number, reading_of}
 use Rattle.record.proofs.Sound.{record-range}
 use Rattle.module_set.specs.Members.{Members, member_at}
 use Rattle.relocation.specs.Relocation.{set_number}
 use Rattle.opcode.specs.Decode.{decode_at}
-use Rattle.opcode.specs.declared.Decoded.{Decoded}
-use Rattle.opcode.specs.declared.Decoded.TheVariants.{Unserved, Past, At}
+use Rattle.opcode.specs.Decode.{Decoded}
+use Rattle.opcode.specs.declared.DecodeError.TheVariants.{Unserved, Past}
+use Rattle.std.specs.Prelude.{Err, Ok}
 use Rattle.opcode.specs.declared.instruction.Instruction.{Instruction}
 use Rattle.shape.specs.declared.Shape.{Shape}
 use Rattle.shape.specs.Shape.{needed}
@@ -38,10 +39,10 @@ use Rattle.execute.proofs.Acts.{leaves-switch, no-callee, calls, no-external-cal
 use Rattle.step.specs.declared.Outcome.{Outcome}
 use Rattle.step.specs.declared.Outcome.TheVariants.{Went, Finished, Trapped}
 use Rattle.step.specs.Step.{After, code_after, apply, perform, step_of}
-use Rattle.load.specs.declared.Loaded.TheVariants.{Refused}
+use Rattle.std.specs.Prelude.{Err}
 use Rattle.load.specs.Modules.{modules_of}
 use Rattle.load.specs.Load.{Loading, load_tests, set_load_number, set_load}
-use Rattle.run.specs.declared.Answer.TheVariants.{Refused as NotRun, Ended}
+use Rattle.std.specs.Prelude.{Err, Ok}
 use Rattle.run.specs.Run.{Result, run_from, fits_in, set_run_number, set_run}
 use Rattle.layout.specs.Cut.{Cut, bad, cut, cut_of}
 use Rattle.stackmap.specs.Walk.{States, walk_of}
@@ -51,6 +52,7 @@ use Rattle.verifier.proofs.Ranges.{set-by, list-by, codes-range, cut_range}
 use Rattle.verifier.proofs.Accepting.{Answers, early, late, answers, Judged, faulty, sound-codes, judgement}
 use Rattle.guarantees.specs.Answers.{UpTo, CodeTrap, ReadingNumbers, CheckNumbers, LoadNumbers, RunNumbers, StepTraps}
 use Rattle.guarantees.proofs.Refusals.{counted}
+use Rattle.numbers.specs.TrapNumber.{trap_number}
 
 pub reading-numbers : ReadingNumbers
 unfolding reading_of
@@ -109,7 +111,7 @@ pub load-numbers : LoadNumbers
 unfolding set_load
 load-numbers S parameters copy m s n =
     let k = set_load_number S parameters copy m s in
-    by-test (λ (x : Loading). x.answer ≡ Refused n → UpTo 8 n) (eqb k 0) _ _
+    by-test (λ (x : Loading). x.answer ≡ Err n → UpTo 8 n) (eqb k 0) _ _
     (λ t e. let z : ◌≡◌ {A = ℕ} 0 1 = cc in absurd (omega arith))
     (λ t e.
     let same : n ≡ set_load_number S parameters copy m s = cc in
@@ -123,14 +125,14 @@ abbrev Named : ℕ → Type 0
 Named n = CodeTrap n ⊎ DataTrap n
 
 abbrev EffectNamed : Effect → Type 0
-EffectNamed (Trap n) = Named n
+EffectNamed (Trap t) = Named (trap_number t)
 EffectNamed Finish = Unit {0}
 EffectNamed (Go pops push write q) = Unit {0}
 
 abbrev OutcomeNamed : Outcome → Type 0
 OutcomeNamed Went = Unit {0}
 OutcomeNamed Finished = Unit {0}
-OutcomeNamed (Trapped n) = Named n
+OutcomeNamed (Trapped t) = Named (trap_number t)
 
 acts-named : {P : Program} {T : State} {next : ℕ} {i : Instruction} {s : Shape} {e : Effect} → Acts P T next i s e
     → EffectNamed e
@@ -165,7 +167,7 @@ module _ (P : Program) (T : State) where
 
   apply-named : (e : Effect) → EffectNamed e → Fine (apply P T e)
   unfolding apply
-  apply-named (Trap n) h = h
+  apply-named (Trap t) h = h
   apply-named Finish h = tt
   apply-named (Go pops push write q) h =
       either Fine (ltb (length T.stack) (T.registers.height - pops + pushes push)) _ _ (inr (data-number 36 refl refl))
@@ -173,15 +175,15 @@ module _ (P : Program) (T : State) where
 
   perform-named : (d : Decoded) → Fine (perform P T d)
   unfolding perform
-  perform-named Unserved = inl (code-number 20 refl refl)
-  perform-named Past = inl (code-number 21 refl refl)
-  perform-named (At i next) =
+  perform-named (Err Unserved) = inl (code-number 20 refl refl)
+  perform-named (Err Past) = inl (code-number 21 refl refl)
+  perform-named (Ok (i, next)) =
       either Fine (ltb T.registers.height (needed i)) _ _ (inl (code-number 22 refl refl))
       (apply-named (executed P T next i) (acts-named (acts P (finding (needed i) T) next i)))
 
 pub step-traps : StepTraps
 unfolding step_of
-step-traps P T n e = subst OutcomeNamed e (perform-named P T (decode_at P.code (length P.code) T.registers.pc))
+step-traps P T t e = subst OutcomeNamed e (perform-named P T (decode_at P.code (length P.code) T.registers.pc))
 
 -- A run's number, if it is one.
 abbrev Runs : ℕ → Type 0
@@ -204,9 +206,9 @@ unfolding set_run
 run-numbers S copy budget k T n =
     let Ms = modules_of S in
     let number = set_run_number S copy k T in
-    by-test (λ (x : Result). x.answer ≡ NotRun n → UpTo 7 n ⊎ (n ≡ 24)) (eqb number 0) _ _
+    by-test (λ (x : Result). x.answer ≡ Err n → UpTo 7 n ⊎ (n ≡ 24)) (eqb number 0) _ _
     (λ t e.
-    let ended : (run_from Ms budget 0 T).answer ≡ Ended (counted Ms budget 0 T).ending = (counted Ms budget 0 T).is in
+    let ended : (run_from Ms budget 0 T).answer ≡ Ok (counted Ms budget 0 T).ending = (counted Ms budget 0 T).is in
     let z : ◌≡◌ {A = ℕ} 0 1 = cc in absurd (omega arith))
     (λ t e.
     let same : n ≡ set_run_number S copy k T = cc in

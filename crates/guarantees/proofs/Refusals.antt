@@ -14,8 +14,8 @@ use Rattle.load.proofs.Loading.{refused-copy, refused-memory}
 use Rattle.step.specs.declared.Outcome.{Outcome}
 use Rattle.step.specs.declared.Outcome.TheVariants.{Went, Finished, Trapped}
 use Rattle.step.specs.Step.{step_in}
-use Rattle.run.specs.declared.Answer.{Answer}
-use Rattle.run.specs.declared.Answer.TheVariants.{Refused as NotRun, Ended}
+use Rattle.run.specs.Answer.{Answer}
+use Rattle.std.specs.Prelude.{Err, Ok}
 use Rattle.run.specs.declared.Ended.{Ended as Ending}
 use Rattle.run.specs.declared.End.TheVariants.{Finished as finish, Spent, Trapped as stop}
 use Rattle.run.specs.Run.{Result, ended_at, proceed, run_from, set_run_number, refused, set_run}
@@ -24,7 +24,7 @@ use Rattle.guarantees.specs.Guarantees.{RefusedLoad, RefusedRun, CountWithinBudg
 -- The answer of a run is an end, with at most so many steps, as many where it is spent, and with GP's module.
 pub record Counted (Ms : Modules) (a : Answer) (most : ℕ) : Type 0 where
   pub ending : Ending
-  pub is : a ≡ Ended ending
+  pub is : a ≡ Ok ending
   pub few : ending.steps ≤ most
   pub all : ending.ending ≡ Spent → ending.steps ≡ most
   pub named : ending.member ≡ number_at Ms ending.registers.gp
@@ -59,9 +59,9 @@ module _ (Ms : Modules) where
             all = λ e. let z : ◌≡◌ {A = ℕ} 0 1 = cc in absurd (omega arith);
             named = refl;
           }
-      by (Trapped n) T' c =
+      by (Trapped t) T' c =
           record {
-            ending = ended_at (stop n) count (number_at Ms T'.registers.gp) T'.registers;
+            ending = ended_at (stop t) count (number_at Ms T'.registers.gp) T'.registers;
             is = refl;
             few = omega arith;
             all = λ e. let z : ◌≡◌ {A = ℕ} 0 1 = cc in absurd (omega arith);
@@ -73,19 +73,19 @@ refused_load S parameters copy m s n e = (refused-copy S parameters copy m s n e
 
 -- What is taken up ended, and what is not is refused.
 module _ (Ms : Modules) (R : Result) (most k : ℕ) (T : State) (c : Counted Ms R.answer most) where
-  pick_run : (t : Bool) (n : ℕ) → (cond t R (refused k T)).answer ≡ NotRun n → (cond t R (refused k T)).state ≡ T
-  pick_run true n e = let i : R.answer ≡ Ended c.ending = c.is in cc
+  pick_run : (t : Bool) (n : ℕ) → (cond t R (refused k T)).answer ≡ Err n → (cond t R (refused k T)).state ≡ T
+  pick_run true n e = let i : R.answer ≡ Ok c.ending = c.is in cc
   pick_run false n e = refl
 
-  pick_end : (t : Bool) (e : Ending) → (cond t R (refused k T)).answer ≡ Ended e → c.ending ≡ e
-  pick_end true e h = let i : R.answer ≡ Ended c.ending = c.is in cc
+  pick_end : (t : Bool) (e : Ending) → (cond t R (refused k T)).answer ≡ Ok e → c.ending ≡ e
+  pick_end true e h = let i : R.answer ≡ Ok c.ending = c.is in cc
   pick_end false e h = let z : ◌≡◌ {A = ℕ} 0 1 = cc in absurd (omega arith)
 
 module _ (S : Members) (copy : List ℕ) (budget k : ℕ) (T : State) where
   run : Counted (modules_of S) (run_from (modules_of S) budget 0 T).answer (0 + budget)
   run = counted (modules_of S) budget 0 T
 
-  run_end : (e : Ending) → (set_run S copy budget k T).answer ≡ Ended e → run.ending ≡ e
+  run_end : (e : Ending) → (set_run S copy budget k T).answer ≡ Ok e → run.ending ≡ e
   unfolding set_run
   run_end e h =
       pick_end (modules_of S) (run_from (modules_of S) budget 0 T) (0 + budget) (set_run_number S copy k T) T run
@@ -109,6 +109,6 @@ spends-budget S copy budget k T e h spent =
     let just : e.steps ≡ budget = omega (arith, all spent) in
     just
 
-pub end-named : (S : Members) (copy : List ℕ) (budget k : ℕ) (T : State) (e : Ending) → (set_run S copy budget k T).answer ≡ Ended e
+pub end-named : (S : Members) (copy : List ℕ) (budget k : ℕ) (T : State) (e : Ending) → (set_run S copy budget k T).answer ≡ Ok e
     → e.member ≡ number_at (modules_of S) e.registers.gp
 end-named S copy budget k T e h = rw (run_end S copy budget k T e h) at (run S copy budget k T).named

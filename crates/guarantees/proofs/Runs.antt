@@ -19,7 +19,7 @@ use Rattle.step.proofs.Preservation.{step-holds}
 use Rattle.load.specs.Modules.{modules_of}
 use Rattle.load.proofs.Modules.{modules-length}
 use Rattle.run.specs.declared.End.TheVariants.{Finished as finish, Spent, Trapped as stop}
-use Rattle.run.specs.declared.Answer.TheVariants.{Refused, Ended}
+use Rattle.std.specs.Prelude.{Err, Ok}
 use Rattle.run.specs.declared.Ended.{Ended as Ending}
 use Rattle.run.specs.Run.{Result, ended_at, proceed, run_from, set_run_number, set_run}
 use Rattle.run.proofs.Taking.{runs, refuses, taken-ready}
@@ -43,10 +43,10 @@ module _ (Ms : Modules) (T : State) where
       let same = stays T' (λ w. let z : ◌≡◌ {A = ℕ} 0 1 = cc in omega arith) in
       let before : n < n + suc left = omega arith in
       record { steps = n; last = T'; completes = c; ending = finish; stops_by = e; within = before; ends = rw same }
-  step-ends left n T' c (Trapped k) e later =
+  step-ends left n T' c (Trapped t) e later =
       let same = stays T' (λ w. let z : ◌≡◌ {A = ℕ} 0 1 = cc in omega arith) in
       let before : n < n + suc left = omega arith in
-      record { steps = n; last = T'; completes = c; ending = stop k; stops_by = e; within = before; ends = rw same }
+      record { steps = n; last = T'; completes = c; ending = stop t; stops_by = e; within = before; ends = rw same }
 
   ends-by-steps : (left n : ℕ) (T' : State) → Completes Ms T n T' → BySteps Ms T (n + left) (run_from Ms left n T')
   ends-by-steps zero n T' c =
@@ -66,15 +66,15 @@ ready_on : (Ms : Modules) (T : State) → Ready (running Ms T.registers.gp) T �
 ready_on Ms T R none = R
 ready_on Ms T R (one_more {T' = T'} c w) = (step-holds (running Ms T'.registers.gp) T' (ready_on Ms T R c)).ready
 
-not-refused : {R R' : Result} {n : ℕ} {e : Ending} → R' ≡ R → R'.answer ≡ Refused n → R.answer ≡ Ended e → ⊥
+not-refused : {R R' : Result} {n : ℕ} {e : Ending} → R' ≡ R → R'.answer ≡ Err n → R.answer ≡ Ok e → ⊥
 not-refused same f g = let z : ◌≡◌ {A = ℕ} 0 1 = cc in omega arith
 
 end-inside : (S : Members) (copy : List ℕ) (budget k : ℕ) (T : State) (e : Ending) → set_run_number S copy k T ≡ 0
-    → (set_run S copy budget k T).answer ≡ Ended e → number_at (modules_of S) e.registers.gp < length S
+    → (set_run S copy budget k T).answer ≡ Ok e → number_at (modules_of S) e.registers.gp < length S
 end-inside S copy budget k T e taken h =
     let Ms = modules_of S in
     let B = runs-by-steps S copy budget k T taken in
-    let same : Ended (ended_at B.ending _ _ B.last.registers) ≡ Ended e =
+    let same : Ok (ended_at B.ending _ _ B.last.registers) ≡ Ok e =
     ap (λ (x : Result). x.answer) (sym B.ends) ∙ h in
     let place : e.registers.gp ≡ B.last.registers.gp = cc in
     let ready = ready_on Ms T (taken-ready S copy k T taken) B.completes in

@@ -23,7 +23,7 @@ pushed-length (PushOne x) = refl
 pushed-length (PushTwo x y) = refl
 
 pub trapped_step : TrappedStep
-trapped_step P T n e = step-stops P T (λ w. let z : ◌≡◌ {A = ℕ} 0 1 = cc in omega arith)
+trapped_step P T t e = step-stops P T (λ w. let z : ◌≡◌ {A = ℕ} 0 1 = cc in omega arith)
 
 pub writes-below-height : WritesBelowHeight
 writes-below-height P T = (

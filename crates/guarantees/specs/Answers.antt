@@ -8,11 +8,13 @@ use Rattle.registers.specs.State.{State}
 use Rattle.operate.specs.Traps.{DataTrap}
 use Rattle.step.specs.declared.Outcome.TheVariants.{Trapped}
 use Rattle.step.specs.Step.{step_of}
-use Rattle.load.specs.declared.Loaded.TheVariants.{Refused}
+use Rattle.std.specs.Prelude.{Err}
 use Rattle.load.specs.Load.{set_load}
-use Rattle.run.specs.declared.Answer.TheVariants.{Refused as NotRun}
+use Rattle.std.specs.Prelude.{Err}
 use Rattle.run.specs.Run.{set_run}
 use Rattle.verifier.specs.Check.{set_check}
+use Rattle.numbers.specs.declared.Trap.{Trap}
+use Rattle.numbers.specs.TrapNumber.{trap_number}
 
 abbrev pub ReadingNumbers : Type 0
 ReadingNumbers = (r : List ℕ) → reading_number (reading_of r) ≤ 7
@@ -26,11 +28,11 @@ CheckNumbers = (S : Members) (own : ℕ) (w : List ℕ) → ((set_check S own w)
 
 abbrev pub LoadNumbers : Type 0
 LoadNumbers =
-    (S : Members) (parameters copy m s : List ℕ) (n : ℕ) → (set_load S parameters copy m s).answer ≡ Refused n → UpTo 8 n
+    (S : Members) (parameters copy m s : List ℕ) (n : ℕ) → (set_load S parameters copy m s).answer ≡ Err n → UpTo 8 n
 
 abbrev pub RunNumbers : Type 0
 RunNumbers =
-    (S : Members) (copy : List ℕ) (budget k : ℕ) (T : State) (n : ℕ) → (set_run S copy budget k T).answer ≡ NotRun n
+    (S : Members) (copy : List ℕ) (budget k : ℕ) (T : State) (n : ℕ) → (set_run S copy budget k T).answer ≡ Err n
     → UpTo 7 n ⊎ (n ≡ 24)
 
 -- "20, 21, 22, 23 | code traps: unserved; offset or bytes outside the code; too few stack words; no such callee, 0 included".
@@ -40,4 +42,6 @@ pub record CodeTrap (n : ℕ) : Type 0 where
   pub highest : n ≤ 23
 
 abbrev pub StepTraps : Type 0
-StepTraps = (P : Program) (T : State) (n : ℕ) → (step_of P T).outcome ≡ Trapped n → CodeTrap n ⊎ DataTrap n
+StepTraps =
+    (P : Program) (T : State) (t : Trap) → (step_of P T).outcome ≡ Trapped t
+    → CodeTrap (trap_number t) ⊎ DataTrap (trap_number t)

@@ -6,47 +6,48 @@ use Rattle.registers.specs.Modules.{number_at}
 use Rattle.registers.specs.Program.{Program}
 use Rattle.registers.specs.State.{State}
 use Rattle.registers.specs.Memory.{protects}
-use Rattle.load.specs.declared.Loaded.TheVariants.{Refused}
+use Rattle.std.specs.Prelude.{Err}
 use Rattle.load.specs.Modules.{modules_of}
 use Rattle.load.specs.Load.{set_load}
 use Rattle.step.specs.declared.Outcome.TheVariants.{Trapped}
 use Rattle.step.specs.Step.{step_of, step_in}
-use Rattle.run.specs.declared.Answer.TheVariants.{Refused as NotRun, Ended}
+use Rattle.std.specs.Prelude.{Err, Ok}
 use Rattle.run.specs.declared.Ended.{Ended as Ending}
 use Rattle.run.specs.declared.End.TheVariants.{Spent}
 use Rattle.run.specs.Run.{set_run_number, set_run}
+use Rattle.numbers.specs.declared.Trap.{Trap}
 
 -- 01: "Refused loads and runs change nothing."
 abbrev pub RefusedLoad : Type 0
 RefusedLoad =
-    (S : Members) (parameters copy m s : List ℕ) (n : ℕ) → (set_load S parameters copy m s).answer ≡ Refused n
+    (S : Members) (parameters copy m s : List ℕ) (n : ℕ) → (set_load S parameters copy m s).answer ≡ Err n
     → ((set_load S parameters copy m s).copy ≡ copy) × ((set_load S parameters copy m s).memory ≡ m)
 
 abbrev pub RefusedRun : Type 0
 RefusedRun =
-    (S : Members) (copy : List ℕ) (budget k : ℕ) (T : State) (n : ℕ) → (set_run S copy budget k T).answer ≡ NotRun n
+    (S : Members) (copy : List ℕ) (budget k : ℕ) (T : State) (n : ℕ) → (set_run S copy budget k T).answer ≡ Err n
     → (set_run S copy budget k T).state ≡ T
 
 -- The letter: "a trapped step leaves the machine as it stood before that step".
 abbrev pub TrappedStep : Type 0
-TrappedStep = (P : Program) (T : State) (n : ℕ) → (step_of P T).outcome ≡ Trapped n → (step_of P T).state ≡ T
+TrappedStep = (P : Program) (T : State) (t : Trap) → (step_of P T).outcome ≡ Trapped t → (step_of P T).state ≡ T
 
 -- The count of a run is at most its budget.
 abbrev pub CountWithinBudget : Type 0
 CountWithinBudget =
-    (S : Members) (copy : List ℕ) (budget k : ℕ) (T : State) (e : Ending) → (set_run S copy budget k T).answer ≡ Ended e
+    (S : Members) (copy : List ℕ) (budget k : ℕ) (T : State) (e : Ending) → (set_run S copy budget k T).answer ≡ Ok e
     → e.steps ≤ budget
 
 -- 01: "After as many steps as the budget the run answers "spent"", and after no fewer.
 abbrev pub SpendsBudget : Type 0
 SpendsBudget =
-    (S : Members) (copy : List ℕ) (budget k : ℕ) (T : State) (e : Ending) → (set_run S copy budget k T).answer ≡ Ended e
+    (S : Members) (copy : List ℕ) (budget k : ℕ) (T : State) (e : Ending) → (set_run S copy budget k T).answer ≡ Ok e
     → e.ending ≡ Spent → e.steps ≡ budget
 
 -- 02, K1: "A place names its module": the end's member is the module whose globals GP points at, and one of the set's.
 abbrev pub NamesModule : Type 0
 NamesModule =
-    (S : Members) (copy : List ℕ) (budget k : ℕ) (T : State) (e : Ending) → (set_run S copy budget k T).answer ≡ Ended e
+    (S : Members) (copy : List ℕ) (budget k : ℕ) (T : State) (e : Ending) → (set_run S copy budget k T).answer ≡ Ok e
     → (e.member ≡ number_at (modules_of S) e.registers.gp) × (e.member < length S)
 
 -- 01: "A step writes only stack words below its new height"; and the stack keeps its size.

@@ -21,7 +21,7 @@ pub data Completes (Ms : Modules) (T : State) : ℕ → State → Type 0 where
 abbrev pub StopsBy : Modules → State → End → Type 0
 StopsBy Ms T Finished = (step_in Ms T).outcome ≡ finishes
 StopsBy Ms T Spent = Unit {0}
-StopsBy Ms T (Trapped k) = (step_in Ms T).outcome ≡ traps k
+StopsBy Ms T (Trapped t) = (step_in Ms T).outcome ≡ traps t
 
 pub record BySteps (Ms : Modules) (T : State) (budget : ℕ) (run : Result) : Type 0 where
   pub steps : ℕ

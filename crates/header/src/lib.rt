@@ -38,25 +38,13 @@ pub fn header_of(r: &[u8]) -> Header
 pub fn sizes_fit(h: Header) -> bool
     ensures { result ≡ sizes_fit h }
 {
-    if 16 < h.imports {
-        return false;
-    }
-    if 4096 < h.code {
-        return false;
-    }
-    if 1024 < h.globals {
-        return false;
-    }
-    if 1024 < h.constants {
-        return false;
-    }
-    if 4096 < h.relocation {
-        return false;
-    }
-    if 16 < h.versions {
-        return false;
-    }
-    h.sources <= 2048
+    h.imports <= 16
+        && h.code <= 4096
+        && h.globals <= 1024
+        && h.constants <= 1024
+        && h.relocation <= 4096
+        && h.versions <= 16
+        && h.sources <= 2048
 }
 
 pub fn code_at(h: Header) -> usize

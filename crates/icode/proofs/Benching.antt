@@ -13,11 +13,11 @@ use Rattle.module_set.specs.Members.{Members}
 use Rattle.relocation.specs.Relocation.{set_number, after_set}
 use Rattle.registers.specs.declared.Registers.{Registers}
 use Rattle.registers.specs.State.{state, registers_in}
-use Rattle.load.specs.declared.Loaded.{Loaded}
-use Rattle.load.specs.declared.Loaded.TheVariants.{Refused}
+use Rattle.load.specs.Loaded.{Loaded}
+use Rattle.std.specs.Prelude.{Err}
 use Rattle.load.specs.Load.{Loading, loading, set_load}
 use Rattle.load.proofs.Loading.{load-refused}
-use Rattle.run.specs.declared.Answer.{Answer}
+use Rattle.run.specs.Answer.{Answer}
 use Rattle.run.specs.Run.{Result, ran, refused, set_run}
 use Rattle.run.proofs.Taking.{run-refused}
 use Rattle.icode.specs.Interface.{laid}
@@ -51,7 +51,7 @@ module _ (words : ℕ) (S : Members) (ps copy m s w : List ℕ) where
           → load_reply words L.answer L.copy L.memory w ≡ bench_load words S ps copy m s w
       by true t = rw (t, eq-eqb (length w) words long, ← e)
       by false t =
-          let none : L ≡ loading (Refused (set_number S)) copy m =
+          let none : L ≡ loading (Err (set_number S)) copy m =
           e ∙ sym (load-refused S ps copy m s (set_number S) refl (eqb-false (set_number S) 0 t)) in
           rw (t, none)
 

@@ -3,19 +3,18 @@ use mathlib.Core.Path.{◌≡◌, refl}
 use Prim.Native.Nat.{ℕ, ◌*◌}
 use native.Mathlib.Omega.{arith}
 use lib.ListN.{length}
-use Rattle.source.specs.declared.Lookup.{Lookup}
-use Rattle.source.specs.declared.Lookup.TheVariants.{Found, Outside}
+use Rattle.source.specs.declared.Span.{Span}
 use Rattle.source.specs.Span.{lookup_values, lookup_line}
-use Rattle.record.specs.declared.Line.TheVariants.{Refused, At}
+use Rattle.std.specs.Prelude.{Err, Ok, Option, Some, None}
 use Rattle.icode.specs.Interface.{line_code}
 
-pub four-values : (a : Lookup) → length (lookup_values a) ≡ 4
-four-values (Found s) = refl
-four-values Outside = refl
+pub four-values : (a : Option Span) → length (lookup_values a) ≡ 4
+four-values (Some s) = refl
+four-values None = refl
 
-pub refused-code : (n : ℕ) → n * 0x1_0000_0000 ≡ line_code (Refused n)
+pub refused-code : (n : ℕ) → n * 0x1_0000_0000 ≡ line_code (Err n)
 refused-code n = omega arith
 
-pub line_code_lem : (a : Lookup) → lookup_line a ≡ line_code (At a)
-line_code_lem (Found s) = omega arith
-line_code_lem Outside = refl
+pub line_code_lem : (a : Option Span) → lookup_line a ≡ line_code (Ok a)
+line_code_lem (Some s) = omega arith
+line_code_lem None = refl

@@ -6,11 +6,11 @@ use Rattle.module_set.specs.Members.{Members, single}
 use Rattle.relocation.specs.Relocation.{set_number}
 use Rattle.registers.specs.declared.Registers.{Registers}
 use Rattle.registers.specs.State.{state, state_words, registers_in}
-use Rattle.load.specs.declared.Loaded.{Loaded}
-use Rattle.load.specs.declared.Loaded.TheVariants.{Refused as NotLoaded, Ready}
+use Rattle.load.specs.Loaded.{Loaded}
+use Rattle.std.specs.Prelude.{Err, Ok}
 use Rattle.load.specs.Load.{loaded_number, set_load}
-use Rattle.run.specs.declared.Answer.{Answer}
-use Rattle.run.specs.declared.Answer.TheVariants.{Refused, Ended}
+use Rattle.run.specs.Answer.{Answer}
+use Rattle.std.specs.Prelude.{Err, Ok}
 use Rattle.run.specs.declared.Ended.{Ended as Ending}
 use Rattle.run.specs.Run.{outcome_words, answer_number, set_run}
 use Rattle.icode.specs.Interface.{laid}
@@ -49,8 +49,8 @@ loaded_as n copy m w = record { answer = n; copy = copy; memory = m; state = w }
 
 -- The registers at the start, in the main module; a refused load leaves the state.
 abbrev pub ready_words : (words : ℕ) → Loaded → List ℕ
-ready_words words (NotLoaded n) = []
-ready_words words (Ready q) = placed_state words q 0
+ready_words words (Err n) = []
+ready_words words (Ok q) = placed_state words q 0
 
 abbrev pub load_reply : (words : ℕ) → Loaded → (copy m w : List ℕ) → BenchLoaded
 load_reply words a copy m w = loaded_as (loaded_number a) copy m (laid (ready_words words a) w)
@@ -78,12 +78,12 @@ ran_as n m s w o = record { answer = n; memory = m; stack = s; state = w; outcom
 
 -- The registers of an end and its module, and the outcome; a refused run leaves both.
 abbrev pub end_state : (words : ℕ) → Answer → List ℕ
-end_state words (Refused n) = []
-end_state words (Ended e) = placed_state words e.registers e.member
+end_state words (Err n) = []
+end_state words (Ok e) = placed_state words e.registers e.member
 
 abbrev pub end_outcome : (words : ℕ) → Answer → List ℕ
-end_outcome words (Refused n) = []
-end_outcome words (Ended e) = placed_outcome words e
+end_outcome words (Err n) = []
+end_outcome words (Ok e) = placed_outcome words e
 
 abbrev pub run_reply : (words places : ℕ) → Answer → (m s w o : List ℕ) → BenchRan
 run_reply words places a m s w o = ran_as (answer_number a) m s (laid (end_state words a) w) (laid (end_outcome places a) o)

@@ -1,11 +1,12 @@
 -- Answers as numbers, for C.
 use Rattle.std.specs.Prelude.{cond, List, [], ◌∷◌, ℕ, ◌+◌, ◌*◌, ◌-◌, eqb, ltb, length, get_or}
 use Rattle.words.specs.Lent.{over}
-use Rattle.record.specs.declared.Line.{Line}
+use Rattle.record.specs.Number.{Line}
 use Rattle.record.specs.Number.{line_number, line_values}
 use Rattle.opcode.specs.Decode.{decoded_number}
-use Rattle.opcode.specs.declared.Decoded.{Decoded}
-use Rattle.opcode.specs.declared.Decoded.TheVariants.{Unserved, Past, At}
+use Rattle.opcode.specs.Decode.{Decoded}
+use Rattle.opcode.specs.declared.DecodeError.TheVariants.{Unserved, Past}
+use Rattle.std.specs.Prelude.{Err, Ok}
 use Rattle.report.specs.Report.{Output, output}
 use Rattle.mnemonic.specs.Mnemonic.{parts_of}
 
@@ -24,9 +25,8 @@ span_reply a out =
 
 -- The number of an instruction's mnemonic, its mode, its operands, and its length in bytes, a prefix counted in.
 abbrev pub decoded_values : Decoded → ℕ → List ℕ
-decoded_values Unserved at = []
-decoded_values Past at = []
-decoded_values (At i next) at =
+decoded_values (Err e) at = []
+decoded_values (Ok (i, next)) at =
     let p = parts_of i in
     p.number ∷ p.mode ∷ p.operand ∷ p.second ∷ (next - at) ∷ []
 

@@ -1,7 +1,7 @@
 -- Mending for C: what it answers, and what it leaves in the record's buffer, the list's and the counts.
 use Rattle.std.specs.Prelude.{cond, List, ℕ, ltb, eqb, length}
 use Rattle.record.specs.Number.{size_number}
-use Rattle.mend.specs.declared.Mending.{Mending}
+use Rattle.mend.specs.Mend.{Mending}
 use Rattle.mend.specs.Mend.{mend_of, mending_number, mending_values}
 use Rattle.icode.specs.Interface.{laid}
 

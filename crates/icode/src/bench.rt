@@ -3,21 +3,20 @@ ghost use Rattle.std.specs.Prelude.{true, [], ◌∷◌, ◌≡◌};
 ghost use Rattle.words.specs.Refusal.{◌when◌};
 ghost use Rattle.module_set.specs.Members.{single};
 ghost use Rattle.relocation.specs.Relocation.{after_set};
+ghost use Rattle.numbers.specs.Number.{number_of};
 ghost use Rattle.icode.specs.Bench.{record_load, ran_as, record_run};
 
 use crate::state_words;
-use load::Loaded;
-use run::Answer;
+use numbers::Refusal;
 
-// The record's number, or another where it has none. Where all lengths are taken, load and run answer it.
-fn number_or(bytes: &[u8], other: u32) -> u32
-    ensures { result ≡ after_set (single bytes.now []) (other when true ∷ []) }
+// The record's refusal, or another where it has none. Where all lengths are taken, load and run answer it.
+fn refusal_or(bytes: &[u8], other: Refusal) -> Refusal
+    ensures { number_of result ≡ after_set (single bytes.now []) (number_of other when true ∷ []) }
 {
-    let number = relocation::number::single_number(bytes);
-    if number != 0 {
-        return number;
+    match relocation::number::single_number(bytes) {
+        Ok(()) => other,
+        Err(refusal) => refusal,
     }
-    other
 }
 
 #[unsafe(no_mangle)]
@@ -33,15 +32,14 @@ pub extern "C" fn icode_bench_load(
         (result ≡ L.answer) × (memory.new ≡ L.memory) × (state.new ≡ L.state) }
 {
     if state.len() != 6 {
-        return number_or(bytes, 8);
+        return refusal_or(bytes, Refusal::Room).number();
     }
-    let loaded = load::load(bytes, parameters, memory, stack);
-    match loaded {
-        Loaded::Refused(n) => n,
-        Loaded::Ready(q) => {
+    match load::load(bytes, parameters, memory, stack) {
+        Ok(q) => {
             state_words::write_state(state, q);
             0
         }
+        Err(refused) => refused.number(),
     }
 }
 
@@ -60,21 +58,19 @@ fn bench_run(
         state.old outcome.old }
 {
     if state.len() != 6 {
-        return number_or(bytes, 24);
+        return refusal_or(bytes, Refusal::State).number();
     }
     if outcome.len() != 3 {
-        return number_or(bytes, 24);
+        return refusal_or(bytes, Refusal::State).number();
     }
     let q = state_words::read_state(state);
-    let answer = machine::run_by(at_once, bytes, budget, q, memory, stack);
-    match answer {
-        Answer::Refused(n) => n,
-        Answer::Ended(e) => {
-            let registers = e.registers;
+    match machine::run_by(at_once, bytes, budget, q, memory, stack) {
+        Ok(e) => {
             state_words::write_outcome(outcome, e);
-            state_words::write_state(state, registers);
+            state_words::write_state(state, e.registers);
             0
         }
+        Err(refusal) => refusal.number(),
     }
 }
 

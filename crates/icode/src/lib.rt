@@ -8,6 +8,7 @@ ghost use Rattle.opcode.specs.Decode.{decode_at};
 ghost use Rattle.verifier.specs.Check.{check_of};
 ghost use Rattle.workspace.specs.Checking.{checking};
 ghost use Rattle.report.specs.Report.{output, printed, text_of};
+ghost use Rattle.numbers.specs.Number.{number};
 ghost use Rattle.icode.specs.Interface.{line_code, span_reply, decode_reply};
 
 pub mod bench;
@@ -15,24 +16,24 @@ pub mod mending;
 pub mod set;
 pub mod state_words;
 
-use opcode::Decoded;
-use record::Line;
-use source::Lookup;
+use numbers::Refusal;
+use opcode::format::FormatSheet;
+use source::Span;
 
 #[unsafe(no_mangle)]
 pub extern "C" fn icode_record_number(bytes: &[u8]) -> u32
     ensures { result ≡ record_number bytes.now }
 {
-    record::record_number(bytes)
+    numbers::number(record::read(bytes))
 }
 
 // The line of a lookup, 0 outside the code.
-fn line_in(lookup: Lookup) -> u32
+fn line_in(lookup: Option<Span>) -> u32
     ensures { result ≡ lookup_line lookup }
 {
     match lookup {
-        Lookup::Found(span) => span.line,
-        Lookup::Outside => 0,
+        Some(span) => span.line,
+        None => 0,
     }
 }
 
@@ -40,10 +41,9 @@ fn line_in(lookup: Lookup) -> u32
 pub extern "C" fn icode_line(bytes: &[u8], offset: u32) -> u64
     ensures { result ≡ line_code (line_span bytes.now offset) }
 {
-    let answer = record::line_span(bytes, offset);
-    match answer {
-        Line::Refused(number) => (number as u64) * 0x1_0000_0000,
-        Line::At(lookup) => line_in(lookup) as u64,
+    match record::line_span(bytes, offset) {
+        Ok(lookup) => line_in(lookup) as u64,
+        Err(refusal) => (refusal.number() as u64) * 0x1_0000_0000,
     }
 }
 
@@ -57,27 +57,26 @@ fn write_span(out: &mut [u32], outside: u32, first: u32, last: u32, line: u32)
     out[3] = line;
 }
 
-fn write_lookup(out: &mut [u32], lookup: Lookup) -> u32
-    ensures { output result out.new ≡ span_reply (Line.At lookup) out.old }
+fn write_lookup(out: &mut [u32], lookup: Option<Span>) -> Result<(), Refusal>
+    ensures { output (number result) out.new ≡ span_reply (Ok lookup) out.old }
 {
     if out.len() < 4 {
-        return 8;
+        return Err(Refusal::Room);
     }
     match lookup {
-        Lookup::Found(span) => write_span(out, 0, span.first, span.last, span.line),
-        Lookup::Outside => write_span(out, 1, 0, 0, 0),
+        Some(span) => write_span(out, 0, span.first, span.last, span.line),
+        None => write_span(out, 1, 0, 0, 0),
     }
-    0
+    Ok(())
 }
 
 #[unsafe(no_mangle)]
 pub extern "C" fn icode_line_span(bytes: &[u8], offset: u32, span: &mut [u32]) -> u32
     ensures { output result span.new ≡ span_reply (line_span bytes.now offset) span.old }
 {
-    let answer = record::line_span(bytes, offset);
-    match answer {
-        Line::Refused(number) => number,
-        Line::At(lookup) => write_lookup(span, lookup),
+    match record::line_span(bytes, offset) {
+        Ok(lookup) => numbers::number(write_lookup(span, lookup)),
+        Err(refusal) => refusal.number(),
     }
 }
 
@@ -85,7 +84,7 @@ pub extern "C" fn icode_line_span(bytes: &[u8], offset: u32, span: &mut [u32]) -
 pub extern "C" fn icode_check(bytes: &[u8], results: &[u8], workspace: &mut [u16]) -> u32
     ensures { checking result workspace.new ≡ check_of bytes.now results.now workspace.old }
 {
-    verifier::check::check(bytes, results, workspace)
+    numbers::number(verifier::check::check(bytes, results, workspace))
 }
 
 // Run-and-report with memory and stack of its own. A buffer of 32,768 bytes never comes back empty.
@@ -108,12 +107,11 @@ pub extern "C" fn icode_bench_decode(code: &[u8], limit: usize, at: usize, out: 
     if out.len() != 5 {
         return 8;
     }
-    let formats = opcode::format::formats();
-    let decoded = opcode::decode(&formats, code, limit, at);
-    match decoded {
-        Decoded::Unserved => opcode::decoded_number(decoded),
-        Decoded::Past => opcode::decoded_number(decoded),
-        Decoded::At(i, next) => {
+    let entries = opcode::format::formats();
+    let formats = FormatSheet { entries: &entries };
+    match opcode::decode(formats, code, limit, at) {
+        Err(e) => Refusal::from(e).number(),
+        Ok((i, next)) => {
             let parts = mnemonic::parts_of(i);
             out[0] = parts.number;
             out[1] = parts.mode;

@@ -1,8 +1,9 @@
 // Mending for C.
 ghost use Rattle.std.specs.Prelude.{◌≡◌};
+ghost use Rattle.numbers.specs.Number.{number};
 ghost use Rattle.icode.specs.Mending.{reply, mend_reply};
 
-use mend::Mending;
+use numbers::Refusal;
 
 #[unsafe(no_mangle)]
 pub extern "C" fn icode_mend(
@@ -14,20 +15,25 @@ pub extern "C" fn icode_mend(
     ensures { reply result out.new places.new counts.new
         ≡ mend_reply bytes.now out.old places.old counts.old }
 {
-    let number = record::size_number(bytes);
-    if number != 0 {
-        return number;
-    }
+    numbers::number(mend_into(bytes, out, places, counts))
+}
+
+// Mends where there is room for the two counts.
+fn mend_into(
+    bytes: &[u8],
+    out: &mut [u8],
+    places: &mut [u32],
+    counts: &mut [u32],
+) -> Result<(), Refusal>
+    ensures { reply (number result) out.new places.new counts.new
+        ≡ mend_reply bytes.now out.old places.old counts.old }
+{
+    record::sized(bytes)?;
     if counts.len() < 2 {
-        return 8;
+        return Err(Refusal::Room);
     }
-    let answer = mend::mend(bytes, out, places);
-    match answer {
-        Mending::Refused(refusal) => refusal,
-        Mending::Mended(length, dropped) => {
-            counts[0] = length as u32;
-            counts[1] = dropped as u32;
-            0
-        }
-    }
+    let mended = mend::mend(bytes, out, places)?;
+    counts[0] = mended.bytes as u32;
+    counts[1] = mended.dropped as u32;
+    Ok(())
 }

@@ -5,11 +5,11 @@ ghost use Rattle.module_set.specs.Members.{members_of};
 ghost use Rattle.relocation.specs.Relocation.{after_set};
 ghost use Rattle.workspace.specs.Checking.{checking};
 ghost use Rattle.verifier.specs.Check.{set_check};
+ghost use Rattle.numbers.specs.Number.{number_of};
 ghost use Rattle.icode.specs.Bench.{set_state, loaded_as, bench_load, ran_as, bench_set_run};
 
 use crate::state_words;
-use load::Loaded;
-use run::Answer;
+use numbers::Refusal;
 
 #[unsafe(no_mangle)]
 pub extern "C" fn icode_set_check(
@@ -22,19 +22,19 @@ pub extern "C" fn icode_set_check(
     ensures { checking result workspace.new
         ≡ set_check (members_of records.now results.now directory.now) own workspace.old }
 {
-    verifier::check::check_set(records, results, directory, own as usize, workspace)
+    let checked = verifier::check::check_set(records, results, directory, own as usize, workspace);
+    numbers::number(checked)
 }
 
-// The set's number, or another where it has none. Where all lengths are taken, load and run answer it.
-fn set_number_or(records: &[u8], directory: &[u32], other: u32) -> u32
+// The set's refusal, or another where it has none. Where all lengths are taken, load and run answer it.
+fn refusal_or(records: &[u8], directory: &[u32], other: Refusal) -> Refusal
     ensures { (lists : List ℕ) →
-        result ≡ after_set (members_of records.now lists directory.now) (other when true ∷ []) }
+        number_of result ≡ after_set (members_of records.now lists directory.now) (number_of other when true ∷ []) }
 {
-    let number = relocation::number::set_number(records, directory);
-    if number != 0 {
-        return number;
+    match relocation::number::set_number(records, directory) {
+        Ok(()) => other,
+        Err(refusal) => refusal,
     }
-    other
 }
 
 // The results lists count for nothing.
@@ -53,15 +53,14 @@ pub extern "C" fn icode_bench_set_load(
         copy.old memory.old stack.now state.old }
 {
     if state.len() != 7 {
-        return set_number_or(records, directory, 8);
+        return refusal_or(records, directory, Refusal::Room).number();
     }
-    let loaded = load::load_set(records, directory, parameters, copy, memory, stack);
-    match loaded {
-        Loaded::Refused(n) => n,
-        Loaded::Ready(q) => {
+    match load::load_set(records, directory, parameters, copy, memory, stack) {
+        Ok(q) => {
             state_words::write_set_state(state, q, 0);
             0
         }
+        Err(refused) => refused.number(),
     }
 }
 
@@ -83,10 +82,10 @@ fn bench_set_run(
         memory.old stack.old state.old outcome.old }
 {
     if state.len() != 7 {
-        return set_number_or(records, directory, 24);
+        return refusal_or(records, directory, Refusal::State).number();
     }
     if outcome.len() < 4 {
-        return set_number_or(records, directory, 24);
+        return refusal_or(records, directory, Refusal::State).number();
     }
     let q = state_words::read_state(state);
     let member = state[6];
@@ -94,14 +93,12 @@ fn bench_set_run(
         at_once, records, directory, copy, budget, member, q, memory, stack,
     );
     match answer {
-        Answer::Refused(n) => n,
-        Answer::Ended(e) => {
-            let registers = e.registers;
-            let place = e.member;
+        Ok(e) => {
             state_words::write_set_outcome(outcome, e);
-            state_words::write_set_state(state, registers, place);
+            state_words::write_set_state(state, e.registers, e.member);
             0
         }
+        Err(refusal) => refusal.number(),
     }
 }
 

@@ -36,10 +36,8 @@ pub fn write_outcome(outcome: &mut [u32], e: Ended)
     requires { 3 ≤ length outcome.old }
     ensures { outcome.new ≡ laid (outcome_words e) outcome.old }
 {
-    let ending = e.ending;
-    let registers = e.registers;
-    outcome[0] = run::end_number(ending);
-    outcome[1] = registers.pc;
+    outcome[0] = run::end_number(e.ending);
+    outcome[1] = e.registers.pc;
     outcome[2] = e.steps;
 }
 
@@ -56,7 +54,6 @@ pub fn write_set_outcome(outcome: &mut [u32], e: Ended)
     requires { 4 ≤ length outcome.old }
     ensures { outcome.new ≡ laid (outcome_words e ++ (e.member ∷ [])) outcome.old }
 {
-    let member = e.member;
     write_outcome(outcome, e);
-    outcome[3] = member;
+    outcome[3] = e.member;
 }

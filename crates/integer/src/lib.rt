@@ -6,11 +6,11 @@ ghost use Rattle.std.specs.Int.Signed.{le_z, lt_z};
 ghost use Rattle.std.specs.Int.{w32};
 ghost use Rattle.std.proofs.Common.{to_z};
 
-// The signed number that a word holds. Written so that it compiles to one sign extension.
+// The signed number that a word holds.
 pub fn signed(word: u32) -> i64
     ensures { result ≡ to_z w32 word }
 {
-    ((((word as u64) + 0x8000_0000) % 0x1_0000_0000) as i64) - 0x8000_0000
+    i64::from(word.cast_signed())
 }
 
 // x <= y, signed.

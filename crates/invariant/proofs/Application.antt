@@ -10,7 +10,7 @@ use lib.ListN.{length}
 use lib.Seq.{sets}
 use borrow.Author.Tests.{ltb-true, ltb-false, lt-ltb}
 use Rattle.words.proofs.Tests.{by-test}
-use Rattle.opcode.specs.declared.Decoded.{Decoded}
+use Rattle.opcode.specs.Decode.{Decoded}
 use Rattle.opcode.specs.declared.instruction.Instruction.{Instruction}
 use Rattle.operate.specs.Traps.{DataTrap}
 use Rattle.operate.proofs.Traps.{data-number}
@@ -29,10 +29,12 @@ use Rattle.stackmap.specs.Ways.{Subject, Way}
 use Rattle.step.specs.Step.{code_after, After, pushed, apply, perform, step_of}
 use Rattle.invariant.specs.Active.{Configuration}
 use Rattle.invariant.proofs.Invariant.{Setting, registers_of, program_in, step_in, Doing, Moves, Left, Steps}
+use Rattle.numbers.specs.declared.Trap.{Trap as Cause}
+use Rattle.numbers.specs.TrapNumber.{trap_number}
 
 -- An effect from a configuration: Done where it finishes, Then of the registers and the stack where it goes on.
 pub data Good (P : Program) (c : Configuration) (Done : Type 0) (Then : Registers → List ℕ → Type 0) : Effect → Type 0 where
-  good-trap : {n : ℕ} → DataTrap n → Good P c Done Then (Trap n)
+  good-trap : {t : Cause} → DataTrap (trap_number t) → Good P c Done Then (Trap t)
   good-finish : Done → Good P c Done Then Finish
   good-go : {pops : ℕ} {push : Push} {write : Write} {q : Registers} → q.pc < length (code_after P q.gp)
       → ((registers_of c).height - pops + pushes push ≤ length c.state.stack
@@ -49,7 +51,7 @@ module _ (U : Subject) (E : Setting) (c : Configuration) (out : List Way) (k : L
 
   apply-leaves : (e : Effect) → Goes e → Leaves (apply (program_in U E) c.state e)
   unfolding apply
-  apply-leaves (Trap n) (good-trap d) = d
+  apply-leaves (Trap t) (good-trap d) = d
   apply-leaves Finish (good-finish d) = d
   apply-leaves (Go pops push write q) (good-go l h) =
       let height : ℕ = (registers_of c).height - pops + pushes push in

@@ -10,7 +10,7 @@ use lib.ListN.{length, get_or, drop, set, length-drop, length-set}
 use lib.Seq.{sets, ext_get_or, get_or-drop, get_or-set_same, get_or-set_other, set_out}
 use borrow.Author.Tests.{eqb-true, eqb-false, ltb-true, ltb-false}
 use Rattle.words.proofs.Sets.{sets-other}
-use Rattle.opcode.specs.declared.Decoded.TheVariants.{At}
+use Rattle.std.specs.Prelude.{Ok}
 use Rattle.opcode.specs.declared.instruction.Instruction.{Instruction}
 use Rattle.shape.specs.Shape.{needed}
 use Rattle.effect.specs.declared.effect.Effect.{Effect}
@@ -89,7 +89,7 @@ module _ (share : ℕ) (P : Program) (q : Registers) (m s s' : List ℕ) (same :
   apply-alike : (k : ℕ) (F : Write → Registers → Type 0) (e : Effect) → share + k ≤ q.height → Does k F e
       → Alike share s' (apply P S e) (apply P S' e)
   unfolding apply
-  apply-alike k F (Trap n) h does-trap = as_before _
+  apply-alike k F (Trap t) h does-trap = as_before _
   apply-alike k F Finish h does-finish = as_before _
   apply-alike k F (Go pops push write next) h (does-go l p) =
       rw same.room (alike-cond share s' (ltb (length s) (q.height - pops + pushes push)) _ _ _ _ (as_before _)
@@ -104,7 +104,7 @@ module _ (share : ℕ) (P : Program) (q : Registers) (m s s' : List ℕ) (same :
       (as_before _)))
 
   perform-alike : (i : Instruction) (next : ℕ) → share + needed i ≤ q.height
-      → Alike share s' (perform P S (At i next)) (perform P S' (At i next))
+      → Alike share s' (perform P S (Ok (i, next))) (perform P S' (Ok (i, next)))
   unfolding perform
   perform-alike i next h =
       rw (top-same share s s' (needed i) q.height same h)

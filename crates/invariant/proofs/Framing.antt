@@ -24,10 +24,11 @@ use Rattle.step.specs.Step.{written}
 use Rattle.execute.proofs.Acts.{Acts, traps, no-library, passes, resizes, stores, drops, jumps, branches, keeps-boolean, pops-boolean}
 use Rattle.execute.proofs.Acts.{skips-loop, enters-loop, leaves_loop, leaves-by-sum, repeats-loop, switches}
 use Rattle.execute.proofs.Acts.{leaves-switch, no-callee, calls, no-external-callee, calls-external, enters, finishes, returns}
+use Rattle.numbers.specs.declared.Trap.{Trap as Cause}
 
 -- An effect traps or finishes; or at most k words go, and P holds of its write and its registers.
 pub data Does (k : ℕ) (P : Write → Registers → Type 0) : Effect → Type 0 where
-  does-trap : {n : ℕ} → Does k P (Trap n)
+  does-trap : {t : Cause} → Does k P (Trap t)
   does-finish : Does k P Finish
   does-go : {pops : ℕ} {push : Push} {write : Write} {q : Registers} → pops ≤ k → P write q → Does k P (Go pops push write q)
 

@@ -8,7 +8,7 @@ use lib.ListN.{length, get_or}
 use Rattle.entries.specs.Entries.{entry_at, entry_count}
 use Rattle.operate.specs.Traps.{DataTrap}
 use Rattle.opcode.specs.Decode.{decode_at}
-use Rattle.opcode.specs.declared.Decoded.TheVariants.{At}
+use Rattle.std.specs.Prelude.{Ok}
 use Rattle.opcode.specs.declared.instruction.Instruction.{Instruction}
 use Rattle.shape.specs.Shape.{shape_of, finds, needed}
 use Rattle.shape.specs.declared.Shape.{Shape}
@@ -30,6 +30,7 @@ use Rattle.step.specs.Ready.{Ready}
 use Rattle.execute.proofs.Acts.{lacks}
 use Rattle.invariant.specs.Active.{Call, Subjects, running_member, running, share_of, Configuration, calls_decoded}
 use Rattle.invariant.specs.Shares.{Holds, SameFrom, other}
+use Rattle.numbers.specs.TrapNumber.{trap_number}
 
 abbrev pub registers_of : Configuration → Registers
 registers_of c = c.state.registers
@@ -95,7 +96,7 @@ pub record Inv (Ms : Modules) (Us : Subjects) (c : Configuration) : Type 0 where
 
 -- The instruction that a configuration is about to do.
 pub record Doing (U : Subject) (c : Configuration) (i : Instruction) (next : ℕ) : Type 0 where
-  pub decoded : decode_at U.code (length U.code) (registers_of c).pc ≡ At i next
+  pub decoded : decode_at U.code (length U.code) (registers_of c).pc ≡ Ok (i, next)
 
 -- Part 1: a completed step keeps the frames in step with the active calls. A local call is one within the module that runs.
 abbrev pub FramesKept : Type 0
@@ -155,7 +156,7 @@ Moves Ms U c out q s returning =
 abbrev pub Left : Modules → Subject → Configuration → List Way → Linkage → After → Outcome → Type 0
 Left Ms U c out k a Went = Moves Ms U c out a.state.registers a.state.stack k
 Left Ms U c out k a Finished = k ≡ returning
-Left Ms U c out k a (Trapped n) = DataTrap n
+Left Ms U c out k a (Trapped t) = DataTrap (trap_number t)
 
 abbrev pub Steps : Subject → Setting → Configuration → List Way → Linkage → Outcome → Type 0
 Steps U E c out k o = Left E.modules U c out k (step_in U E c) o

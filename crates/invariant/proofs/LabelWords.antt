@@ -9,7 +9,7 @@ use lib.ListN.{length}
 use borrow.Author.Tests.{eq-eqb}
 use Rattle.words.specs.Bytes.{byte_at}
 use Rattle.opcode.specs.Decode.{decode_at}
-use Rattle.opcode.specs.declared.Decoded.TheVariants.{At}
+use Rattle.std.specs.Prelude.{Ok}
 use Rattle.opcode.specs.declared.instruction.Instruction.{Instruction}
 use Rattle.shape.specs.Shape.{shape_of, needed}
 use Rattle.shape.specs.declared.Shape.{Shape}
@@ -27,7 +27,7 @@ use Rattle.stackmap.specs.Ways.{label_word}
 use Rattle.invariant.specs.Labels.{IterPushes, SwitchPushes}
 
 -- Speak of a place in the code alone, so that they serve the theorems below and the invariant (`Slots`).
-module _ (code : List ℕ) (at next : ℕ) (i : Instruction) (decoded : decode_at code (length code) at ≡ At i next) where
+module _ (code : List ℕ) (at next : ℕ) (i : Instruction) (decoded : decode_at code (length code) at ≡ Ok (i, next)) where
   pub iter-word : {d : ℕ} → shape_of i ≡ Iter d → next ≡ label_word code at
   iter-word s =
       let o = iter-origin code (length code) at next i decoded s in

@@ -14,7 +14,7 @@ use Rattle.words.proofs.Refusal.{cleared}
 use Rattle.entries.specs.Entries.{entry_at, entry_count, no_callee, region_end}
 use Rattle.entries.specs.Libraries.{Library, library_in}
 use Rattle.opcode.specs.Decode.{decode_at}
-use Rattle.opcode.specs.declared.Decoded.TheVariants.{At}
+use Rattle.std.specs.Prelude.{Ok}
 use Rattle.opcode.specs.declared.instruction.Instruction.{Instruction}
 use Rattle.shape.specs.Shape.{shape_of}
 use Rattle.shape.specs.declared.Shape.TheVariants.{Call, CallExternal}
@@ -67,14 +67,14 @@ pub record AtPlace (U : Subject) (p at : ℕ) (l : List Slot) : Type 0 where
   pub inside : at < length U.code
   pub instruction : Instruction
   pub next : ℕ
-  pub decoded : decode_at U.code (length U.code) at ≡ At instruction next
+  pub decoded : decode_at U.code (length U.code) at ≡ Ok (instruction, next)
   pub out : List Way
   pub found : ways_at U p at l ≡ some out
   pub ways-out : ways U p at next (shape_of instruction) l ≡ some out
   pub stays : InCode U.code out
   pub callable : (d : ℕ) → shape_of instruction ≡ Call d → Callable U.code d
   pub external : (k d : ℕ) → shape_of instruction ≡ CallExternal k d → no_callee (library_in U.libraries k).code d ≡ false
-  pub region : decode_at U.code (region_end U.code p) at ≡ At instruction next
+  pub region : decode_at U.code (region_end U.code p) at ≡ Ok (instruction, next)
   pub start : starts_in U.marks p at ≡ true
 
 -- A procedure of an accepted module.
@@ -94,7 +94,7 @@ module _ (U : Subject) (C : Checked U) (p : ℕ) (h : p < entry_count U.code) wh
   reached-inside at l r = C.cutted.inside p at (obeyed at l r).start
 
   calls-only : (at next : ℕ) (i : Instruction) → starts_in U.marks p at ≡ true
-      → decode_at U.code (region_end U.code p) at ≡ At i next
+      → decode_at U.code (region_end U.code p) at ≡ Ok (i, next)
       → (d : ℕ) → shape_of i ≡ Call d → Callable U.code d
   unfolding uncallable
   calls-only at next i s e d k =
@@ -104,7 +104,7 @@ module _ (U : Subject) (C : Checked U) (p : ℕ) (h : p < entry_count U.code) wh
       callable U C d t
 
   calls-external : (at next : ℕ) (i : Instruction) → starts_in U.marks p at ≡ true
-      → decode_at U.code (region_end U.code p) at ≡ At i next
+      → decode_at U.code (region_end U.code p) at ≡ Ok (i, next)
       → (k d : ℕ) → shape_of i ≡ CallExternal k d → no_callee (library_in U.libraries k).code d ≡ false
   unfolding uncallable
   calls-external at next i s e k d is =
@@ -138,7 +138,7 @@ pub record Together (Ms : Modules) (Us : Subjects) : Type 0 where
   pub codes : (k : ℕ) → k < length Ms → (Us k).code ≡ (module_at Ms k).code
   pub checked : (k : ℕ) → k < length Ms → Checked (Us k)
   pub there : (k : ℕ) → k < length Ms → (p at next : ℕ) (i : Instruction) → starts_in (Us k).marks p at ≡ true
-      → decode_at (Us k).code (region_end (Us k).code p) at ≡ At i next → lacks Ms i ≡ false
+      → decode_at (Us k).code (region_end (Us k).code p) at ≡ Ok (i, next) → lacks Ms i ≡ false
   pub callees : (k l d : ℕ) → k < length Ms → 0 < l → l < length Ms
       → no_callee (library_in (Us k).libraries l).code d ≡ no_callee (Us l).code d
   pub parameters : (k l d : ℕ) → k < length Ms → 0 < l → l < length Ms → d < entry_count (Us l).code

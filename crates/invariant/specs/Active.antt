@@ -2,8 +2,9 @@
 -- one; with none, procedure 0." 02, K1: "A place names its module."
 use Rattle.std.specs.Prelude.{List, [], ◌∷◌, ◌≡◌, ℕ, suc, ◌-◌, length}
 use Rattle.opcode.specs.Decode.{decode_at}
-use Rattle.opcode.specs.declared.Decoded.{Decoded}
-use Rattle.opcode.specs.declared.Decoded.TheVariants.{Unserved, Past, At}
+use Rattle.opcode.specs.Decode.{Decoded}
+use Rattle.opcode.specs.declared.DecodeError.TheVariants.{Unserved, Past}
+use Rattle.std.specs.Prelude.{Err, Ok}
 use Rattle.shape.specs.Shape.{shape_of}
 use Rattle.shape.specs.declared.Shape.{Shape}
 use Rattle.shape.specs.Linkage.{Linkage, inside, calling, calling_external, entering, returning, linkage_of}
@@ -77,9 +78,9 @@ abbrev pub calls_after : Subjects → Registers → ℕ → Shape → List Call 
 calls_after Us q next s calls = calls_by Us q next (linkage_of s) calls
 
 abbrev pub calls_decoded : Subjects → Registers → List Call → Decoded → List Call
-calls_decoded Us q calls Unserved = calls
-calls_decoded Us q calls Past = calls
-calls_decoded Us q calls (At i next) = calls_after Us q next (shape_of i) calls
+calls_decoded Us q calls (Err Unserved) = calls
+calls_decoded Us q calls (Err Past) = calls
+calls_decoded Us q calls (Ok (i, next)) = calls_after Us q next (shape_of i) calls
 
 abbrev pub step_on : Modules → Configuration → After
 step_on Ms c = step_in Ms c.state

@@ -2,7 +2,7 @@
 -- word, or nothing (where it skips its loop); a switch that goes on pushes this word.
 use Rattle.std.specs.Prelude.{◌⊎◌, ◌≡◌, ℕ, length}
 use Rattle.opcode.specs.Decode.{decode_at}
-use Rattle.opcode.specs.declared.Decoded.TheVariants.{At}
+use Rattle.std.specs.Prelude.{Ok}
 use Rattle.opcode.specs.declared.instruction.Instruction.{Instruction}
 use Rattle.shape.specs.Shape.{shape_of}
 use Rattle.shape.specs.declared.Shape.{Shape}
@@ -22,7 +22,7 @@ use Rattle.stackmap.specs.Ways.{label_word}
 abbrev pub Pushes : Shape → (Push → ℕ → Type 0) → Type 0
 Pushes s Property =
     (P : Program) (S : State) (i : Instruction) (next : ℕ)
-    → decode_at P.code (length P.code) S.registers.pc ≡ At i next → shape_of i ≡ s
+    → decode_at P.code (length P.code) S.registers.pc ≡ Ok (i, next) → shape_of i ≡ s
     → (pops : ℕ) (push : Push) (write : Write) (q : Registers) → executed P S next i ≡ Go pops push write q
     → Property push (label_word P.code S.registers.pc)
 

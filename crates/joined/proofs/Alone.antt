@@ -14,7 +14,7 @@ use Rattle.words.specs.Lent.{over}
 use Rattle.relocation.proofs.Alone.{copy-alone}
 use Rattle.registers.specs.declared.Registers.{Registers}
 use Rattle.registers.specs.State.{State}
-use Rattle.load.specs.declared.Loaded.TheVariants.{Ready}
+use Rattle.std.specs.Prelude.{Ok}
 use Rattle.load.specs.Modules.{modules_of}
 use Rattle.load.specs.Load.{Loading, initial_data, loaded_memory, set_load_number, set_load, load_of}
 use Rattle.load.proofs.Loading.{loads, ready-number, ready-parts}
@@ -66,7 +66,7 @@ module _ (r results : List ℕ) where
   unfolding set_run
   run_alone copy budget k T = rw (run-number-same copy k T, modules-same)
 
-pub copy-left : (r ps m s : List ℕ) (q : Registers) → (load_of r ps m s).answer ≡ Ready q → (load_of r ps m s).copy ≡ code_of r
+pub copy-left : (r ps m s : List ℕ) (q : Registers) → (load_of r ps m s).answer ≡ Ok q → (load_of r ps m s).copy ≡ code_of r
 copy-left r ps m s q ready =
     let code = code_of r in
     let (taken, start) = ready-number (single r []) ps code m s q ready in

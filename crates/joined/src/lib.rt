@@ -2,10 +2,11 @@
 #![tactic(auto)]
 
 ghost use Rattle.std.specs.Prelude.{◌≡◌};
+ghost use Rattle.numbers.specs.Number.{numbered};
 ghost use Rattle.joined.specs.Joined.{joined, joined_of, ProperAnswer};
 
-use load::Loaded;
-use run::Answer;
+use numbers::Refusal;
+use run::Ended;
 
 // The check's number or the load's, or how the run ended.
 pub fn check_load_run(
@@ -16,19 +17,16 @@ pub fn check_load_run(
     budget: u32,
     memory: &mut [u32],
     stack: &mut [u32],
-) -> Answer
-    ensures { (joined result workspace.new memory.new stack.new
+) -> Result<Ended, Refusal>
+    ensures { (joined (numbered result) workspace.new memory.new stack.new
         ≡ joined_of r.now results.now workspace.old parameters.now budget
         memory.old stack.old)
-        × ProperAnswer result }
+        × ProperAnswer (numbered result) }
 {
-    let number = verifier::check::check(r, results, workspace);
-    if number != 0 {
-        return Answer::Refused(number);
-    }
-    let loaded = load::load(r, parameters, memory, stack);
-    match loaded {
-        Loaded::Refused(n) => Answer::Refused(n),
-        Loaded::Ready(q) => machine::run(r, budget, q, memory, stack),
+    verifier::check::check(r, results, workspace)?;
+    // Kept: a match, in whose arm the edit refused_load_is_8 stands.
+    match load::load(r, parameters, memory, stack) {
+        Ok(q) => machine::run(r, budget, q, memory, stack),
+        Err(refusal) => Err(refusal),
     }
 }

@@ -10,8 +10,8 @@ use lib.Dec.{ltb}
 use lib.ListN.{length}
 use Rattle.entries.specs.Entries.{entry_at, entry_count, entries_sound, region_end}
 use Rattle.opcode.specs.Decode.{decode_at}
-use Rattle.opcode.specs.declared.Decoded.{Decoded}
-use Rattle.opcode.specs.declared.Decoded.TheVariants.{Unserved, Past, At}
+use Rattle.opcode.specs.Decode.{Decoded}
+use Rattle.std.specs.Prelude.{Err, Ok}
 use Rattle.opcode.specs.declared.instruction.Instruction.{Instruction}
 use Rattle.layout.specs.Cut.{Marks, updated, Cut, bad, cut, cut_at, cut_from, then_cut, cut_procedures, cut_of, starts_in}
 use Rattle.opcode.proofs.Found.{ends}
@@ -23,7 +23,7 @@ use Rattle.entries.proofs.Ordered.{first_of, Rises, rises-first, rises-rest, Ord
 pub record Placed (code : List ℕ) (p at : ℕ) : Type 0 where
   pub counted : p < entry_count code
   pub below : at < region_end code p
-  pub decoded : (i : Instruction) × (next : ℕ) × (decode_at code (region_end code p) at ≡ At i next)
+  pub decoded : (i : Instruction) × (next : ℕ) × (decode_at code (region_end code p) at ≡ Ok (i, next))
 
 pub same-marks : {m m' : Marks} → cut m ≡ cut m' → m ≡ m'
 same-marks e = cc
@@ -65,7 +65,7 @@ module _ (code : List ℕ) where
 
     grown-one :
         (n at next : ℕ) (i : Instruction) (marks marks' : Marks) →
-        at < region_end code p → decode_at code (region_end code p) at ≡ At i next →
+        at < region_end code p → decode_at code (region_end code p) at ≡ Ok (i, next) →
         Grown n next (updated marks at (p + 1)) marks' → Grown (suc n) at marks marks'
     grown-one n at next i marks marks' l d g = record {
       kept = λ a f. g.kept a (omega (arith, ends code (region_end code p) at d)) ∙ rw (ne_eqb a at (λ e. omega arith));
@@ -80,9 +80,8 @@ module _ (code : List ℕ) where
         cond b (cut_at (cut_from code p n) p at marks d) (cut marks) ≡ cut marks' → Grown (suc n) at marks marks'
     grown-step n at marks marks' false d b' d' rest e =
         grown-none (suc n) at marks marks' (λ some. ltb-false at (region_end code p) b') (same-marks e)
-    grown-step n at marks marks' true Unserved b' d' rest e = absurd (not-bad e)
-    grown-step n at marks marks' true Past b' d' rest e = absurd (not-bad e)
-    grown-step n at marks marks' true (At i next) b' d' rest e =
+    grown-step n at marks marks' true (Err x) b' d' rest e = absurd (not-bad e)
+    grown-step n at marks marks' true (Ok (i, next)) b' d' rest e =
         grown-one n at next i marks marks' (ltb-true at (region_end code p) b') d' (rest next (updated marks at (p + 1)) e)
 
     grown : (n at : ℕ) (marks marks' : Marks) → cut_from code p n at marks ≡ cut marks' → Grown n at marks marks'
@@ -154,7 +153,7 @@ pub record Cutted (code : List ℕ) (marks : Marks) : Type 0 where
   pub inside : (p at : ℕ) → starts_in marks p at ≡ true → at < length code
   pub decoded :
       (p at : ℕ) → starts_in marks p at ≡ true →
-      (i : Instruction) × (next : ℕ) × (decode_at code (region_end code p) at ≡ At i next)
+      (i : Instruction) × (next : ℕ) × (decode_at code (region_end code p) at ≡ Ok (i, next))
   pub ends : (p : ℕ) → p < entry_count code → region_end code p ≤ length code
 
 module _ (code : List ℕ) (marks : Marks) (e : entries_sound code ≡ true) (c : cut_of code ≡ cut marks) where

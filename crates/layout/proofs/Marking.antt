@@ -11,8 +11,9 @@ use lib.ListN.{length, get_or, set}
 use lib.Seq.{get_or-set_same, get_or-set_other}
 use Rattle.entries.specs.Entries.{entry_at, entry_count, entries_sound, region_end}
 use Rattle.opcode.specs.Decode.{decode_at}
-use Rattle.opcode.specs.declared.Decoded.{Decoded}
-use Rattle.opcode.specs.declared.Decoded.TheVariants.{Unserved, Past, At}
+use Rattle.opcode.specs.Decode.{Decoded}
+use Rattle.opcode.specs.declared.DecodeError.TheVariants.{Unserved, Past}
+use Rattle.std.specs.Prelude.{Err, Ok}
 use Rattle.layout.specs.Cut.{Marks, updated, Cut, bad, cut, cut_at, cut_from, then_cut, cut_procedures, cut_of}
 use Rattle.layout.specs.Workspace.{marks_in, mark_at, mark_from, mark_region, then_mark, mark_procedures, mark_all}
 use Rattle.workspace.specs.Checking.{Checking, checking}
@@ -71,9 +72,9 @@ module _ (code : List ℕ) (s : entries_sound code ≡ true) (start : List ℕ) 
       (cond b (cut_at go p at (marks_in w (length code)) d) (cut (marks_in w (length code))))
       (cond b (mark_at go' p at w d) (checking 0 w))
   same_at p at w go go' false d k t rest = same-cut w k
-  same_at p at w go go' true Unserved k t rest = same-bad 9 w k
-  same_at p at w go go' true Past k t rest = same-bad 10 w k
-  same_at p at w go go' true (At i next) k t rest =
+  same_at p at w go go' true (Err Unserved) k t rest = same-bad 9 w k
+  same_at p at w go go' true (Err Past) k t rest = same-bad 10 w k
+  same_at p at w go go' true (Ok (i, next)) k t rest =
       let below : at < region_end code p = ltb-true at (region_end code p) t in
       rw (← marked w (length code) at (p + 1) (omega (arith, (ordered code s).ends p)) (omega (arith, k.long)))
       (rest next (set w (4 * at + 3) (p + 1)) (spares_then k (spares-set w (4 * at + 3) (p + 1) (λ j u. u p at below))))

@@ -1,19 +1,18 @@
 -- The turns of the loops that cut: what is left to mark decides the whole, as the definitions unroll by one turn.
-use mathlib.Core.Path.{◌≡◌, refl, ◌∙◌, sym}
+use mathlib.Core.Path.{◌≡◌, refl, ◌∙◌}
 use mathlib.Core.List.{List}
-use Prim.Native.Nat.{ℕ, zero, suc, ◌+◌, ◌*◌, ◌-◌, ◌<◌, ◌≤◌}
-use native.Mathlib.Nat.{sub-eq-zero_of_le}
+use Prim.Native.Nat.{ℕ, ◌+◌, ◌*◌, ◌-◌, ◌<◌, ◌≤◌}
 use native.Mathlib.Omega.{arith}
-use borrow.Author.Tests.{lt-ltb, le-ltb}
+use borrow.Author.Tests.{lt-ltb}
 use lib.ListN.{length, set, length-set}
 use Rattle.entries.specs.Entries.{entry_at, entry_count, region_end}
 use Rattle.words.proofs.Left.{one_left}
 use Rattle.opcode.specs.Decode.{decode_at}
-use Rattle.opcode.specs.declared.Decoded.{Decoded}
-use Rattle.opcode.specs.declared.Decoded.TheVariants.{At}
+use Rattle.opcode.specs.Decode.{Decoded}
+use Rattle.std.specs.Prelude.{Ok}
 use Rattle.opcode.specs.declared.instruction.Instruction.{Instruction}
 use Rattle.layout.specs.Workspace.{mark_at, mark_from, mark_region, then_mark, mark_procedures, mark_all}
-use Rattle.workspace.specs.Checking.{Checking, checking}
+use Rattle.workspace.specs.Checking.{checking}
 use Rattle.opcode.proofs.Found.{ends}
 
 -- In a region, k instructions are marked and `at` is reached.
@@ -29,15 +28,9 @@ region-start code p w at e h =
     record { rest = rw (z, e); near = h; kept = refl }
 
 module _ (code : List ℕ) (p : ℕ) (before w : List ℕ) (at k : ℕ) (r : Region code p before w at k) where
-  pub region-spent : length code ≤ k → checking 0 w ≡ mark_region code p before
-  region-spent h = rw (sub-eq-zero_of_le h) at r.rest
-
   module _ (limit : ℕ) (l : limit ≡ region_end code p) (h : k < length code) where
-    pub region-over : limit ≤ at → checking 0 w ≡ mark_region code p before
-    region-over q = rw (one_left k (length code) h, le-ltb at (region_end code p) (rw l at q)) at r.rest
-
     -- The instruction at `at`, whatever it is, decides.
-    pub region-turn :
+    region-turn :
         (d : Decoded) → at < limit → decode_at code limit at ≡ d →
         mark_at (mark_from code p (length code - (k + 1))) p at w d ≡ mark_region code p before
     region-turn d q e =
@@ -45,10 +38,10 @@ module _ (code : List ℕ) (p : ℕ) (before w : List ℕ) (at k : ℕ) (r : Reg
 
     pub region-next :
         (i : Instruction) (next : ℕ) (w' : List ℕ) →
-        at < limit → decode_at code limit at ≡ At i next → limit ≤ 65535 → w' ≡ set w (4 * at + 3) (p + 1) →
+        at < limit → decode_at code limit at ≡ Ok (i, next) → limit ≤ 65535 → w' ≡ set w (4 * at + 3) (p + 1) →
         Region code p before w' next (k + 1)
     region-next i next w' q e f s = record {
-      rest = rw s (region-turn (At i next) q e);
+      rest = rw s (region-turn (Ok (i, next)) q e);
       near = omega (arith, ends code limit at e);
       kept = rw s (length-set w (4 * at + 3) (p + 1) ∙ r.kept);
     }
@@ -62,20 +55,10 @@ pub regions-start : (code w : List ℕ) → Regions code w w 1
 unfolding mark_all
 regions-start code w = record { rest = refl; kept = refl }
 
-then_some : (go : List ℕ → Checking) (n : ℕ) (w : List ℕ) → (n ≡ 0 → ⊥) → then_mark go n w ≡ checking n w
-then_some go zero w h = absurd (h refl)
-then_some go (suc n) w h = refl
-
 module _ (code before w : List ℕ) (p : ℕ) (r : Regions code before w p) where
-  pub regions-last : entry_count code ≤ p → mark_region code 0 w ≡ mark_all code before
-  regions-last h = rw (sub-eq-zero_of_le h) at r.rest
-
   module _ (h : p < entry_count code) (n : ℕ) (w' : List ℕ) (e : checking n w' ≡ mark_region code p w) where
     regions-turn : then_mark (mark_procedures code (p + 1) (entry_count code - (p + 1))) n w' ≡ mark_all code before
     regions-turn = rw (one_left p (entry_count code) h, ← e) at r.rest
-
-    pub regions-bad : (n ≡ 0 → ⊥) → checking n w' ≡ mark_all code before
-    regions-bad some = sym (then_some _ n w' some) ∙ regions-turn
 
     pub regions-next : n ≡ 0 → length w' ≡ length w → Regions code before w' (p + 1)
     regions-next z l = record { rest = rw z at regions-turn; kept = l ∙ r.kept }

@@ -1,10 +1,8 @@
 -- Cutting. 01: "Regions are cut end to end into instructions from each entry; The first bad instruction by offset decides between
 -- 10 and 11."
-use Rattle.std.specs.Prelude.{Bool, cond, List, ℕ, zero, suc, ◌+◌, ◌-◌, eqb, ltb, length}
+use Rattle.std.specs.Prelude.{Bool, cond, Err, Ok, List, ℕ, zero, suc, ◌+◌, ◌-◌, eqb, ltb, length}
 use Rattle.entries.specs.Entries.{entry_at, entry_count, region_end}
-use Rattle.opcode.specs.Decode.{decoded_number, decode_at}
-use Rattle.opcode.specs.declared.Decoded.{Decoded}
-use Rattle.opcode.specs.declared.Decoded.TheVariants.{Unserved, Past, At}
+use Rattle.opcode.specs.Decode.{Decoded, undecoded_number, decode_at}
 
 -- What each offset is: 0, or 1 plus the procedure in whose region an instruction starts there.
 abbrev pub Marks : Type 0
@@ -20,9 +18,8 @@ pub data Cut : Type 0 where
   cut : Marks → Cut
 
 abbrev pub cut_at : (ℕ → Marks → Cut) → ℕ → ℕ → Marks → Decoded → Cut
-cut_at go p at marks Unserved = bad (decoded_number Unserved)
-cut_at go p at marks Past = bad (decoded_number Past)
-cut_at go p at marks (At i next) = go next (updated marks at (p + 1))
+cut_at go p at marks (Err e) = bad (undecoded_number e)
+cut_at go p at marks (Ok (i, next)) = go next (updated marks at (p + 1))
 
 -- The region of procedure p from an offset on, in at most so many instructions: each has a byte, so the size of the code is enough.
 abbrev pub cut_from : List ℕ → ℕ → ℕ → ℕ → Marks → Cut

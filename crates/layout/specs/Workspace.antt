@@ -1,10 +1,8 @@
 -- How the code holds its marks in the workspace: four halfwords for each code byte, of which the fourth is the mark. The contracts
 -- of the functions that write are equations with these definitions; proofs/Marking joins them with `cut_of`.
-use Rattle.std.specs.Prelude.{cond, List, ℕ, zero, suc, ◌+◌, ◌-◌, ◌*◌, ltb, length, get_or, set}
+use Rattle.std.specs.Prelude.{cond, Err, Ok, List, ℕ, zero, suc, ◌+◌, ◌-◌, ◌*◌, ltb, length, get_or, set}
 use Rattle.entries.specs.Entries.{entry_at, entry_count, region_end}
-use Rattle.opcode.specs.Decode.{decoded_number, decode_at}
-use Rattle.opcode.specs.declared.Decoded.{Decoded}
-use Rattle.opcode.specs.declared.Decoded.TheVariants.{Unserved, Past, At}
+use Rattle.opcode.specs.Decode.{Decoded, undecoded_number, decode_at}
 use Rattle.workspace.specs.Checking.{Checking, checking}
 use Rattle.layout.specs.Cut.{Marks}
 
@@ -13,9 +11,8 @@ abbrev pub marks_in : List ℕ → ℕ → Marks
 marks_in w size at = cond (ltb at size) (get_or w (4 * at + 3) 0) 0
 
 abbrev pub mark_at : (ℕ → List ℕ → Checking) → ℕ → ℕ → List ℕ → Decoded → Checking
-mark_at go p at w Unserved = checking (decoded_number Unserved) w
-mark_at go p at w Past = checking (decoded_number Past) w
-mark_at go p at w (At i next) = go next (set w (4 * at + 3) (p + 1))
+mark_at go p at w (Err e) = checking (undecoded_number e) w
+mark_at go p at w (Ok (i, next)) = go next (set w (4 * at + 3) (p + 1))
 
 abbrev pub mark_from : List ℕ → ℕ → ℕ → ℕ → List ℕ → Checking
 mark_from code p zero at w = checking 0 w

@@ -1,11 +1,12 @@
 // Cutting: every start gets its mark in the workspace.
 ghost use Rattle.std.specs.Prelude.{◌≡◌, ◌≤◌, ◌<◌, length};
-ghost use Rattle.opcode.specs.Sheet.{Sheet};
 ghost use Rattle.layout.specs.Cut.{starts_in};
 ghost use Rattle.layout.specs.Workspace.{marks_in, mark_region, mark_all};
+ghost use Rattle.numbers.specs.Number.{number};
 ghost use Rattle.workspace.specs.Checking.{checking};
 
-use opcode::Decoded;
+use numbers::Refusal;
+use opcode::format::FormatSheet;
 
 // The mark of an offset, 0 outside of so many code bytes.
 pub fn mark_at(w: &[u16], size: usize, at: usize) -> u16
@@ -27,48 +28,34 @@ pub fn starts_in(w: &[u16], size: usize, p: u32, at: usize) -> bool
     mark_at(w, size, at) as u32 == p + 1
 }
 
-// Procedure `p`'s region is cut end to end: 0, or 10 or 11 for a bad instruction.
-fn cut_region(formats: &[u16], code: &[u8], p: u32, w: &mut [u16]) -> u32
-    requires sheet { Sheet formats.now }
+// Cuts procedure `p`'s region end to end.
+// Kept: so many turns at most, as `mark_region` has it, since entries need not be sound here.
+fn cut_region(formats: FormatSheet<'_>, code: &[u8], p: u32, w: &mut [u16]) -> Result<(), Refusal>
     requires code_len_bound { length code.now ≤ 65535 }
     requires p_bound { p < 65535 }
-    ensures { checking result w.new ≡ mark_region code.now p w.old }
+    ensures { checking (number result) w.new ≡ mark_region code.now p w.old }
 {
     let limit = entries::region_end(code, p);
     let mut at = entries::entry_at(code, p) as usize;
     for _ in 0..code.len() {
         if limit <= at {
-            return 0;
+            return Ok(());
         }
-        let decoded = opcode::decode(formats, code, limit, at);
-        match decoded {
-            Decoded::Unserved => {
-                return opcode::decoded_number(decoded);
-            }
-            Decoded::Past => {
-                return opcode::decoded_number(decoded);
-            }
-            Decoded::At(_, next) => {
-                workspace::set_half(w, 4 * at + 3, (p + 1) as u16);
-                at = next;
-            }
-        }
+        let (_, next) = opcode::decode(formats, code, limit, at)?;
+        workspace::set_half(w, 4 * at + 3, (p + 1) as u16);
+        at = next;
     }
-    0
+    Ok(())
 }
 
 // All regions, in the order 1, 2, .., 0.
-pub fn cut_all(formats: &[u16], code: &[u8], w: &mut [u16]) -> u32
-    requires sheet { Sheet formats.now }
-    requires code_len_bound { length code.now ≤ 65535 }
-    ensures { checking result w.new ≡ mark_all code.now w.old }
+pub fn cut_all(formats: FormatSheet<'_>, code: &[u8], w: &mut [u16]) -> Result<(), Refusal>
+    requires { length code.now ≤ 65535 }
+    ensures { checking (number result) w.new ≡ mark_all code.now w.old }
 {
     let count = entries::entry_count(code);
     for p in 1..count {
-        let number = cut_region(formats, code, p, w);
-        if number != 0 {
-            return number;
-        }
+        cut_region(formats, code, p, w)?;
     }
     cut_region(formats, code, 0, w)
 }

@@ -27,15 +27,15 @@ use Rattle.registers.specs.State.{state}
 use Rattle.registers.proofs.Protected.{data-within}
 use Rattle.state.specs.Fits.{sizes_taken, header_kept, headers_kept, fits}
 use Rattle.state.proofs.Fitting.{sizes-taken, fit-whole}
-use Rattle.load.specs.declared.Loaded.{Loaded}
-use Rattle.load.specs.declared.Loaded.TheVariants.{Refused, Ready}
+use Rattle.load.specs.Loaded.{Loaded}
+use Rattle.std.specs.Prelude.{Err, Ok}
 use Rattle.load.specs.Modules.{modules_from, modules_of}
 use Rattle.load.specs.Load.{frame_words, frames_from, initial_data, loaded_memory, start_of, load_tests, set_load_number}
 use Rattle.load.specs.Load.{loaded_number, Loading, loading, set_load, load_number, load_of}
 use Rattle.load.proofs.Modules.{modules-length, module-at, set-some, first-start, modules-alone}
 use Rattle.load.proofs.Framing.{zeros, zeros-behind, frame-length, Taken, taken_none, taken-first, data-length}
 
-apart : (n : ℕ) (q : Registers) → Refused n ≡ Ready q → ⊥
+apart : (n : ℕ) (q : Registers) → Err n ≡ Ok q → ⊥
 apart n q e = let z : ◌≡◌ {A = ℕ} 0 1 = cc in omega arith
 
 -- The test of 8.
@@ -73,7 +73,7 @@ module _ (S : Members) (ps copy m s : List ℕ) where
   number-taken true none e = rw (eq-eqb (set_number S) 0 none, e)
   number-taken false none e = rw (eq-eqb (set_number S) 0 none, e)
 
-  pub refuses : (n : ℕ) → set_load_number S ps copy m s ≡ n → (n ≡ 0 → ⊥) → loading (Refused n) copy m ≡ set_load S ps copy m s
+  pub refuses : (n : ℕ) → set_load_number S ps copy m s ≡ n → (n ≡ 0 → ⊥) → loading (Err n) copy m ≡ set_load S ps copy m s
   unfolding set_load
   refuses n e some = rw (e, ne_eqb n 0 some)
 
@@ -90,46 +90,46 @@ module _ (S : Members) (ps copy m s : List ℕ) where
   )
 
   -- A refused load leaves copy and memory.
-  pub refused-copy : (n : ℕ) → (set_load S ps copy m s).answer ≡ Refused n → (set_load S ps copy m s).copy ≡ copy
+  pub refused-copy : (n : ℕ) → (set_load S ps copy m s).answer ≡ Err n → (set_load S ps copy m s).copy ≡ copy
   unfolding set_load
   refused-copy n =
-      either (λ (l : Loading). l.answer ≡ Refused n → l.copy ≡ copy) (eqb (set_load_number S ps copy m s) 0) _ _
+      either (λ (l : Loading). l.answer ≡ Err n → l.copy ≡ copy) (eqb (set_load_number S ps copy m s) 0) _ _
       (λ e. cc) (λ e. refl)
 
-  pub refused-memory : (n : ℕ) → (set_load S ps copy m s).answer ≡ Refused n → (set_load S ps copy m s).memory ≡ m
+  pub refused-memory : (n : ℕ) → (set_load S ps copy m s).answer ≡ Err n → (set_load S ps copy m s).memory ≡ m
   unfolding set_load
   refused-memory n =
-      either (λ (l : Loading). l.answer ≡ Refused n → l.memory ≡ m) (eqb (set_load_number S ps copy m s) 0) _ _
+      either (λ (l : Loading). l.answer ≡ Err n → l.memory ≡ m) (eqb (set_load_number S ps copy m s) 0) _ _
       (λ e. cc) (λ e. refl)
 
   -- The set's number, 8, and none.
-  pub load-refused : (n : ℕ) → n ≡ set_number S → (n ≡ 0 → ⊥) → loading (Refused n) copy m ≡ set_load S ps copy m s
+  pub load-refused : (n : ℕ) → n ≡ set_number S → (n ≡ 0 → ⊥) → loading (Err n) copy m ≡ set_load S ps copy m s
   unfolding set_load_number
   load-refused n e some = refuses n (rw (← e, ne_eqb n 0 some)) some
 
-  pub load-short : set_number S ≡ 0 → room S ps copy m s ≡ false → loading (Refused 8) copy m ≡ set_load S ps copy m s
+  pub load-short : set_number S ≡ 0 → room S ps copy m s ≡ false → loading (Err 8) copy m ≡ set_load S ps copy m s
   load-short none e = refuses 8 (number-taken false none e) (λ z. omega arith)
 
   pub number-ready : set_number S ≡ 0 → room S ps copy m s ≡ true → set_load_number S ps copy m s ≡ 0
   number-ready none e = number-taken true none e
 
   pub loads : set_load_number S ps copy m s ≡ 0 →
-      loading (Ready (start_of (program_at (modules_of S) 0))) (over (copy_of S) copy) (loaded_memory S ps (length m))
+      loading (Ok (start_of (program_at (modules_of S) 0))) (over (copy_of S) copy) (loaded_memory S ps (length m))
       ≡ set_load S ps copy m s
   unfolding set_load
   loads e = rw (eq-eqb (set_load_number S ps copy m s) 0 e)
 
   pub load-ready : set_number S ≡ 0 → room S ps copy m s ≡ true →
-      loading (Ready (start_of (program_at (modules_of S) 0))) (over (copy_of S) copy) (loaded_memory S ps (length m))
+      loading (Ok (start_of (program_at (modules_of S) 0))) (over (copy_of S) copy) (loaded_memory S ps (length m))
       ≡ set_load S ps copy m s
   load-ready none e = loads (number-ready none e)
 
   -- An answer that is ready has no number, and the registers at the start.
-  pub ready-number : (q : Registers) → (set_load S ps copy m s).answer ≡ Ready q →
+  pub ready-number : (q : Registers) → (set_load S ps copy m s).answer ≡ Ok q →
       (set_load_number S ps copy m s ≡ 0) × (q ≡ start_of (program_at (modules_of S) 0))
   unfolding set_load
   ready-number q =
-      by-test (λ (l : Loading). l.answer ≡ Ready q
+      by-test (λ (l : Loading). l.answer ≡ Ok q
       → (set_load_number S ps copy m s ≡ 0) × (q ≡ start_of (program_at (modules_of S) 0)))
       (eqb (set_load_number S ps copy m s) 0) _ _
       (λ t e. (eqb-true (set_load_number S ps copy m s) 0 t, cc)) (λ t e. absurd (apart (set_load_number S ps copy m s) q e))
@@ -192,15 +192,15 @@ module _ (r ps m s : List ℕ) where
     (with_number (single r []) ps (code_of r) m s a copy m' e).1,
   )
 
-  pub alone-refused : (n : ℕ) → n ≡ set_number (single r []) → (n ≡ 0 → ⊥) → Answers r ps m s (Refused n) m
-  alone-refused n e some = alone-answers (Refused n) (code_of r) m (load-refused (single r []) ps (code_of r) m s n e some)
+  pub alone-refused : (n : ℕ) → n ≡ set_number (single r []) → (n ≡ 0 → ⊥) → Answers r ps m s (Err n) m
+  alone-refused n e some = alone-answers (Err n) (code_of r) m (load-refused (single r []) ps (code_of r) m s n e some)
 
   module _ (e : set_number (single r []) ≡ 0) (h : Header) (q : h ≡ header_of r) where
-    pub alone-many : h.globals < length ps → Answers r ps m s (Refused 8) m
+    pub alone-many : h.globals < length ps → Answers r ps m s (Err 8) m
     alone-many l =
         let short : room (single r []) ps (code_of r) m s ≡ false =
         alone-room r e h q (3 + h.globals + h.constants) refl ps m s ∙ rw (lt-leb (length ps) h.globals l) in
-        alone-answers (Refused 8) (code_of r) m (load-short (single r []) ps (code_of r) m s e short)
+        alone-answers (Err 8) (code_of r) m (load-short (single r []) ps (code_of r) m s e short)
 
     -- With the size of its data frame, and what is answered about the sizes.
     module _ (l : length ps ≤ h.globals) (n : ℕ) (w : n ≡ 3 + h.globals + h.constants) (t : Bool)
@@ -208,17 +208,17 @@ module _ (r ps m s : List ℕ) where
       taken : room (single r []) ps (code_of r) m s ≡ t
       taken = alone-room r e h q n w ps m s ∙ rw (le-leb (length ps) h.globals l, sizes)
 
-      pub alone-short : t ≡ false → Answers r ps m s (Refused 8) m
-      alone-short f = alone-answers (Refused 8) (code_of r) m (load-short (single r []) ps (code_of r) m s e (taken ∙ f))
+      pub alone-short : t ≡ false → Answers r ps m s (Err 8) m
+      alone-short f = alone-answers (Err 8) (code_of r) m (load-short (single r []) ps (code_of r) m s e (taken ∙ f))
 
       pub alone-sizes : t ≡ true → (n ≤ length m) × (n ≤ 16384)
       alone-sizes f = let k = sizes-taken n m s (sym sizes ∙ f) in (k.0, omega (arith, k.0, k.1))
 
       pub alone-ready : t ≡ true → (a : Registers) (m' : List ℕ) → a ≡ start_of (program_at (modules_of (single r [])) 0) →
-          m' ≡ loaded_memory (single r []) ps (length m) → Answers r ps m s (Ready a) m'
+          m' ≡ loaded_memory (single r []) ps (length m) → Answers r ps m s (Ok a) m'
       alone-ready f a m' b c =
           let S = single r [] in
-          rw (b, c) (alone-answers (Ready (start_of (program_at (modules_of S) 0))) (over (copy_of S) (code_of r))
+          rw (b, c) (alone-answers (Ok (start_of (program_at (modules_of S) 0))) (over (copy_of S) (code_of r))
           (loaded_memory S ps (length m)) (load-ready S ps (code_of r) m s e (taken ∙ f)))
 
 -- The memory that load leaves.

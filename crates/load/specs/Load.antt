@@ -15,8 +15,8 @@ use Rattle.registers.specs.Program.{Program, program_at, module_of}
 use Rattle.registers.specs.State.{state_words}
 use Rattle.state.specs.Fits.{sizes_taken}
 use Rattle.load.specs.Modules.{modules_of}
-use Rattle.load.specs.declared.Loaded.{Loaded}
-use Rattle.load.specs.declared.Loaded.TheVariants.{Refused, Ready}
+use Rattle.load.specs.Loaded.{Loaded}
+use Rattle.std.specs.Prelude.{Err, Ok}
 
 unfoldable pub constant_words : List ℕ → List ℕ
 constant_words r = words_from r (constants_at (header_of r)) (header_of r).constants
@@ -66,12 +66,12 @@ set_load_number S parameters copy m s = after_set S (load_tests S parameters cop
 
 -- The number of what load answers, 0 where the machine is ready, and the values: the registers at the start.
 abbrev pub loaded_number : Loaded → ℕ
-loaded_number (Refused n) = n
-loaded_number (Ready q) = 0
+loaded_number (Err n) = n
+loaded_number (Ok q) = 0
 
 abbrev pub loaded_values : Loaded → List ℕ
-loaded_values (Refused n) = []
-loaded_values (Ready q) = state_words q
+loaded_values (Err n) = []
+loaded_values (Ok q) = state_words q
 
 -- What load answers, and the copy and the memory that it leaves. "Refused loads and runs change nothing." (Of the stack words "load
 -- writes none".)
@@ -86,8 +86,8 @@ loading a copy m = record { answer = a; copy = copy; memory = m }
 unfoldable pub set_load : Members → (parameters copy m s : List ℕ) → Loading
 set_load S parameters copy m s =
     cond (eqb (set_load_number S parameters copy m s) 0)
-    (loading (Ready (start_of (program_at (modules_of S) 0))) (over (copy_of S) copy) (loaded_memory S parameters (length m)))
-    (loading (Refused (set_load_number S parameters copy m s)) copy m)
+    (loading (Ok (start_of (program_at (modules_of S) 0))) (over (copy_of S) copy) (loaded_memory S parameters (length m)))
+    (loading (Err (set_load_number S parameters copy m s)) copy m)
 
 -- A record by itself: the set of one, with its own code as the copy.
 abbrev pub load_number : (r parameters m s : List ℕ) → ℕ

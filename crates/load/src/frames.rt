@@ -78,14 +78,6 @@ fn fill_frame(r: &[u8], h: Header, k: usize, start: usize, parameters: &[u32], f
     }
 }
 
-fn clear(memory: &mut [u32])
-    ensures { memory.new ≡ replicate (length memory.old) 0 }
-{
-    for i in 0..memory.len() {
-        memory[i] = 0;
-    }
-}
-
 // Memory as load leaves it. The parameters go to the main module.
 pub fn fill(records: &[u8], directory: &[u32], parameters: &[u32], memory: &mut [u32])
     requires by_index { (lists : List ℕ) → set_number (members_of records.now lists directory.now) ≡ 0 }
@@ -98,7 +90,7 @@ pub fn fill(records: &[u8], directory: &[u32], parameters: &[u32], memory: &mut 
         ≡ loaded_memory (members_of records.now lists directory.now) parameters.now
         (length memory.old) }
 {
-    clear(memory);
+    memory.fill(0);
     let mut given = parameters;
     let mut start = 0;
     for k in 0..module_set::count(directory) {
@@ -119,7 +111,7 @@ pub fn fill_single(r: &[u8], parameters: &[u32], memory: &mut [u32])
     ensures { memory.new
         ≡ loaded_memory (single r.now []) parameters.now (length memory.old) }
 {
-    clear(memory);
+    memory.fill(0);
     let h = header::header_of(r);
     let size = frame_size(h);
     fill_frame(r, h, 0, 0, parameters, &mut memory[..size]);

@@ -7,19 +7,15 @@ ghost use Rattle.relocation.specs.Relocation.{set_number, copy_of, begins};
 ghost use Rattle.registers.specs.Modules.{module_at, frames_start};
 ghost use Rattle.registers.specs.Program.{Program, program_at};
 ghost use Rattle.state.specs.Fits.{sizes_taken};
+ghost use Rattle.numbers.specs.Number.{numbered};
 ghost use Rattle.load.specs.Modules.{modules_of};
 ghost use Rattle.load.specs.Load.{start_of, set_load_number, set_load, loading, loaded_number, load_number, load_of};
 
+use numbers::Refusal;
 use registers::Registers;
 
 pub mod frames;
 pub mod table;
-
-#[derive(Clone, Copy)]
-pub enum Loaded {
-    Refused(u32),
-    Ready(Registers),
-}
 
 // The registers at the start of a program that has its globals at 3.
 fn start_of(code: &[u8], frames: usize) -> Registers
@@ -86,45 +82,44 @@ pub fn load_set(
     copy: &mut [u8],
     memory: &mut [u32],
     stack: &[u32],
-) -> Loaded
+) -> Result<Registers, Refusal>
     ensures { (lists : List ℕ) →
         let S = members_of records.now lists directory.now in
-        (loading result copy.new memory.new
+        (loading (numbered result) copy.new memory.new
         ≡ set_load S parameters.now copy.old memory.old stack.now)
-        × (loaded_number result
+        × (loaded_number (numbered result)
         ≡ set_load_number S parameters.now copy.old memory.old stack.now) }
 {
-    let number = relocation::number::set_number(records, directory);
-    if number != 0 {
-        return Loaded::Refused(number);
-    }
+    relocation::number::set_number(records, directory)?;
     if !is_taken(records, directory, parameters, copy, memory, stack) {
-        return Loaded::Refused(8);
+        return Err(Refusal::Room);
     }
     relocation::copy::write_copy(records, directory, copy);
     frames::fill(records, directory, parameters, memory);
-    Loaded::Ready(set_start(records, directory, copy))
+    Ok(set_start(records, directory, copy))
 }
 
 // The same of a record by itself, whose code is its copy.
-pub fn load(r: &[u8], parameters: &[u32], memory: &mut [u32], stack: &[u32]) -> Loaded
-    ensures { (result ≡ (load_of r.now parameters.now memory.old stack.now).answer)
+pub fn load(
+    r: &[u8],
+    parameters: &[u32],
+    memory: &mut [u32],
+    stack: &[u32],
+) -> Result<Registers, Refusal>
+    ensures { (numbered result ≡ (load_of r.now parameters.now memory.old stack.now).answer)
         × (memory.new
         ≡ (load_of r.now parameters.now memory.old stack.now).memory)
-        × (loaded_number result ≡ load_number r.now parameters.now memory.old stack.now) }
+        × (loaded_number (numbered result) ≡ load_number r.now parameters.now memory.old stack.now) }
 {
-    let number = relocation::number::single_number(r);
-    if number != 0 {
-        return Loaded::Refused(number);
-    }
+    relocation::number::single_number(r)?;
     let h = header::header_of(r);
     if (h.globals as usize) < parameters.len() {
-        return Loaded::Refused(8);
+        return Err(Refusal::Room);
     }
     let size = frames::frame_size(h);
     if !state::sizes_taken(size, memory, stack) {
-        return Loaded::Refused(8);
+        return Err(Refusal::Room);
     }
     frames::fill_single(r, parameters, memory);
-    Loaded::Ready(start_of(header::code_of(r), size))
+    Ok(start_of(header::code_of(r), size))
 }

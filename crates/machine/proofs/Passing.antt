@@ -1,8 +1,8 @@
 -- A step tried at once was completed, or memory and stack are as they were.
-use mathlib.Core.Path.{◌≡◌, ap}
-use mathlib.Core.Bool.{Bool, true, false}
+use mathlib.Core.Path.{◌≡◌}
 use mathlib.Core.List.{List}
 use Prim.Native.Nat.{ℕ}
+use Rattle.std.specs.Prelude.{Option, Some, None}
 use Rattle.registers.specs.declared.Registers.{Registers}
 use Rattle.registers.specs.Program.{Program}
 use Rattle.registers.specs.State.{State, state}
@@ -10,14 +10,12 @@ use Rattle.step.specs.declared.Outcome.TheVariants.{Went}
 use Rattle.step.specs.Step.{after, step_of}
 use Rattle.fast_external.specs.External.{Passed}
 
-pub passed : (t : Bool) (P : Program) (S S' : State) → Passed t P S S' → t ≡ true → step_of P S ≡ after Went S'
-passed true P S S' e h = e
-passed false P S S' e h = let z : ◌≡◌ {A = Bool} true false = cc in cc
+pub passed : (t : Option Registers) (P : Program) (S : State) (m s : List ℕ) (q : Registers) → t ≡ Some q → Passed t P S m s
+    → step_of P S ≡ after Went (state q m s)
+passed t P S m s q is e = rw is at e
 
-pub stayed : (t : Bool) (P : Program) (q q' : Registers) (m s m' s' : List ℕ) → Passed t P (state q m s) (state q' m' s')
-    → t ≡ false → state q m' s' ≡ state q m s
-stayed true P q q' m s m' s' e h = let z : ◌≡◌ {A = Bool} true false = h in cc
-stayed false P q q' m s m' s' e h =
-    let a : m' ≡ m = ap (λ (S : State). S.memory) e in
-    let b : s' ≡ s = ap (λ (S : State). S.stack) e in
-    rw (a, b)
+pub stayed : (t : Option Registers) (P : Program) (q : Registers) (m s m' s' : List ℕ) → t ≡ None → Passed t P (state q m s) m' s'
+    → state q m' s' ≡ state q m s
+stayed t P q m s m' s' is e =
+    let kept : (m' ≡ m) × (s' ≡ s) = rw is at e in
+    rw (kept.0, kept.1)

@@ -17,6 +17,7 @@ use Rattle.step.proofs.Running.{ready-bounds}
 use Rattle.fast.specs.Fast.{Steps, none, more, Ahead}
 use Rattle.run.specs.declared.End.TheVariants.{Finished as finish, Spent, Trapped as stop}
 use Rattle.run.specs.Run.{ended, proceed, run_from}
+use Rattle.numbers.specs.declared.Trap.{Trap}
 
 -- So many steps have come from S₀, where `done` were made before, to S.
 pub record Running (Ms : Modules) (budget done : ℕ) (S₀ S : State) (steps : ℕ) : Type 0 where
@@ -94,8 +95,8 @@ module _ (Ms : Modules) (budget done : ℕ) (S₀ S : State) (steps : ℕ) (R : 
     pub finished : a.outcome ≡ Finished → ended Ms finish (steps + 1) a.state ≡ run_from Ms (budget - done) done S₀
     finished o = sym (turn ∙ rw o)
 
-    pub trapped : (n : ℕ) → a.outcome ≡ Trapped n → ended Ms (stop n) steps a.state ≡ run_from Ms (budget - done) done S₀
-    trapped n o = sym (turn ∙ rw o)
+    pub trapped : (t : Trap) → a.outcome ≡ Trapped t → ended Ms (stop t) steps a.state ≡ run_from Ms (budget - done) done S₀
+    trapped t o = sym (turn ∙ rw o)
 
     pub still-ready : Ready (running Ms a.state.registers.gp) a.state
     still-ready = let H : Holds Ms S a = rw e (step-holds (program code A Ms) S ready) in H.ready

@@ -1,7 +1,6 @@
 // Steps of a set's modules up to a budget, counted as they are completed.
 ghost use Rattle.std.specs.Prelude.{◌≡◌, true, List, ℕ, ◌-◌, ◌≤◌, length};
 ghost use Rattle.registers.specs.Modules.{modules_in, frames_start, number_at, is_base};
-ghost use Rattle.opcode.specs.Sheet.{Sheet};
 ghost use Rattle.registers.specs.Program.{program, running};
 ghost use Rattle.registers.specs.State.{state};
 ghost use Rattle.step.specs.Step.{left, step_of};
@@ -9,9 +8,9 @@ ghost use Rattle.step.specs.Ready.{Ready};
 ghost use Rattle.fast_external.specs.External.{Passed};
 ghost use Rattle.run.specs.Run.{ran, ended_at, run_from};
 
-use fast_external::Tried;
+use opcode::format::FormatSheet;
 use registers::{Attributes, Registers, table};
-use run::{Answer, End, Ended};
+use run::{End, Ended};
 use step::{Machine, Outcome, Stepped};
 
 // The end of a run, with its place: PC in the module whose globals GP points at.
@@ -136,19 +135,15 @@ fn external_on(
     memory: &mut [u32],
     stack: &mut [u32],
     at_once: u32,
-) -> Tried
+) -> Option<Registers>
     requires code_len_bound { length code.now ≤ 4096 }
     requires table_len_bound { length table.now ≤ 80 }
     requires ready { Ready (program code.now attributes (modules_in table.now copy.now)) (state q memory.old stack.old) }
-    ensures { Passed result.done
-        (program code.now attributes (modules_in table.now copy.now))
-        (state q memory.old stack.old) (state result.registers memory.new stack.new) }
+    ensures { Passed result (program code.now attributes (modules_in table.now copy.now))
+        (state q memory.old stack.old) memory.new stack.new }
 {
     if at_once == 0 {
-        return Tried {
-            done: false,
-            registers: q,
-        };
+        return None;
     }
     fast_external::external_step(table, copy, code, attributes, q, memory, stack)
 }
@@ -156,7 +151,7 @@ fn external_on(
 // Makes one step: directly, or by the general step.
 fn step_on(
     machine: Machine,
-    formats: &[u16],
+    formats: FormatSheet<'_>,
     table: &[u32],
     copy: &[u8],
     code: &[u8],
@@ -165,7 +160,6 @@ fn step_on(
     stack: &mut [u32],
     at_once: u32,
 ) -> Stepped
-    requires sheet { Sheet formats.now }
     requires code_len_bound { length code.now ≤ 4096 }
     requires table_len_bound { length table.now ≤ 80 }
     requires ready { Ready (program code.now attributes (modules_in table.now copy.now))
@@ -184,15 +178,13 @@ fn step_on(
         stack,
         at_once,
     );
-    if tried.done {
-        let registers = tried.registers;
-        let after = Machine { registers };
-        return Stepped {
+    match tried {
+        Some(registers) => Stepped {
             outcome: Outcome::Went,
-            machine: after,
-        };
+            machine: Machine { registers },
+        },
+        None => machine.step(formats, table, copy, code, attributes, memory, stack),
     }
-    machine.step(formats, table, copy, code, attributes, memory, stack)
 }
 
 // Goes on after so many steps: a step by itself, and then again what can be done at once. The code is taken anew where the module
@@ -211,11 +203,12 @@ fn run_on(
     requires done_le_budget { done ≤ budget }
     requires ready { Ready (running (modules_in table.now copy.now) start.registers.gp)
         (state start.registers memory.old stack.old) }
-    ensures { ran start.registers (Answer.Ended result) memory.new stack.new
+    ensures { ran start.registers (Ok result) memory.new stack.new
         ≡ run_from (modules_in table.now copy.now) (budget - done) done
         (state start.registers memory.old stack.old) }
 {
-    let formats = opcode::format::formats();
+    let entries = opcode::format::formats();
+    let formats = FormatSheet { entries: &entries };
     let mut machine = start;
     let mut steps = done;
     let mut gp = start.registers.gp;
@@ -223,12 +216,10 @@ fn run_on(
     let mut attributes = attributes_in(table, copy, gp);
     while steps < budget {
         let stepped = step_on(
-            machine, &formats, table, copy, code, attributes, memory, stack, at_once,
+            machine, formats, table, copy, code, attributes, memory, stack, at_once,
         );
-        let after = stepped.machine;
-        let outcome = stepped.outcome;
-        machine = after;
-        match outcome {
+        machine = stepped.machine;
+        match stepped.outcome {
             Outcome::Went => {
                 let now = machine.registers.gp;
                 let member = number_after(table, gp, now);
@@ -248,15 +239,16 @@ fn run_on(
                     stack,
                     most,
                 );
-                let registers = reached.registers;
-                machine = Machine { registers };
+                machine = Machine {
+                    registers: reached.registers,
+                };
                 steps = budget - (rest - (most - reached.left));
             }
             Outcome::Finished => {
                 return ended_at(table, machine, End::Finished, steps + 1);
             }
-            Outcome::Trapped(n) => {
-                return ended_at(table, machine, End::Trapped(n), steps);
+            Outcome::Trapped(trap) => {
+                return ended_at(table, machine, End::Trapped(trap), steps);
             }
         }
     }
@@ -277,7 +269,7 @@ pub fn run_steps(
     requires table_len_bound { length table.now ≤ 80 }
     requires ready { Ready (running (modules_in table.now copy.now) start.registers.gp)
         (state start.registers memory.old stack.old) }
-    ensures { ran start.registers (Answer.Ended result) memory.new stack.new
+    ensures { ran start.registers (Ok result) memory.new stack.new
         ≡ run_from (modules_in table.now copy.now) budget 0
         (state start.registers memory.old stack.old) }
 {

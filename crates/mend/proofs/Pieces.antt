@@ -6,6 +6,9 @@ use Prim.Native.Nat.{ℕ, zero, suc, ◌+◌, ◌*◌, ◌-◌, ◌≤◌, ◌<�
 use native.Mathlib.Omega.{arith}
 use lib.ListN.{length, take, drop, length-drop}
 use lib.Seq.{length-take-le, take_at, drop_at, drop-drop, take-add}
+use mir.Syntax.{w32}
+use Rattle.std.specs.Int.{to_be_bytes}
+use Rattle.std.proofs.lemmas.Nat.{be_bytes_4}
 use Rattle.words.specs.Bytes.{Bytes, halfword_at, word_at}
 use Rattle.words.proofs.Bytes.{word-shared, bytes-append, bytes_take, bytes_drop}
 use Rattle.header.specs.declared.Header.{Header}
@@ -31,6 +34,9 @@ word-bytes w l (suc zero) = omega arith
 word-bytes w l (suc (suc zero)) = omega arith
 word-bytes w l (suc (suc (suc zero))) = omega arith
 word-bytes w l (suc (suc (suc (suc i)))) = omega arith
+
+pub big-endian : (w : ℕ) → w < 4294967296 → to_be_bytes w32 w ≡ word_bytes w
+big-endian w l = be_bytes_4 (word_bytes w) w refl (word-bytes w l) (omega arith)
 
 pair-bytes : (r ps : List ℕ) → Bytes r → Bytes (pair_bytes r ps)
 pair-bytes r [] b = λ i. omega arith

@@ -1,6 +1,7 @@
 -- Mending, as 02, K12 words it. What goes is a version table whose first word is malformed (5), and what keeps the source table
 -- from being sound (6).
-use Rattle.std.specs.Prelude.{Bool, cond, ◌&&◌, ◌||◌, List, [], ◌∷◌, ◌++◌, ℕ, zero, suc, ◌+◌, ◌*◌, ◌-◌, ◌/◌, ◌%◌, leb, ltb, eqb, length, take, drop}
+use Rattle.std.specs.Prelude.{Result, Ok, Err, Bool, cond, ◌&&◌, ◌||◌, List, [], ◌∷◌, ◌++◌, leb, ltb, eqb, length, take, drop}
+use Rattle.std.specs.Prelude.{ℕ, zero, suc, ◌+◌, ◌*◌, ◌-◌, ◌/◌, ◌%◌}
 use Rattle.std.proofs.lemmas.List.Edits.{sets}
 use Rattle.words.specs.Bytes.{word_at}
 use Rattle.words.specs.Refusal.{Test, refusal, ◌when◌}
@@ -9,8 +10,7 @@ use Rattle.header.specs.declared.Header.{Header}
 use Rattle.header.specs.Header.{header_of, versions_at, sources_at}
 use Rattle.version.specs.Version.{version_sound}
 use Rattle.record.specs.Number.{size_number}
-use Rattle.mend.specs.declared.Mending.{Mending}
-use Rattle.mend.specs.declared.Mending.TheVariants.{Refused, Mended}
+use Rattle.mend.specs.declared.Mended.{Mended}
 
 -- "A malformed version word empties the version table."
 abbrev pub versions_left : List ℕ → Header → ℕ
@@ -82,7 +82,11 @@ fit_tests r out places = 8 when (ltb (length out) (length (mended_record r)) || 
 unfoldable pub mend_number : List ℕ → List ℕ → List ℕ → ℕ
 mend_number r out places = cond (eqb (size_number r) 0) (refusal (fit_tests r out places)) (size_number r)
 
--- What mending answers and leaves in the two buffers.
+-- What mending answers: the number that refuses it, or the bytes of the new record and how many words were dropped.
+abbrev pub Mending : Type 0
+Mending = Result Mended ℕ
+
+-- That, and what it leaves in the two buffers.
 pub record Outcome : Type 0 where
   pub answer : Mending
   pub out : List ℕ
@@ -97,15 +101,15 @@ unfoldable pub mend_of : List ℕ → List ℕ → List ℕ → Outcome
 mend_of r out places =
     let n = mend_number r out places in
     cond (eqb n 0)
-    (mending (Mended (length (mended_record r)) (length (dropped_words r)))
+    (mending (Ok (record { bytes = length (mended_record r); dropped = length (dropped_words r) }))
     (sets out 0 (mended_record r)) (sets places 0 (dropped_words r)))
-    (mending (Refused n) out places)
+    (mending (Err n) out places)
 
 -- The number of an answer, and its values: the bytes of the new record and how many words were dropped.
 abbrev pub mending_number : Mending → ℕ
-mending_number (Refused n) = n
-mending_number (Mended bytes words) = 0
+mending_number (Err n) = n
+mending_number (Ok m) = 0
 
 abbrev pub mending_values : Mending → List ℕ
-mending_values (Refused n) = []
-mending_values (Mended bytes words) = bytes ∷ words ∷ []
+mending_values (Err n) = []
+mending_values (Ok m) = m.bytes ∷ m.dropped ∷ []

@@ -1,20 +1,24 @@
 // Mends a record whose version word or source table is damaged: a new record without the words that refuse it (5, 6).
 #![tactic(auto)]
 
-ghost use Rattle.std.specs.Prelude.{◌≡◌, ◌≤◌, length, take, drop};
+ghost use Rattle.std.specs.Prelude.{◌≡◌, ◌≤◌, ◌+◌, ◌*◌, ◌/◌, length};
+ghost use Rattle.std.specs.Option.{MatchOption};
 ghost use Rattle.std.proofs.lemmas.List.Edits.{sets};
+ghost use Rattle.words.specs.Bytes.{word_at};
 ghost use Rattle.header.specs.Header.{header_of, sources_at, record_length};
+ghost use Rattle.numbers.specs.Number.{numbered};
 ghost use Rattle.record.specs.Number.{size_number};
-ghost use Rattle.mend.specs.Mend.{versions_left, keeps, kept_pairs, dropped_pairs, word_places, word_bytes};
+ghost use Rattle.mend.specs.Mend.{versions_left, keeps, least_after, kept_pairs, dropped_pairs, word_places};
 ghost use Rattle.mend.specs.Mend.{pair_bytes, dropped_words, mended_record, mending, mend_of};
 
 use header::Header;
+use numbers::Refusal;
 
-// What mending answers: the number that refuses it, or the bytes of the new record and how many words were dropped.
-#[derive(Clone, Copy)]
-pub enum Mending {
-    Refused(u32),
-    Mended(usize, usize),
+/// What mending made: the bytes of the new record, and how many words were dropped.
+#[derive(Clone, Copy, Debug, PartialEq, Eq)]
+pub struct Mended {
+    pub bytes: usize,
+    pub dropped: usize,
 }
 
 // How many words of the version table stay.
@@ -22,55 +26,92 @@ fn versions_left(r: &[u8], h: Header) -> u32
     ensures { result ≡ versions_left r.now h }
 {
     if version::version_sound(r, h) {
-        return h.versions;
+        h.versions
+    } else {
+        0
     }
-    0
 }
 
 fn is_kept(h: Header, least: u64, offset: u32) -> bool
     ensures { result ≡ keeps h least offset }
 {
-    if (offset as u64) < least {
-        return false;
+    least <= u64::from(offset) && offset < h.code
+}
+
+// Goes over the pairs of the source table from the front: where those that are left begin, how many they are, and the least
+// offset of the next one that is kept, 1 more than that of the last one or 0.
+#[derive(Clone, Copy)]
+struct Pairs {
+    at: usize,
+    left: u32,
+    least: u64,
+    ghost near: { at + 8 * left ≤ 0x100_0000_0000 },
+}
+
+impl Pairs {
+    fn of(h: Header) -> Pairs
+        ensures at { result.at ≡ sources_at h }
+        ensures left { result.left ≡ h.sources / 2 }
+        ensures least { result.least ≡ 0 }
+    {
+        Pairs {
+            at: header::sources_at(h),
+            left: h.sources / 2,
+            least: 0,
+        }
     }
-    offset < h.code
+
+    // The place of the next pair, and whether it is kept.
+    fn take(&mut self, r: &[u8], h: Header) -> Option<(usize, bool)>
+        ensures { MatchOption result (self.old.left ≡ 0) (λ p.
+            (p.0 ≡ self.old.at)
+            × (p.1 ≡ keeps h self.old.least (word_at r.now self.old.at))
+            × (self.new.at ≡ self.old.at + 8)
+            × (self.old.left ≡ self.new.left + 1)
+            × (self.new.least ≡ least_after h self.old.least (word_at r.now self.old.at))) }
+    {
+        if self.left == 0 {
+            return None;
+        }
+        let at = self.at;
+        let offset = words::word_at(r, at);
+        let kept = is_kept(h, self.least, offset);
+        let least = if kept {
+            u64::from(offset) + 1
+        } else {
+            self.least
+        };
+        *self = Pairs {
+            at: at + 8,
+            left: self.left - 1,
+            least,
+        };
+        Some((at, kept))
+    }
 }
 
 fn pairs_kept(r: &[u8], h: Header) -> u32
     ensures { result ≡ length (kept_pairs r.now h) }
 {
-    let mut at = header::sources_at(h);
-    let mut least: u64 = 0;
-    let mut kept = 0;
-    for _ in 0..h.sources / 2 {
-        let offset = words::word_at(r, at);
-        if is_kept(h, least, offset) {
-            least = (offset as u64) + 1;
-            kept += 1;
+    let mut pairs = Pairs::of(h);
+    let mut count = 0;
+    while let Some((_, kept)) = pairs.take(r, h) {
+        if kept {
+            count += 1;
         }
-        at += 8;
     }
-    kept
+    count
 }
 
-fn put_word(out: &mut [u8], at: usize, w: u32)
-    requires { at ≤ 1000000 }
-    ensures { out.new ≡ sets out.old at (word_bytes w) }
-{
-    words::set_byte(out, at, (w / 16777216) as u8);
-    words::set_byte(out, at + 1, (w / 65536 % 256) as u8);
-    words::set_byte(out, at + 2, (w / 256 % 256) as u8);
-    words::set_byte(out, at + 3, (w % 256) as u8);
-}
-
-// Copies `n` bytes of the record, or those that there are.
-fn copy_part(out: &mut [u8], to: usize, r: &[u8], from: usize, n: usize)
+// Stores bytes one behind the other, those that there is room for.
+fn put_bytes(out: &mut [u8], to: usize, bytes: &[u8])
     requires { to ≤ 2000000 }
-    ensures { out.new ≡ sets out.old to (take n (drop from r.now)) }
+    ensures { out.new ≡ sets out.old to bytes.now }
 {
-    let part = words::part(r, from, n);
-    for i in 0..part.len() {
-        words::set_byte(out, to + i, part[i]);
+    let mut at = to;
+    for byte in bytes {
+        words::set_byte(out, at, *byte);
+        at += 1;
     }
 }
 
@@ -81,17 +122,13 @@ fn copy_pairs(out: &mut [u8], to: usize, r: &[u8], h: Header)
     requires h_value { record_length h ≡ length r.now }
     ensures { out.new ≡ sets out.old to (pair_bytes r.now (kept_pairs r.now h)) }
 {
-    let mut at = header::sources_at(h);
-    let mut least: u64 = 0;
+    let mut pairs = Pairs::of(h);
     let mut next = to;
-    for _ in 0..h.sources / 2 {
-        let offset = words::word_at(r, at);
-        if is_kept(h, least, offset) {
-            least = (offset as u64) + 1;
-            copy_part(out, next, r, at, 8);
+    while let Some((at, kept)) = pairs.take(r, h) {
+        if kept {
+            put_bytes(out, next, words::part(r, at, 8));
             next += 8;
         }
-        at += 8;
     }
 }
 
@@ -103,10 +140,10 @@ fn write_record(r: &[u8], h: Header, versions: u32, pairs: u32, out: &mut [u8])
     ensures { out.new ≡ sets out.old 0 (mended_record r.now) }
 {
     let body = header::versions_at(h) + 4 * (versions as usize);
-    copy_part(out, 0, r, 0, 20);
-    put_word(out, 20, versions);
-    put_word(out, 24, 2 * pairs);
-    copy_part(out, 28, r, 28, body - 28);
+    put_bytes(out, 0, words::part(r, 0, 20));
+    put_bytes(out, 20, &versions.to_be_bytes());
+    put_bytes(out, 24, &(2 * pairs).to_be_bytes());
+    put_bytes(out, 28, words::part(r, 28, body - 28));
     copy_pairs(out, body, r, h);
 }
 
@@ -131,18 +168,13 @@ fn list_pairs(places: &mut [u32], to: usize, r: &[u8], h: Header)
     requires h_bound { sources_at h ≤ 1000000 }
     ensures { places.new ≡ sets places.old to (dropped_pairs r.now h) }
 {
-    let mut at = header::sources_at(h);
-    let mut least: u64 = 0;
+    let mut pairs = Pairs::of(h);
     let mut next = to;
-    for _ in 0..h.sources / 2 {
-        let offset = words::word_at(r, at);
-        if is_kept(h, least, offset) {
-            least = (offset as u64) + 1;
-        } else {
+    while let Some((at, kept)) = pairs.take(r, h) {
+        if !kept {
             list_words(places, next, at, 2);
             next += 2;
         }
-        at += 8;
     }
 }
 
@@ -167,26 +199,21 @@ fn write_places(r: &[u8], h: Header, versions: u32, pairs: u32, places: &mut [u3
 }
 
 // Writes the mended record into `out` and the places of the dropped words into `places`.
-pub fn mend(r: &[u8], out: &mut [u8], places: &mut [u32]) -> Mending
-    ensures { mending result out.new places.new
-        ≡ mend_of r.now out.old places.old }
+pub fn mend(r: &[u8], out: &mut [u8], places: &mut [u32]) -> Result<Mended, Refusal>
+    ensures { mending (numbered result) out.new places.new ≡ mend_of r.now out.old places.old }
 {
-    let number = record::size_number(r);
-    if number != 0 {
-        return Mending::Refused(number);
-    }
-    let h = header::header_of(r);
+    let h = record::sized(r)?;
     let versions = versions_left(r, h);
     let pairs = pairs_kept(r, h);
-    let length = header::versions_at(h) + 4 * (versions as usize) + 8 * (pairs as usize);
-    if out.len() < length {
-        return Mending::Refused(8);
+    let bytes = header::versions_at(h) + 4 * (versions as usize) + 8 * (pairs as usize);
+    if out.len() < bytes {
+        return Err(Refusal::Room);
     }
     let dropped = ((h.versions - versions) + (h.sources - 2 * pairs)) as usize;
     if places.len() < dropped {
-        return Mending::Refused(8);
+        return Err(Refusal::Room);
     }
     write_record(r, h, versions, pairs, out);
     write_places(r, h, versions, pairs, places);
-    Mending::Mended(length, dropped)
+    Ok(Mended { bytes, dropped })
 }

@@ -1,11 +1,11 @@
 // What a listing shows of an instruction, as numbers.
 #![tactic(auto)]
 
-ghost use Rattle.std.specs.Prelude.{◌≡◌, ◌+◌, ◌<◌};
-ghost use Rattle.mnemonic.specs.Mnemonic.{arithmetic_place, order_place, set_place, operation_number, mode_place};
+ghost use Rattle.std.specs.Prelude.{◌≡◌, ◌<◌};
+ghost use Rattle.mnemonic.specs.Mnemonic.{operation_number};
 ghost use Rattle.mnemonic.specs.Mnemonic.{parts, based, parts_of};
 
-use opcode::instruction::{Arithmetic, Base, Instruction, Mode, Operation, Order, SetOperation};
+use opcode::instruction::{Base, Instruction, Operation};
 
 // The number of the mnemonic; the mode, 1 where DOUBLE stands before it; the operand and the second one, 0 where there is none.
 #[derive(Clone, Copy)]
@@ -16,67 +16,19 @@ pub struct Parts {
     pub second: u32,
 }
 
-fn arithmetic_place(op: Arithmetic) -> u32
-    ensures value { result ≡ arithmetic_place op }
-    ensures upper_bound { result < 5 }
-{
-    match op {
-        Arithmetic::Add => 0,
-        Arithmetic::Subtract => 1,
-        Arithmetic::Multiply => 2,
-        Arithmetic::Divide => 3,
-        Arithmetic::Modulus => 4,
-    }
-}
-
-fn order_place(order: Order) -> u32
-    ensures value { result ≡ order_place order }
-    ensures upper_bound { result < 4 }
-{
-    match order {
-        Order::Less => 0,
-        Order::Greater => 1,
-        Order::LessEqual => 2,
-        Order::GreaterEqual => 3,
-    }
-}
-
-fn set_place(op: SetOperation) -> u32
-    ensures value { result ≡ set_place op }
-    ensures upper_bound { result < 6 }
-{
-    match op {
-        SetOperation::Union => 0,
-        SetOperation::Difference => 1,
-        SetOperation::Intersection => 2,
-        SetOperation::Subset => 3,
-        SetOperation::Superset => 4,
-        SetOperation::Member => 5,
-    }
-}
-
 fn operation_number(op: Operation) -> u32
     ensures { result ≡ operation_number op }
 {
     match op {
-        Operation::Signed(op) => 21 + arithmetic_place(op),
-        Operation::Unsigned(op) => 26 + arithmetic_place(op),
+        Operation::Signed(op) => 21 + op as u32,
+        Operation::Unsigned(op) => 26 + op as u32,
         Operation::Negate => 31,
         Operation::Equal => 32,
         Operation::NotEqual => 33,
-        Operation::CompareSigned(order) => 34 + order_place(order),
-        Operation::CompareUnsigned(order) => 38 + order_place(order),
-        Operation::Set(op) => 42 + set_place(op),
+        Operation::CompareSigned(order) => 34 + order as u32,
+        Operation::CompareUnsigned(order) => 38 + order as u32,
+        Operation::Set(op) => 42 + op as u32,
         Operation::Not => 48,
-    }
-}
-
-fn mode_place(mode: Mode) -> u32
-    ensures { result ≡ mode_place mode }
-{
-    match mode {
-        Mode::Normal => 0,
-        Mode::Double => 1,
     }
 }
 
@@ -112,14 +64,15 @@ fn based(first: u32, external: u32, base: Base, mode: u32, operand: u32) -> Part
     }
 }
 
+#[tactic(auto, unfolding(crate::specs::Mnemonic::parts_of))]
 pub fn parts_of(i: Instruction) -> Parts
     ensures { result ≡ parts_of i }
 {
     match i {
         Instruction::LoadConstant(n) => plain(0, n),
-        Instruction::Load(base, mode, n) => based(1, 58, base, mode_place(mode), n),
+        Instruction::Load(base, mode, n) => based(1, 58, base, mode as u32, n),
         Instruction::LoadAddress(base, n) => based(5, 59, base, 0, n),
-        Instruction::Store(base, mode, n) => based(9, 60, base, mode_place(mode), n),
+        Instruction::Store(base, mode, n) => based(9, 60, base, mode as u32, n),
         Instruction::Jump(n) => plain(13, n),
         Instruction::JumpC(n) => plain(14, n),
         Instruction::JumpT(n) => plain(15, n),

@@ -2,6 +2,7 @@
 -- being among a list.
 pub mod Shares
 pub mod Sids
+pub mod Counting
 pub mod Every
 pub mod Linking
 pub mod Among

@@ -1,17 +1,15 @@
 -- Imports and what they are linked to: the module of a library number, whether every import is lent, and what decides 17. The
 -- import list is values in a row, and a SID is lent just if it has a module's number.
-use mathlib.Core.Bool.{Bool, true, false, not, ◌&&◌, and-false, and-eq-true_iff}
+use mathlib.Core.Bool.{Bool, true, false, not, and-false, and-eq-true_iff}
 use mathlib.Core.List.{List, [], ◌∷◌}
-use mathlib.Core.Path.{◌≡◌, ◌∙◌, refl, ap}
-use Prim.Native.Nat.{ℕ, zero, suc, ◌+◌, ◌-◌, ◌*◌, ◌<◌, ◌≤◌}
+use mathlib.Core.Path.{◌≡◌, refl, ap}
+use Prim.Native.Nat.{ℕ, zero, suc, ◌+◌, ◌*◌, ◌<◌, ◌≤◌}
 use native.Mathlib.Omega.{arith}
 use lib.Dec.{eqb, leb, ltb}
 use lib.ListN.{length, get_or}
-use borrow.Author.Tests.{eq-eqb, ne_eqb, lt-ltb, le-ltb, le-leb, lt-leb, leb-true}
+use borrow.Author.Tests.{lt-ltb, le-ltb, le-leb, lt-leb, leb-true}
 use Rattle.words.specs.Bytes.{word_at}
 use Rattle.words.specs.Order.{every}
-use Rattle.words.specs.Series.{series}
-use Rattle.words.proofs.Order.{row-turn}
 use Rattle.words.proofs.Series.{series-at, series-length}
 use Rattle.words.proofs.Tests.{either}
 use Rattle.header.specs.Header.{header_of}
@@ -45,21 +43,6 @@ module _ (S : Members) (r : List ℕ) where
       let n = (header_of r).imports in
       let z : 28 + 4 * l ≡ 24 + 4 * suc l = omega arith in
       rw (series-length (word_at r) 4 28 n, lt-ltb l n (omega arith), series-at (word_at r) 4 28 n l (omega arith), z)
-
-  -- The imports from import j on.
-  module _ (n j x found : ℕ) (e : x ≡ word_at r (28 + 4 * j)) (f : found ≡ number_of S x) (h : j < n) where
-    imports-turn : every (lent S) (series (word_at r) 4 (28 + 4 * j) (n - j))
-        ≡ (not (eqb found 0) && every (lent S) (series (word_at r) 4 (28 + 4 * (j + 1)) (n - (j + 1))))
-    imports-turn =
-        let z : 28 + 4 * j + 4 ≡ 28 + 4 * (j + 1) = omega arith in
-        row-turn (lent S) (word_at r) 4 (28 + 4 * j) n j h ∙ rw (← e, lent-number S x, ← f, z)
-
-    pub import-missing : found ≡ 0 → every (lent S) (series (word_at r) 4 (28 + 4 * j) (n - j)) ≡ false
-    import-missing q = imports-turn ∙ rw (eq-eqb found 0 q)
-
-    pub import-found : (found ≡ 0 → ⊥) → every (lent S) (series (word_at r) 4 (28 + 4 * j) (n - j))
-        ≡ every (lent S) (series (word_at r) 4 (28 + 4 * (j + 1)) (n - (j + 1)))
-    import-found q = imports-turn ∙ rw (ne_eqb found 0 q)
 
 -- A module's number is below the number of modules, or 1 where there are none.
 pub number_small : (S : Members) (x : ℕ) → number_of S x ≤ length S + 1

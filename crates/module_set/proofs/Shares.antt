@@ -2,15 +2,15 @@
 -- last row all words are 0 and the shares are empty. By induction on the rows: the rows behind the first are those of the rest
 -- of the directory.
 use mathlib.Core.Bool.{Bool, true, false}
-use mathlib.Core.List.{List, [], ◌∷◌}
+use mathlib.Core.List.{List}
 use mathlib.Core.Path.{◌≡◌, ◌∙◌, refl, sym, ap}
 use Prim.Native.Nat.{ℕ, zero, suc, ◌+◌, ◌*◌, ◌/◌, ◌<◌, ◌≤◌}
 use native.Mathlib.Omega.{arith}
 use lib.Dec.{ltb}
 use lib.ListN.{length, get_or, take, drop, length-drop}
-use lib.Seq.{drop-drop, get_or-drop, take-length}
+use lib.Seq.{drop-drop, get_or-drop}
 use borrow.Author.Tests.{lt-ltb, le-ltb, ltb-true, ltb-false}
-use Rattle.module_set.specs.Members.{Member, no_member, member_at, members_from, members_of, single}
+use Rattle.module_set.specs.Members.{Member, no_member, member_at, members_from, members_of}
 use Rattle.module_set.specs.Rows.{row_word, shares_before}
 
 pub row-some : (d : List ℕ) (k j : ℕ) → k < length d / 4 → row_word d k j ≡ get_or d (4 * k + j) 0
@@ -86,9 +86,3 @@ counted (suc n) r l d = ap suc (counted n (drop (get_or d 1 0) r) (drop (get_or 
 pub member-count : (r l d : List ℕ) → length (members_of r l d) ≡ length d / 4
 unfolding members_of
 member-count r l d = counted (length d / 4) r l d
-
--- A record by itself, as slices hold it.
-pub single-members : (r results : List ℕ) (w : ℕ) →
-    members_of r results (0 ∷ length r ∷ length results ∷ w ∷ []) ≡ single r results
-unfolding members_of
-single-members r results w = rw (take-length r, take-length results)

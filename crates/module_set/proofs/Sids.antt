@@ -1,19 +1,21 @@
 -- The SIDs of a set are those of the directory's rows, and a library's number is where its SID stands among them. By induction
 -- on the rows.
-use mathlib.Core.Bool.{Bool, true, false, not, cond, ◌||◌}
+use mathlib.Core.Bool.{Bool, true, false, not, cond, ◌&&◌, ◌||◌}
 use mathlib.Core.List.{List, [], ◌∷◌}
-use mathlib.Core.Path.{◌≡◌, ◌∙◌, refl, ap}
+use mathlib.Core.Path.{◌≡◌, ◌∙◌, refl, sym, ap}
 use Prim.Native.Nat.{ℕ, zero, suc, ◌+◌, ◌-◌, ◌/◌, ◌<◌, ◌≤◌}
-use native.Mathlib.Nat.{sub-eq-zero_of_le}
 use native.Mathlib.Omega.{arith}
-use lib.Dec.{eqb}
+use lib.Dec.{eqb, ltb}
 use lib.ListN.{length, get_or, drop}
-use borrow.Author.Tests.{eq-eqb, ne_eqb}
-use Rattle.words.proofs.Left.{one_left}
+use borrow.Author.Tests.{eq-eqb, ne_eqb, ltb-true, ltb-false}
+use Rattle.std.specs.Option.{MatchOption, unwrap_or}
+use Rattle.std.specs.Prelude.{Option, None, Some}
+use Rattle.words.specs.Order.{every}
 use Rattle.words.proofs.Tests.{either}
 use Rattle.module_set.specs.Members.{Members, members_from, members_of, libraries, number_from, number_of}
 use Rattle.module_set.specs.Linked.{has, sids_of, distinct}
 use Rattle.module_set.specs.Rows.{row_word, sids_in, seek_from}
+use Rattle.module_set.proofs.Counting.{row}
 use Rattle.module_set.proofs.Shares.{row-some, row_next, rows_left}
 
 sids-shift : (d : List ℕ) (k n : ℕ) → sids_in (drop 4 d) k n ≡ sids_in d (suc k) n
@@ -63,39 +65,49 @@ seek-below k (x ∷ xs) sid =
     either (λ (n : ℕ). n ≤ k + length (x ∷ xs)) (eqb x sid) k (seek_from (k + 1) xs sid) (omega arith)
     (omega (arith, seek-below (k + 1) xs sid))
 
--- The turns of the loops: row k is looked at, of n.
-module _ (d : List ℕ) (n k : ℕ) where
-  pub sids-over : n ≤ k → sids_in d k (n - k) ≡ []
-  sids-over h = rw (sub-eq-zero_of_le h)
+-- The first row that has a SID, of those from row k on.
+module _ (d : List ℕ) (sid : ℕ) where
+  seek-none : (m k : ℕ) → ((i : ℕ) → k ≤ i → i < k + m → row_word d i 0 ≡ sid → ⊥) → seek_from k (sids_in d k m) sid ≡ 0
+  seek-none zero k p = refl
+  seek-none (suc m) k p =
+      rw (ne_eqb (row_word d k 0) sid (p k (omega arith) (omega arith)))
+      (seek-none m (k + 1) (λ i l h. p i (omega arith) (omega arith)))
 
-  module _ (h : k < n) where
-    pub sids-turn : sids_in d k (n - k) ≡ row_word d k 0 ∷ sids_in d (k + 1) (n - (k + 1))
-    sids-turn = rw (one_left k n h)
+  seek-first : (m k i : ℕ) → k ≤ i → i < k + m → row_word d i 0 ≡ sid → ((j : ℕ) → k ≤ j → j < i → row_word d j 0 ≡ sid → ⊥)
+      → seek_from k (sids_in d k m) sid ≡ i
+  seek-first zero k i l h e p = absurd (omega arith)
+  seek-first (suc m) k i l h e p =
+      by (ltb k i) refl (λ q. seek-first m (k + 1) i (omega arith) (omega arith) e (λ j a b. p j (omega arith) b))
+    where
+      by : (b : Bool) → ltb k i ≡ b → (k < i → seek_from (k + 1) (sids_in d (k + 1) m) sid ≡ i)
+          → seek_from k (sids_in d k (suc m)) sid ≡ i
+      by true q rest =
+          let before : k < i = ltb-true k i q in
+          rw (ne_eqb (row_word d k 0) sid (p k (omega arith) before)) (rest before)
+      by false q rest =
+          let same : k ≡ i = omega (arith, ltb-false k i q) in
+          rw (same, eq-eqb (row_word d i 0) sid e)
 
-    module _ (sid x : ℕ) (e : x ≡ row_word d k 0) where
-      pub seek-here : x ≡ sid → seek_from k (sids_in d k (n - k)) sid ≡ k
-      seek-here q = rw (sids-turn, ← e, eq-eqb x sid q)
+  pub found-first :
+      (n k : ℕ) (r : Option ℕ) →
+      MatchOption r ((i : ℕ) → k ≤ i → i < n → row_word d i 0 ≡ sid → ⊥)
+      (λ i. (k ≤ i) × (i < n) × (row_word d i 0 ≡ sid) × ((j : ℕ) → k ≤ j → j < i → row_word d j 0 ≡ sid → ⊥)) →
+      unwrap_or r 0 ≡ seek_from k (sids_in d k (n - k)) sid
+  found-first n k None p = sym (seek-none (n - k) k (λ i l h. p i l (omega arith)))
+  found-first n k (Some i) p = sym (seek-first (n - k) k i p.0 (omega (arith, p.0, p.1)) p.2 p.3)
 
-      pub seek-on : (x ≡ sid → ⊥) → seek_from k (sids_in d k (n - k)) sid ≡ seek_from (k + 1) (sids_in d (k + 1) (n - (k + 1))) sid
-      seek-on q = rw (sids-turn, ← e, ne_eqb x sid q)
-
-    module _ (x found : ℕ) (e : x ≡ row_word d k 0) (f : found ≡ seek_from (k + 1) (sids_in d (k + 1) (n - (k + 1))) x) where
-      pub twice : (found ≡ 0 → ⊥) → distinct (sids_in d k (n - k)) ≡ false
-      twice q =
-          rw (
-            sids-turn,
-            ← e,
-            seek-has (k + 1) (sids_in d (k + 1) (n - (k + 1))) x (omega arith),
-            ← f,
-            ne_eqb found 0 q,
-          )
-
-      pub once : found ≡ 0 → distinct (sids_in d k (n - k)) ≡ distinct (sids_in d (k + 1) (n - (k + 1)))
-      once q =
-          rw (
-            sids-turn,
-            ← e,
-            seek-has (k + 1) (sids_in d (k + 1) (n - (k + 1))) x (omega arith),
-            ← f,
-            eq-eqb found 0 q,
-          )
+-- No two rows from row k on have one SID where none has that of a row behind it.
+pub rows-distinct :
+    (d : List ℕ) (n m k : ℕ) → n - k ≡ m →
+    every (λ i. eqb (seek_from (i + 1) (sids_in d (i + 1) (n - (i + 1))) (row_word d i 0)) 0) (row k m)
+    ≡ distinct (sids_in d k m)
+rows-distinct d n zero k e = refl
+rows-distinct d n (suc m) k e =
+    let left : n - (k + 1) ≡ m = omega arith in
+    let found = seek_from (k + 1) (sids_in d (k + 1) m) (row_word d k 0) in
+    rw (left, seek-has (k + 1) (sids_in d (k + 1) m) (row_word d k 0) (omega arith), not-not (eqb found 0))
+    (ap (λ (b : Bool). eqb found 0 && b) (rows-distinct d n m (k + 1) left))
+  where
+    not-not : (b : Bool) → not (not b) ≡ b
+    not-not true = refl
+    not-not false = refl

@@ -1,7 +1,7 @@
 -- Decoding taken apart, and put together again: an instruction is found at its code byte or behind DOUBLE, and ends within the limit. By
 -- the tests that decoding makes.
 use mathlib.Core.Bool.{Bool, true, false, cond}
-use mathlib.Core.Path.{◌≡◌, refl}
+use mathlib.Core.Path.{◌≡◌, refl, ap}
 use mathlib.Core.List.{List}
 use Prim.Native.Nat.{ℕ, ◌+◌, ◌<◌, ◌≤◌}
 use native.Mathlib.Omega.{arith}
@@ -9,11 +9,18 @@ use borrow.Author.Tests.{lt-ltb, le-leb, leb-true, eq-eqb, ne_eqb, eqb-true, eqb
 use lib.Dec.{eqb, ltb, leb}
 use Rattle.words.specs.Bytes.{byte_at}
 use Rattle.opcode.specs.Length.{length_in}
-use Rattle.opcode.specs.Decode.{instruction_at, decode_in, decode_at}
-use Rattle.opcode.specs.declared.Decoded.TheVariants.{Unserved, Past, At}
+use Rattle.opcode.specs.Decode.{Decoded, instruction_at, decode_in, decode_at}
+use Rattle.opcode.specs.declared.DecodeError.TheVariants.{Unserved, Past}
+use Rattle.std.specs.Prelude.{Err, Ok}
 use Rattle.opcode.specs.declared.instruction.Mode.{Mode}
 use Rattle.opcode.specs.declared.instruction.Mode.TheVariants.{Normal, Double}
 use Rattle.opcode.specs.declared.instruction.Instruction.{Instruction}
+
+-- What decodes alike is the same instruction, before the same place.
+pub same-decoded : {i j : Instruction} {m n : ℕ} → ◌≡◌ {A = Decoded} (Ok (i, m)) (Ok (j, n)) → (i ≡ j) × (m ≡ n)
+same-decoded {i} {j} {m} {n} e =
+    let p : ◌≡◌ {A = Instruction × ℕ} (i, m) (j, n) = cc in
+    (ap (λ (d : Instruction × ℕ). d.0) p, ap (λ (d : Instruction × ℕ). d.1) p)
 
 -- What decoding finds at the code byte.
 pub record Found (m : Mode) (code : List ℕ) (limit at : ℕ) (i : Instruction) (next : ℕ) : Type 0 where
@@ -28,42 +35,42 @@ pub data Origin (code : List ℕ) (limit at : ℕ) (i : Instruction) (next : ℕ
   double : byte_at code at ≡ 0xF5 → Found Double code limit (at + 1) i next → Origin code limit at i next
 
 module _ (code : List ℕ) (limit : ℕ) (i : Instruction) (next : ℕ) where
-  found : (m : Mode) (at : ℕ) → decode_in m code limit at ≡ At i next → Found m code limit at i next
+  found : (m : Mode) (at : ℕ) → decode_in m code limit at ≡ Ok (i, next) → Found m code limit at i next
   unfolding decode_in
   found m at = by (eqb (length_in m code at) 0) refl (leb (at + length_in m code at) limit) refl
     where
       by : (t : Bool) → eqb (length_in m code at) 0 ≡ t → (u : Bool) → leb (at + length_in m code at) limit ≡ u
-          → cond t Unserved (cond u (At (instruction_at m code at) (at + length_in m code at)) Past) ≡ At i next
+          → cond {A = Decoded} t (Err Unserved) (cond {A = Decoded} u (Ok (instruction_at m code at, at + length_in m code at)) (Err Past)) ≡ Ok (i, next)
           → Found m code limit at i next
       by true s u l e = let z : ◌≡◌ {A = ℕ} 0 1 = cc in absurd (omega arith)
       by false s true l e =
-          let p : at + length_in m code at ≡ next = cc in
+          let p = same-decoded e in
           record {
             served = eqb-false (length_in m code at) 0 s;
-            same = cc;
-            ends = p;
+            same = p.0;
+            ends = p.1;
             within = omega (arith, leb-true (at + length_in m code at) limit l);
           }
       by false s false l e = let z : ◌≡◌ {A = ℕ} 0 1 = cc in absurd (omega arith)
 
-  decoded-in : (m : Mode) (at : ℕ) → Found m code limit at i next → decode_in m code limit at ≡ At i next
+  decoded-in : (m : Mode) (at : ℕ) → Found m code limit at i next → decode_in m code limit at ≡ Ok (i, next)
   unfolding decode_in
   decoded-in m at r =
       rw (ne_eqb (length_in m code at) 0 r.served, le-leb (at + length_in m code at) limit (omega arith), r.same, r.ends)
 
-  pub origin : (at : ℕ) → decode_at code limit at ≡ At i next → Origin code limit at i next
+  pub origin : (at : ℕ) → decode_at code limit at ≡ Ok (i, next) → Origin code limit at i next
   unfolding decode_at
   origin at = by (ltb at limit) (eqb (byte_at code at) 0xF5) refl (ltb (at + 1) limit)
     where
       by : (t u : Bool) → eqb (byte_at code at) 0xF5 ≡ u → (v : Bool)
-          → cond t (cond u (cond v (decode_in Double code limit (at + 1)) Past) (decode_in Normal code limit at)) Past ≡ At i next
+          → cond t (cond u (cond v (decode_in Double code limit (at + 1)) (Err Past)) (decode_in Normal code limit at)) (Err Past) ≡ Ok (i, next)
           → Origin code limit at i next
       by true true b true e = double (eqb-true (byte_at code at) 0xF5 b) (found Double (at + 1) e)
       by true true b false e = let z : ◌≡◌ {A = ℕ} 0 1 = cc in absurd (omega arith)
       by true false b v e = single (eqb-false (byte_at code at) 0xF5 b) (found Normal at e)
       by false u b v e = let z : ◌≡◌ {A = ℕ} 0 1 = cc in absurd (omega arith)
 
-  pub decoded : (at : ℕ) → Origin code limit at i next → decode_at code limit at ≡ At i next
+  pub decoded : (at : ℕ) → Origin code limit at i next → decode_at code limit at ≡ Ok (i, next)
   unfolding decode_at
   decoded at (single f r) =
       let h : at < limit = omega (arith, r.served) in
@@ -79,7 +86,7 @@ unprefixed (single f r) n = r
 unprefixed (double f r) n = absurd (n f)
 
 -- An instruction ends behind its first byte and within the limit.
-pub ends : (code : List ℕ) (limit at : ℕ) {i : Instruction} {next : ℕ} → decode_at code limit at ≡ At i next → (at < next) × (next ≤ limit)
+pub ends : (code : List ℕ) (limit at : ℕ) {i : Instruction} {next : ℕ} → decode_at code limit at ≡ Ok (i, next) → (at < next) × (next ≤ limit)
 ends code limit at {i} {next} e = by (origin code limit i next at e)
   where
     by : Origin code limit at i next → (at < next) × (next ≤ limit)

@@ -270,9 +270,17 @@ pub fn formats() -> [u16; 256]
     FORMATS
 }
 
-pub fn format_of(formats: &[u16], opcode: u8) -> u16
-    requires { Sheet formats.now }
-    ensures { result ≡ sheet_of opcode }
-{
-    formats[opcode as usize]
+/// The sheet, lent: a table that says of each code what 5.2.4 says.
+#[derive(Clone, Copy)]
+pub struct FormatSheet<'a> {
+    pub entries: &'a [u16],
+    ghost sheet: { Sheet entries.now },
+}
+
+impl<'a> FormatSheet<'a> {
+    pub fn format_of(self, opcode: u8) -> u16
+        ensures { result ≡ sheet_of opcode }
+    {
+        self.entries[opcode as usize]
+    }
 }

@@ -1,10 +1,11 @@
 // How long an instruction is, by the sheet.
 ghost use Rattle.std.specs.Prelude.{◌≡◌};
 ghost use Rattle.words.specs.Bytes.{byte_at};
-ghost use Rattle.opcode.specs.Sheet.{Sheet, sheet_of};
+ghost use Rattle.opcode.specs.Sheet.{sheet_of};
 ghost use Rattle.opcode.specs.Length.{length_in, length_at};
 ghost use Rattle.opcode.specs.declared.instruction.Mode.TheVariants.{Normal};
 
+use crate::format::FormatSheet;
 use crate::instruction::Mode;
 
 // The bytes in normal mode, by the entry of the code byte: the fixed ones, and the table of a switch. A prefix is no instruction.
@@ -23,11 +24,10 @@ fn normal_length(format: u16, code: &[u8], at: usize) -> usize
 }
 
 // The bytes of the instruction whose code byte stands at `at`; 0 where it is not served in the mode.
-pub fn length_in(formats: &[u16], mode: Mode, code: &[u8], at: usize) -> usize
-    requires { Sheet formats.now }
+pub fn length_in(formats: FormatSheet<'_>, mode: Mode, code: &[u8], at: usize) -> usize
     ensures { result ≡ length_in mode code.now at }
 {
-    let format = crate::format::format_of(formats, words::byte_at(code, at));
+    let format = formats.format_of(words::byte_at(code, at));
     match mode {
         Mode::Normal => normal_length(format, code, at),
         Mode::Double => {
@@ -40,11 +40,10 @@ pub fn length_in(formats: &[u16], mode: Mode, code: &[u8], at: usize) -> usize
 }
 
 // The bytes of the instruction at `at`, a prefix counted in; 0 where it is not served.
-pub fn length_at(formats: &[u16], code: &[u8], at: usize) -> usize
-    requires { Sheet formats.now }
+pub fn length_at(formats: FormatSheet<'_>, code: &[u8], at: usize) -> usize
     ensures { result ≡ length_at code.now at }
 {
-    let format = crate::format::format_of(formats, words::byte_at(code, at));
+    let format = formats.format_of(words::byte_at(code, at));
     if format < 0x8000 {
         return normal_length(format, code, at);
     }

@@ -2,63 +2,87 @@
 #![tactic(auto)]
 
 ghost use Rattle.std.specs.Prelude.{◌≡◌, ◌<◌};
-ghost use Rattle.opcode.specs.Sheet.{Sheet};
-ghost use Rattle.opcode.specs.Decode.{decoded_number, decode_in, decode_at};
+ghost use Rattle.opcode.specs.Decode.{undecoded_number, undecoded_trap, decode_in, decode_at};
+ghost use Rattle.numbers.specs.Number.{number_of};
+ghost use Rattle.numbers.specs.TrapNumber.{trap_number};
 
+use crate::format::FormatSheet;
 use crate::instruction::{Instruction, Mode};
+use numbers::{Refusal, Trap};
 
 mod build;
 pub mod format;
 pub mod instruction;
 pub mod length;
 
-// An unserved instruction; one that runs past the limit; or the instruction and the place after it.
-#[derive(Clone, Copy)]
-pub enum Decoded {
+/// Why no instruction stands at a place: an unserved one, or one that runs past the limit.
+#[derive(Clone, Copy, Debug, PartialEq, Eq)]
+pub enum DecodeError {
     Unserved,
     Past,
-    At(Instruction, usize),
 }
 
-// Gives the check's number for what is decoded, 0 for an instruction.
-pub fn decoded_number(d: Decoded) -> u32
-    ensures { result ≡ decoded_number d }
-{
-    match d {
-        Decoded::Unserved => 10,
-        Decoded::Past => 11,
-        Decoded::At(_, _) => 0,
+// The check's numbers, 10 and 11.
+impl From<DecodeError> for Refusal {
+    ghost from_gives = { λ e refusal. number_of refusal ≡ undecoded_number e };
+
+    fn from(e: DecodeError) -> Refusal {
+        match e {
+            DecodeError::Unserved => Refusal::Unserved,
+            DecodeError::Past => Refusal::Past,
+        }
     }
 }
 
-// The instruction whose code byte stands at `at`, in a mode.
-fn decode_in(formats: &[u16], mode: Mode, code: &[u8], limit: usize, at: usize) -> Decoded
-    requires sheet { Sheet formats.now }
-    requires at_lt_limit { at < limit }
+// The traps of a step, 20 and 21.
+impl From<DecodeError> for Trap {
+    ghost from_gives = { λ e trap. trap_number trap ≡ undecoded_trap e };
+
+    fn from(e: DecodeError) -> Trap {
+        match e {
+            DecodeError::Unserved => Trap::Unserved,
+            DecodeError::Past => Trap::Outside,
+        }
+    }
+}
+
+// The instruction whose code byte stands at `at`, in a mode, and the place after it.
+fn decode_in(
+    formats: FormatSheet<'_>,
+    mode: Mode,
+    code: &[u8],
+    limit: usize,
+    at: usize,
+) -> Result<(Instruction, usize), DecodeError>
+    requires { at < limit }
     ensures { result ≡ decode_in mode code.now limit at }
 {
     let length = length::length_in(formats, mode, code, at);
     if length == 0 {
-        return Decoded::Unserved;
+        return Err(DecodeError::Unserved);
     }
     if limit - at < length {
-        return Decoded::Past;
+        return Err(DecodeError::Past);
     }
-    Decoded::At(build::instruction_at(mode, code, at), at + length)
+    Ok((build::instruction_at(mode, code, at), at + length))
 }
 
-pub fn decode(formats: &[u16], code: &[u8], limit: usize, at: usize) -> Decoded
-    requires { Sheet formats.now }
+pub fn decode(
+    formats: FormatSheet<'_>,
+    code: &[u8],
+    limit: usize,
+    at: usize,
+) -> Result<(Instruction, usize), DecodeError>
     ensures { result ≡ decode_at code.now limit at }
 {
     if limit <= at {
-        return Decoded::Past;
+        return Err(DecodeError::Past);
     }
     if words::byte_at(code, at) != 0xF5 {
         return decode_in(formats, Mode::Normal, code, limit, at);
     }
     if limit <= at + 1 {
-        return Decoded::Past;
+        return Err(DecodeError::Past);
     }
     decode_in(formats, Mode::Double, code, limit, at + 1)
 }

@@ -1,9 +1,8 @@
 // Prints the sheet of the 256 codes, from the table that lengths are read from: code, mnemonic, length in bytes, marks.
 #![tactic(auto)]
 
-ghost use Rattle.opcode.specs.Sheet.{Sheet};
-
-use opcode::Decoded;
+use opcode::DecodeError;
+use opcode::format::FormatSheet;
 use opcode::instruction::Instruction;
 use std::io;
 
@@ -19,33 +18,23 @@ fn write_number(rt: &impl Print, n: usize) -> io::Result<()> {
 
 // How an operand is given: in the code's last digit, or in one, two or four bytes.
 fn write_size(rt: &impl Print, code: u8, length: usize) -> io::Result<()> {
-    if length == 1 {
-        write(rt, b".")?;
-        return write_number(rt, (code % 16) as usize);
+    match length {
+        1 => {
+            write(rt, b".")?;
+            write_number(rt, (code % 16) as usize)
+        }
+        2 => write(rt, b".b"),
+        3 => write(rt, b".h"),
+        _ => write(rt, b".w"),
     }
-    if length == 2 {
-        return write(rt, b".b");
-    }
-    if length == 3 {
-        return write(rt, b".h");
-    }
-    write(rt, b".w")
-}
-
-// Character `k` of a mnemonic; a space past its end.
-fn character(name: u32, k: u32) -> u8 {
-    words::byte_at(&names::NAMES, (name as usize) * 8 + (k as usize))
 }
 
 fn write_mnemonic(rt: &impl Print, code: u8, i: Instruction, length: usize) -> io::Result<()> {
-    let name = mnemonic::parts_of(i).number;
-    for k in 0..8 {
-        let character = [character(name, k)];
-        if character[0] != b' ' {
-            write(rt, &character)?;
-        }
+    let number = mnemonic::parts_of(i).number;
+    if let Some(name) = names::NAMES.get(number as usize) {
+        write(rt, name.as_bytes())?;
     }
-    if name < names::SIZED {
+    if number < names::SIZED {
         write_size(rt, code, length)?;
     }
     Ok(())
@@ -77,27 +66,27 @@ fn write_marks(rt: &impl Print, format: u16) -> io::Result<()> {
 }
 
 // The mnemonic is that of the instruction which the code and operands of zeros make.
-fn write_served(rt: &impl Print, formats: &[u16], code: u8, format: u16) -> io::Result<()>
-    requires { Sheet formats.now }
-{
+fn write_served(
+    rt: &impl Print,
+    formats: FormatSheet<'_>,
+    code: u8,
+    format: u16,
+) -> io::Result<()> {
     let bytes = [code, 0, 0, 0, 0, 0, 0, 0, 0, 0];
-    let decoded = opcode::decode(formats, &bytes, 10, 0);
-    match decoded {
-        Decoded::At(i, length) => {
+    match opcode::decode(formats, &bytes, 10, 0) {
+        Ok((i, length)) => {
             write(rt, b" ")?;
             write_mnemonic(rt, code, i, length)?;
             write_length(rt, format)?;
             write_marks(rt, format)
         }
-        Decoded::Unserved => write(rt, b" -"),
-        Decoded::Past => write(rt, b" past"),
+        Err(DecodeError::Unserved) => write(rt, b" -"),
+        Err(DecodeError::Past) => write(rt, b" past"),
     }
 }
 
-fn write_row(rt: &impl Print, formats: &[u16], code: u8) -> io::Result<()>
-    requires { Sheet formats.now }
-{
-    let format = opcode::format::format_of(formats, code);
+fn write_row(rt: &impl Print, formats: FormatSheet<'_>, code: u8) -> io::Result<()> {
+    let format = formats.format_of(code);
     if format == 0 {
         return write(rt, b" - unserved");
     }
@@ -117,10 +106,11 @@ fn write_code(rt: &impl Print, code: u8) -> io::Result<()> {
 }
 
 fn main(rt: HostRuntime) -> io::Result<()> {
-    let formats = opcode::format::formats();
+    let entries = opcode::format::formats();
+    let formats = FormatSheet { entries: &entries };
     for code in 0..=255u8 {
         write_code(&rt, code)?;
-        write_row(&rt, &formats, code)?;
+        write_row(&rt, formats, code)?;
         write(&rt, b"\n")?;
     }
     Ok(())

@@ -11,39 +11,33 @@ ghost use Rattle.operand.specs.Distance.{place_at};
 pub fn extend_byte(b: u8) -> u32
     ensures { result ≡ extended w8 b }
 {
-    if b < 128 {
-        return b as u32;
-    }
-    (b as u32) + 0xFFFF_FF00
+    i32::from(b.cast_signed()).cast_unsigned()
 }
 
 // The word that holds a signed halfword.
 pub fn extend_halfword(h: u16) -> u32
     ensures { result ≡ extended w16 h }
 {
-    if h < 32768 {
-        return h as u32;
-    }
-    (h as u32) + 0xFFFF_0000
+    i32::from(h.cast_signed()).cast_unsigned()
 }
 
 pub fn unsigned_byte(code: &[u8], at: usize) -> u32
     ensures { result ≡ byte_at code.now (at + 1) }
 {
-    words::byte_behind(code, at, 1) as u32
+    u32::from(words::byte_behind(code, at, 1))
 }
 
 // The second of two bytes.
 pub fn second_byte(code: &[u8], at: usize) -> u32
     ensures { result ≡ byte_at code.now (at + 2) }
 {
-    words::byte_behind(code, at, 2) as u32
+    u32::from(words::byte_behind(code, at, 2))
 }
 
 pub fn unsigned_halfword(code: &[u8], at: usize) -> u32
     ensures { result ≡ halfword_at code.now (at + 1) }
 {
-    words::halfword_behind(code, at, 1) as u32
+    u32::from(words::halfword_behind(code, at, 1))
 }
 
 pub fn signed_byte(code: &[u8], at: usize) -> u32
@@ -68,5 +62,5 @@ pub fn word(code: &[u8], at: usize) -> u32
 pub fn place_at(at: u32, distance: u32) -> u32
     ensures { result ≡ place_at at distance }
 {
-    (((at as u64) + (distance as u64)) % 0x1_0000_0000) as u32
+    at.wrapping_add(distance)
 }

@@ -13,22 +13,24 @@ use Rattle.opcode.specs.declared.instruction.Arithmetic.{Arithmetic}
 use Rattle.opcode.specs.declared.instruction.Operation.{Operation}
 use Rattle.opcode.specs.declared.instruction.Operation.TheVariants.{Signed, Unsigned, Negate, Equal, NotEqual}
 use Rattle.opcode.specs.declared.instruction.Operation.TheVariants.{CompareSigned, CompareUnsigned, Set, Not}
-use Rattle.operate.specs.declared.Value.{Value}
-use Rattle.operate.specs.declared.Value.TheVariants.{Word, Trap as Stop}
 use Rattle.operate.specs.Operation.{operation_value}
-use Rattle.operate.specs.Value.{is_boolean, is_unsigned, inverted_value, signed_word, unsigned_word}
+use Rattle.operate.specs.Value.{is_boolean, is_unsigned, inverted_value, signed_word, unsigned_word, Value}
 use Rattle.operate.specs.Arithmetic.{signed_number, unsigned_number, divides, signed_value, unsigned_value, negated_value}
 use Rattle.operate.specs.Traps.{DataTrap}
+use Rattle.std.specs.Prelude.{Ok, Err}
+use Rattle.numbers.specs.declared.Trap.TheVariants.{OutOfRange}
+use Rattle.numbers.specs.declared.Trap.{Trap}
+use Rattle.numbers.specs.TrapNumber.{trap_number}
 
 -- A number that is written out.
 pub data-number : (n : ℕ) → leb 30 n ≡ true → leb n 38 ≡ true → DataTrap n
 data-number n l r = record { lowest = leb-true 30 n l; highest = leb-true n 38 r }
 
 pub data Valued : Value → Type 0 where
-  a_word : {x : ℕ} → Valued (Word x)
-  a-trap : {n : ℕ} → DataTrap n → Valued (Stop n)
+  a_word : {x : ℕ} → Valued (Ok x)
+  a-trap : {t : Trap} → DataTrap (trap_number t) → Valued (Err t)
 
-too_large : Valued (Stop 31)
+too_large : Valued (Err OutOfRange)
 too_large = a-trap (data-number 31 refl refl)
 
 signed_word_lem : (z : ℤ) → Valued (signed_word z)

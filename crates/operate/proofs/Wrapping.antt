@@ -13,12 +13,13 @@ use Rattle.opcode.specs.declared.instruction.Operation.TheVariants.{Signed, Unsi
 use Rattle.opcode.specs.declared.instruction.Operation.TheVariants.{CompareSigned, CompareUnsigned, Set, Not}
 use Rattle.opcode.specs.declared.instruction.Arithmetic.{Arithmetic}
 use Rattle.opcode.specs.declared.instruction.Arithmetic.TheVariants.{Add, Subtract, Multiply, Divide, Modulus}
-use Rattle.operate.specs.declared.Value.TheVariants.{Word, Trap}
 use Rattle.operate.specs.Value.{unsigned_word}
 use Rattle.operate.specs.Arithmetic.{unsigned_number, unsigned_value, divides}
 use Rattle.operate.specs.Operation.{operation_value}
 use Rattle.operate.specs.Wrapping.{FollowsRule, ThreeByRule, OnlyThreeWrap}
 use Rattle.operate.proofs.Naturals.{in-word}
+use Rattle.std.specs.Prelude.{Ok, Err}
+use Rattle.numbers.specs.declared.Trap.TheVariants.{OutOfRange}
 
 left : (n : ℕ) → n % 0x1_0000_0000 < 0x1_0000_0000
 left n = mod-lt n (omega arith)
@@ -26,7 +27,7 @@ left n = mod-lt n (omega arith)
 by-rule : (wraps : Bool) (z : ℤ) → FollowsRule wraps z (unsigned_word wraps z)
 unfolding unsigned_word
 by-rule true (pos n) =
-    by-test (FollowsRule true (pos n)) (ltb n 0x1_0000_0000) (Word n) (Word (n % 0x1_0000_0000))
+    by-test (FollowsRule true (pos n)) (ltb n 0x1_0000_0000) (Ok n) (Ok (n % 0x1_0000_0000))
     (λ e. (ltb-true n 0x1_0000_0000 e, (0, omega arith)))
     (λ e. (left n, (n / 0x1_0000_0000, omega (arith, div-add-mod' n 0x1_0000_0000))))
 by-rule true (negsuc n) = (
@@ -34,7 +35,7 @@ by-rule true (negsuc n) = (
   (suc (n / 0x1_0000_0000), omega (arith, div-add-mod' n 0x1_0000_0000, left n)),
 )
 by-rule false (pos n) =
-    by-test (FollowsRule false (pos n)) (ltb n 0x1_0000_0000) (Word n) (Trap 31)
+    by-test (FollowsRule false (pos n)) (ltb n 0x1_0000_0000) (Ok n) (Err OutOfRange)
     (λ e. (ltb-true n 0x1_0000_0000 e, refl)) (λ e. (e, refl))
 by-rule false (negsuc n) = (refl, refl)
 

@@ -6,9 +6,9 @@ use Rattle.std.specs.Int.{w32}
 use Rattle.std.proofs.Common.{to_z}
 use Rattle.opcode.specs.declared.instruction.Arithmetic.{Arithmetic}
 use Rattle.opcode.specs.declared.instruction.Arithmetic.TheVariants.{Add, Subtract, Multiply, Divide, Modulus}
-use Rattle.operate.specs.declared.Value.{Value}
-use Rattle.operate.specs.declared.Value.TheVariants.{Trap}
-use Rattle.operate.specs.Value.{signed_word, unsigned_word}
+use Rattle.operate.specs.Value.{signed_word, unsigned_word, Value}
+use Rattle.std.specs.Prelude.{Err}
+use Rattle.numbers.specs.declared.Trap.TheVariants.{ZeroDivisor}
 
 -- 01: "Modulus follows Ada's mod or rem, as the manual's line is written" (it writes mod): the remainder, and with the divisor added
 -- where its sign is not the divisor's.
@@ -42,10 +42,10 @@ divides Modulus = true
 
 -- 30 is "zero divisor".
 unfoldable pub signed_value : Arithmetic → ℕ → ℕ → Value
-signed_value op x y = cond (divides op && eqb y 0) (Trap 30) (signed_word (signed_number op (to_z w32 x) (to_z w32 y)))
+signed_value op x y = cond (divides op && eqb y 0) (Err ZeroDivisor) (signed_word (signed_number op (to_z w32 x) (to_z w32 y)))
 
 unfoldable pub unsigned_value : (wraps : Bool) → Arithmetic → ℕ → ℕ → Value
-unsigned_value wraps op x y = cond (divides op && eqb y 0) (Trap 30) (unsigned_word wraps (unsigned_number op x y))
+unsigned_value wraps op x y = cond (divides op && eqb y 0) (Err ZeroDivisor) (unsigned_word wraps (unsigned_number op x y))
 
 unfoldable pub negated_value : ℕ → Value
 negated_value x = signed_word (neg_ℤ (to_z w32 x))

@@ -1,14 +1,13 @@
 -- Unsigned results by both rules. 02, K11: "Both rules are kept and one statement over the rule covers the three operations."
-use Rattle.std.specs.Prelude.{Bool, true, false, not, ◌≡◌, ℕ, suc, ◌+◌, ◌*◌, ◌<◌, ℤ, pos, negsuc}
+use Rattle.std.specs.Prelude.{Bool, true, false, not, ◌≡◌, ℕ, suc, ◌+◌, ◌*◌, ◌<◌, ℤ, pos, negsuc, Ok, Err}
 use Rattle.opcode.specs.declared.instruction.Arithmetic.{Arithmetic}
 use Rattle.opcode.specs.declared.instruction.Operation.{Operation}
 use Rattle.opcode.specs.declared.instruction.Operation.TheVariants.{Signed, Unsigned, Negate, Equal, NotEqual}
 use Rattle.opcode.specs.declared.instruction.Operation.TheVariants.{CompareSigned, CompareUnsigned, Set, Not}
-use Rattle.operate.specs.declared.Value.{Value}
-use Rattle.operate.specs.declared.Value.TheVariants.{Word, Trap}
-use Rattle.operate.specs.Value.{is_unsigned}
+use Rattle.operate.specs.Value.{is_unsigned, Value}
 use Rattle.operate.specs.Arithmetic.{unsigned_number, unsigned_value, divides}
 use Rattle.operate.specs.Operation.{operation_value}
+use Rattle.numbers.specs.declared.Trap.TheVariants.{OutOfRange}
 
 -- A word and a number that differ by a multiple of 2^32.
 abbrev pub RunsRound : ℤ → ℕ → Type 0
@@ -22,10 +21,10 @@ Equals (negsuc n) x = ⊥
 
 -- What a number is given as: wrapped, always a word; else the number itself, or 31 where it is no word.
 abbrev pub FollowsRule : (wraps : Bool) → ℤ → Value → Type 0
-FollowsRule true z (Word x) = (x < 0x1_0000_0000) × RunsRound z x
-FollowsRule true z (Trap n) = ⊥
-FollowsRule false z (Word x) = (x < 0x1_0000_0000) × Equals z x
-FollowsRule false z (Trap n) = (is_unsigned z ≡ false) × (n ≡ 31)
+FollowsRule true z (Ok x) = (x < 0x1_0000_0000) × RunsRound z x
+FollowsRule true z (Err t) = ⊥
+FollowsRule false z (Ok x) = (x < 0x1_0000_0000) × Equals z x
+FollowsRule false z (Err t) = (is_unsigned z ≡ false) × (t ≡ OutOfRange)
 
 abbrev pub ThreeByRule : Type 0
 ThreeByRule =

@@ -3,37 +3,38 @@ ghost use Rattle.std.specs.Prelude.{◌≡◌, pos, ◌-ℤ◌};
 ghost use Rattle.operate.specs.Arithmetic.{signed_value, unsigned_value, negated_value};
 ghost use Rattle.operate.specs.Value.{unsigned_word};
 
-use crate::Value;
+use numbers::Trap;
 use opcode::instruction::Arithmetic;
 
-// Gives the word of a number, or the word that it wraps to, or trap 31. The two functions have the rule each for itself: a function
-// for both costs the fast loop registers.
-fn unsigned_word(wraps: bool, n: u64) -> Value
+// Gives the word of a number, or the word that it wraps to, or trap 31.
+// Kept: this and the next have the rule each for itself, since a function for both costs the fast loop registers; no `checked_mul`,
+// which divides.
+fn unsigned_word(wraps: bool, n: u64) -> Result<u32, Trap>
     ensures { result ≡ unsigned_word wraps (pos n) }
 {
     if n < 0x1_0000_0000 {
-        return Value::Word(n as u32);
+        return Ok(n as u32);
     }
     if wraps {
-        return Value::Word((n % 0x1_0000_0000) as u32);
+        return Ok((n % 0x1_0000_0000) as u32);
     }
-    Value::Trap(31)
+    Err(Trap::OutOfRange)
 }
 
-fn unsigned_difference(wraps: bool, x: u32, y: u32) -> Value
+fn unsigned_difference(wraps: bool, x: u32, y: u32) -> Result<u32, Trap>
     ensures { result ≡ unsigned_word wraps (pos x -ℤ pos y) }
 {
     if x < y {
         if wraps {
-            return Value::Word(0xFFFF_FFFF - (y - x - 1));
+            return Ok(x.wrapping_sub(y));
         }
-        return Value::Trap(31);
+        return Err(Trap::OutOfRange);
     }
-    Value::Word(x - y)
+    Ok(x - y)
 }
 
 // Ada's mod of two signed words, y not 0.
-fn modulus(x: u32, y: u32) -> Value
+fn modulus(x: u32, y: u32) -> Result<u32, Trap>
     requires { y ≡ 0 → ⊥ }
     ensures { result ≡ signed_value Arithmetic.Modulus x y }
 {
@@ -54,7 +55,7 @@ fn modulus(x: u32, y: u32) -> Value
     crate::signed_word(rest)
 }
 
-pub fn signed_value(op: Arithmetic, x: u32, y: u32) -> Value
+pub fn signed_value(op: Arithmetic, x: u32, y: u32) -> Result<u32, Trap>
     ensures { result ≡ signed_value op x y }
 {
     match op {
@@ -63,20 +64,20 @@ pub fn signed_value(op: Arithmetic, x: u32, y: u32) -> Value
         Arithmetic::Multiply => crate::signed_word(integer::signed(x) * integer::signed(y)),
         Arithmetic::Divide => {
             if y == 0 {
-                return Value::Trap(30);
+                return Err(Trap::ZeroDivisor);
             }
             crate::signed_word(integer::signed(x) / integer::signed(y))
         }
         Arithmetic::Modulus => {
             if y == 0 {
-                return Value::Trap(30);
+                return Err(Trap::ZeroDivisor);
             }
             modulus(x, y)
         }
     }
 }
 
-pub fn unsigned_value(wraps: bool, op: Arithmetic, x: u32, y: u32) -> Value
+pub fn unsigned_value(wraps: bool, op: Arithmetic, x: u32, y: u32) -> Result<u32, Trap>
     ensures { result ≡ unsigned_value wraps op x y }
 {
     match op {
@@ -85,20 +86,20 @@ pub fn unsigned_value(wraps: bool, op: Arithmetic, x: u32, y: u32) -> Value
         Arithmetic::Multiply => unsigned_word(wraps, (x as u64) * (y as u64)),
         Arithmetic::Divide => {
             if y == 0 {
-                return Value::Trap(30);
+                return Err(Trap::ZeroDivisor);
             }
-            Value::Word(x / y)
+            Ok(x / y)
         }
         Arithmetic::Modulus => {
             if y == 0 {
-                return Value::Trap(30);
+                return Err(Trap::ZeroDivisor);
             }
-            Value::Word(x % y)
+            Ok(x % y)
         }
     }
 }
 
-pub fn negated_value(x: u32) -> Value
+pub fn negated_value(x: u32) -> Result<u32, Trap>
     ensures { result ≡ negated_value x }
 {
     crate::signed_word(0 - integer::signed(x))

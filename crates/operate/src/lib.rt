@@ -4,38 +4,28 @@
 ghost use Rattle.std.specs.Prelude.{◌≡◌};
 ghost use Rattle.operate.specs.Value.{signed_word, truth_of};
 
+use numbers::Trap;
+
 pub mod arithmetic;
 pub mod compare;
 pub mod operation;
 pub mod sets;
 
-#[derive(Clone, Copy)]
-pub enum Value {
-    Word(u32),
-    Trap(u32),
-}
-
 // The word of a signed number; trap 31 where there is none.
-pub fn signed_word(z: i64) -> Value
+pub fn signed_word(z: i64) -> Result<u32, Trap>
     ensures { result ≡ signed_word z }
 {
     if z < -0x8000_0000 {
-        return Value::Trap(31);
+        return Err(Trap::OutOfRange);
     }
     if 0x7FFF_FFFF < z {
-        return Value::Trap(31);
+        return Err(Trap::OutOfRange);
     }
-    if z < 0 {
-        return Value::Word((z + 0x1_0000_0000) as u32);
-    }
-    Value::Word(z as u32)
+    Ok((z as i32).cast_unsigned())
 }
 
 pub fn truth(t: bool) -> u32
     ensures { result ≡ truth_of t }
 {
-    if t {
-        return 1;
-    }
-    0
+    u32::from(t)
 }

@@ -8,9 +8,10 @@ use opcode::instruction::SetOperation;
 fn difference(x: u32, y: u32) -> u32
     ensures { result ≡ difference x y }
 {
-    x & (0xFFFF_FFFF - y)
+    x & !y
 }
 
+#[tactic(auto, unfolding(crate::specs::Sets::set_word))]
 pub fn set_word(op: SetOperation, x: u32, y: u32) -> u32
     ensures { result ≡ set_word op x y }
 {

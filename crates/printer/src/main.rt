@@ -1,45 +1,26 @@
 // The page printer: a run file on standard input, its page on standard output.
 #![tactic(auto)]
 
-ghost use Rattle.std.specs.Prelude.{◌≡◌, ◌≤◌, length};
+ghost use Rattle.std.specs.Prelude.{◌≡◌, ◌≤◌, length, IfOk};
 ghost use Rattle.report.specs.Report.{output, printed, text_of};
-ghost use Rattle.printer.specs.Input.{Within};
 
+use std::io;
 use std::io::Read;
 
-// Tells what reading gave: so many bytes at the start of the buffer, or that a read failed.
-#[derive(Drop)]
-enum Input {
-    Read(usize),
-    Failed,
-}
-
-// Reads once. A read that a signal interrupts before a byte has come counts as one that failed.
-fn read_some<R: Read>(reader: &mut R, buf: &mut [u8]) -> Input
-    ensures { Within result (length buf.old) }
-{
-    match reader.read(buf) {
-        Ok(n) => Input::Read(n),
-        Err(_) => Input::Failed,
-    }
-}
-
-// Reads until the buffer is full or the input ends.
-fn read_input<R: Read>(reader: &mut R, buf: &mut [u8]) -> Input
-    ensures { Within result (length buf.old) }
+// Reads until the buffer is full or the input ends; tells how many bytes stand at its start then. A read that a signal interrupts
+// before a byte has come counts as one that failed.
+fn read_input<R: Read>(reader: &mut R, buf: &mut [u8]) -> io::Result<usize>
+    ensures { IfOk result (λ n. n ≤ length buf.old) }
 {
     let mut done = 0;
     while done < buf.len() {
-        let some = read_some(reader, &mut buf[done..]);
-        let Input::Read(more) = some else {
-            return Input::Failed;
-        };
+        let more = reader.read(&mut buf[done..])?;
         if more == 0 {
-            return Input::Read(done);
+            break;
         }
         done += more;
     }
-    Input::Read(done)
+    Ok(done)
 }
 
 // Writes the page of a run file, with workspace, memory and stack of the printer's own. A buffer of 32,768 bytes never stays
@@ -57,8 +38,7 @@ fn page_of(file: &[u8], page: &mut [u8]) -> usize
 fn main(rt: HostRuntime) {
     // One byte more than a run file may have: a longer input fills it, and is 16.
     let mut input = [0u8; 8193];
-    let read = read_input(&mut rt.stdin(), &mut input);
-    let Input::Read(length) = read else {
+    let Ok(length) = read_input(&mut rt.stdin(), &mut input) else {
         let _ = eprintln!(rt; "printer: the input could not be read");
         return;
     };

@@ -1,21 +1,25 @@
 -- What the numbers 1 to 3 and 1 to 7 being absent says, the sizes of the record, its source table and its entries; and how large
 -- numbers are. A refusal of 0 passes each of its tests.
-use mathlib.Core.Bool.{Bool, true, false, cond, ◌&&◌, and-eq-true_iff}
+use mathlib.Core.Bool.{true, cond, ◌&&◌, and-eq-true_iff}
 use mathlib.Core.List.{List}
-use mathlib.Core.Path.{◌≡◌, refl}
+use mathlib.Core.Path.{◌≡◌, ◌∙◌, refl, ap}
 use Prim.Native.Nat.{ℕ, ◌≤◌}
 use native.Mathlib.Omega.{arith}
 use lib.Dec.{eqb, leb}
 use lib.ListN.{length, drop, length-take}
-use borrow.Author.Tests.{leb-true, ltb-false, eqb-true, eqb-false, not-false, le-leb, le-ltb, eq-eqb, ne_eqb}
-use Rattle.words.specs.Refusal.{Test, refusal}
-use Rattle.words.proofs.Refusal.{Clear, positive, within, cleared, most, refusal-append}
-use Rattle.words.proofs.Tests.{either}
+use borrow.Author.Tests.{leb-true, ltb-false, eqb-true, not-false, le-leb, le-ltb, eq-eqb}
+use Rattle.std.proofs.lemmas.Result.{err_from_is_err_and}
+use Rattle.std.specs.Prelude.{Result, Ok, Err, IsErrAnd}
+use Rattle.words.specs.Refusal.{refusal}
+use Rattle.words.proofs.Refusal.{cleared, most, refusal-append}
 use Rattle.header.specs.Header.{header_of, sizes_fit, record_length, code_at, code_of}
 use Rattle.header.specs.declared.Header.{Header}
+use Rattle.numbers.specs.Number.{number_of}
+use Rattle.numbers.specs.declared.Refusal.{Refusal}
+use Rattle.numbers.proofs.Refusing.{refuses}
 use Rattle.source.specs.Source.{source_sound}
 use Rattle.entries.specs.Entries.{entries_sound}
-use Rattle.record.specs.Number.{size_tests, size_number, part_tests, record_tests, record_number, after_record}
+use Rattle.record.specs.Number.{size_tests, size_number, part_tests, record_tests, record_number}
 use Rattle.record.specs.Sound.{SourcesSound}
 
 -- Where 1 to 3 are given that is the number, else the other tests decide.
@@ -23,11 +27,22 @@ sizes-first : (r : List ℕ) → record_number r ≡ cond (eqb (size_number r) 0
 unfolding size_number record_number
 sizes-first r = refusal-append (size_tests r) (part_tests r) refl
 
-pub size-refuses : (r : List ℕ) (n : ℕ) → n ≡ size_number r → (n ≡ 0 → ⊥) → n ≡ record_number r
-size-refuses r n e some = rw (sizes-first r, ← e, ne_eqb n 0 some)
+pub size-refuses : (r : List ℕ) (e : Refusal) → number_of e ≡ size_number r → number_of e ≡ record_number r
+size-refuses r e same = rw (sizes-first r, ← same, refuses e)
 
-pub parts-decide : (r : List ℕ) (n : ℕ) → n ≡ size_number r → n ≡ 0 → record_number r ≡ refusal (part_tests r)
-parts-decide r n e none = rw (sizes-first r, ← e, eq-eqb n 0 none)
+pub parts-decide : (r : List ℕ) → 0 ≡ size_number r → record_number r ≡ refusal (part_tests r)
+parts-decide r none = rw (sizes-first r, ← none)
+
+-- What `?` hands on is the refusal that it met.
+pub handed-on : {A : Type 0} (r : Result A Refusal) (e : Refusal) → IsErrAnd r (λ (y : Refusal). y ≡ e) → r ≡ Err e
+handed-on r e h =
+    let p = err_from_is_err_and r h in
+    p.1 ∙ ap Err p.2
+
+-- What a sound record has for an answer (its header, a line of its source), a refused one has its number.
+pub refused : {A : Type 0} (r : List ℕ) (answer : A) (e : Refusal) → number_of e ≡ record_number r
+    → ◌≡◌ {A = Result A ℕ} (Err (number_of e)) (cond (eqb (record_number r) 0) (Ok answer) (Err (record_number r)))
+refused r answer e same = rw (← same, refuses e)
 
 pub record Sized (r : List ℕ) : Type 0 where
   pub header : 28 ≤ length r
@@ -48,10 +63,6 @@ sized r e =
 pub size-cleared : (r : List ℕ) → Sized r → size_number r ≡ 0
 unfolding size_number
 size-cleared r s = rw (le-ltb (length r) 28 s.header, s.sizes, eq-eqb (length r) (record_length (header_of r)) s.whole)
-
-pub size-range : (r : List ℕ) → size_number r ≤ 3
-unfolding size_number
-size-range r = most 3 (size_tests r) refl
 
 pub record Numberless (r : List ℕ) : Type 0 where
   pub sizes : sizes_fit (header_of r) ≡ true
@@ -74,18 +85,6 @@ sources-sound r e = (numberless r e).sources
 pub record-range : (r : List ℕ) → record_number r ≤ 7
 unfolding record_number
 record-range r = most 7 (record_tests r) refl
-
--- The same with the tests that a call makes after those of the record.
-pub after-cleared : (r : List ℕ) (tests : List Test) → positive tests ≡ true → after_record r tests ≡ 0 → (record_number r ≡ 0) × Clear tests
-after-cleared r tests p e = by (eqb (record_number r) 0) refl
-  where
-    by : (t : Bool) → eqb (record_number r) 0 ≡ t → (record_number r ≡ 0) × Clear tests
-    by true q = (eqb-true (record_number r) 0 q, cleared tests p (rw q at e))
-    by false q = absurd (eqb-false (record_number r) 0 q (rw q at e))
-
-pub after-range : (r : List ℕ) (k : ℕ) (tests : List Test) → 7 ≤ k → within k tests ≡ true → after_record r tests ≤ k
-after-range r k tests l w =
-    either (λ (n : ℕ). n ≤ k) (eqb (record_number r) 0) (refusal tests) (record_number r) (most k tests w) (omega (arith, record-range r))
 
 -- Sizes that fit are at most the largest.
 pub record Sizes (h : Header) : Type 0 where

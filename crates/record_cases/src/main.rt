@@ -2,28 +2,23 @@
 // the record's length in two bytes, the record, and an offset in four.
 #![tactic(auto)]
 
-use record::Line;
-use source::Lookup;
+use source::Span;
 use std::io;
 use std::io::Read;
 
-fn print_lookup(rt: &impl Print, lookup: Lookup) -> io::Result<()> {
-    let Lookup::Found(span) = lookup else {
+fn print_lookup(rt: &impl Print, lookup: Option<Span>) -> io::Result<()> {
+    let Some(Span { first, last, line }) = lookup else {
         return print!(rt; "outside");
     };
-    let first = span.first;
-    let last = span.last;
-    let line = span.line;
     print!(rt; "{first} {last} {line}")
 }
 
 fn print_case(rt: &impl Print, r: &[u8], offset: u32) -> io::Result<()> {
-    let number = record::record_number(r);
+    let number = numbers::number(record::read(r));
     print!(rt; "{number} ")?;
-    let answer = record::line_span(r, offset);
-    match answer {
-        Line::Refused(_) => print!(rt; "-")?,
-        Line::At(lookup) => print_lookup(rt, lookup)?,
+    match record::line_span(r, offset) {
+        Ok(lookup) => print_lookup(rt, lookup)?,
+        Err(_) => print!(rt; "-")?,
     }
     println!(rt; "")
 }

@@ -9,7 +9,7 @@ use crate::{Registers, table};
 pub fn word_at(s: &[u32], i: usize) -> u32
     ensures { result ≡ read s.now i }
 {
-    if i < s.len() { s[i] } else { 0 }
+    s.get(i).copied().unwrap_or(0)
 }
 
 // Whether `n` words from `a` on are live.
@@ -17,33 +17,25 @@ pub fn is_live(q: Registers, a: usize, n: usize) -> bool
     ensures { result ≡ live q a n }
 {
     let mp = q.mp as usize;
-    if mp < n {
-        return false;
-    }
-    a <= mp - n
+    n <= mp && a <= mp - n
 }
 
 // Whether a word as a signed number is above 0.
 pub fn is_above_zero(x: u32) -> bool
     ensures { result ≡ above_zero x }
 {
-    if x == 0 {
-        return false;
-    }
-    x < 0x8000_0000
+    0 < x.cast_signed()
 }
 
 // A word as a signed number, negated.
 pub fn negated(x: u32) -> u32
     ensures { result ≡ negated x }
 {
-    if x == 0 {
-        return 0;
-    }
-    0xFFFF_FFFF - (x - 1)
+    x.wrapping_neg()
 }
 
 // How many link words the call of the frame at `fp` has.
+#[tactic(auto, unfolding(crate::specs::Memory::link_words))]
 pub fn link_words(m: &[u32], fp: usize) -> usize
     requires { 1 ≤ fp }
     ensures { result ≡ link_words m.now fp }
@@ -74,15 +66,11 @@ fn is_link(m: &[u32], start: usize, fp: u32, calls: u32, a: usize) -> bool
 }
 
 // Whether a store to `a` is refused.
+#[tactic(auto, unfolding(crate::specs::Memory::protects))]
 pub fn is_protected(table: &[u32], frames: u32, q: Registers, m: &[u32], a: usize) -> bool
     requires table_len_bound { length table.now ≤ 80 }
     requires calls_value { chained m.now frames q.fp q.calls ≡ true }
     ensures { (copy : List ℕ) → result ≡ protects (modules_in table.now copy) q m.now a }
 {
-    if table::is_fixed(table, a) {
-        return true;
-    }
-    let fp = q.fp;
-    let calls = q.calls;
-    is_link(m, frames as usize, fp, calls, a)
+    table::is_fixed(table, a) || is_link(m, frames as usize, q.fp, q.calls, a)
 }

@@ -5,6 +5,8 @@ ghost use Rattle.std.specs.Prelude.{◌≡◌, ◌≤◌, ◌<◌, ◌+◌};
 ghost use Rattle.registers.specs.Memory.{link_words};
 ghost use Rattle.registers.specs.Changes.{moved, sized, raised, called, returned};
 
+use access::{is_above_zero, negated, word_at};
+
 pub mod access;
 pub mod table;
 
@@ -29,59 +31,67 @@ pub struct Attributes {
 }
 
 impl Registers {
-    pub fn moved(mut self, place: u32) -> Registers
+    pub fn moved(self, place: u32) -> Registers
         ensures { result ≡ moved self place }
     {
-        self.pc = place;
-        self
+        Registers { pc: place, ..self }
     }
 
-    pub fn sized(mut self, place: u32, mp: u32) -> Registers
+    pub fn sized(self, place: u32, mp: u32) -> Registers
         ensures { result ≡ sized self place mp }
     {
-        self.mp = mp;
-        self.moved(place)
+        let moved = self.moved(place);
+        Registers { mp, ..moved }
     }
 
-    pub fn raised(mut self, height: u32) -> Registers
+    pub fn raised(self, height: u32) -> Registers
         ensures { result ≡ raised self height }
     {
-        self.height = height;
-        self
+        Registers { height, ..self }
     }
 
     // The registers in a callee, behind so many link words.
-    pub fn called(mut self, links: u32, gp: u32, entry: u32) -> Registers
+    pub fn called(self, links: u32, gp: u32, entry: u32) -> Registers
         requires links_bound { self.mp + links ≤ 16384 }
         requires calls_bound { self.calls < 64 }
         ensures { result ≡ called self links gp entry }
     {
-        self.pc = entry;
-        self.mp = self.mp + links;
-        self.fp = self.mp;
-        self.gp = gp;
-        self.calls = self.calls + 1;
-        self
+        let mp = self.mp + links;
+        Registers {
+            pc: entry,
+            fp: mp,
+            mp,
+            gp,
+            calls: self.calls + 1,
+            ..self
+        }
     }
 
     // The registers back in a caller.
-    pub fn returned(mut self, m: &[u32]) -> Registers
+    pub fn returned(self, m: &[u32]) -> Registers
         requires fp_bound { link_words m.now self.fp ≤ self.fp }
         requires le_calls { 1 ≤ self.calls }
         ensures { result ≡ returned self m.now }
     {
         let fp = self.fp;
-        let back = crate::access::word_at(m, (fp - 1) as usize);
-        self.fp = crate::access::word_at(m, (fp - 2) as usize);
-        self.calls = self.calls - 1;
-        if crate::access::is_above_zero(back) {
-            self.pc = back;
-            self.mp = fp - 2;
-            return self;
+        let back = word_at(m, (fp - 1) as usize);
+        let fewer = Registers {
+            fp: word_at(m, (fp - 2) as usize),
+            calls: self.calls - 1,
+            ..self
+        };
+        if is_above_zero(back) {
+            return Registers {
+                pc: back,
+                mp: fp - 2,
+                ..fewer
+            };
         }
-        self.pc = crate::access::negated(back);
-        self.mp = fp - 3;
-        self.gp = crate::access::word_at(m, (fp - 3) as usize);
-        self
+        Registers {
+            pc: negated(back),
+            mp: fp - 3,
+            gp: word_at(m, (fp - 3) as usize),
+            ..fewer
+        }
     }
 }

@@ -24,13 +24,11 @@ pub fn row_word(table: &[u32], k: usize, i: usize) -> usize
 fn is_between(low: usize, high: usize, a: usize) -> bool
     ensures { result ≡ between low high a }
 {
-    if a < low {
-        return false;
-    }
-    a < high
+    low <= a && a < high
 }
 
 // Whether `a` is a header word or a constant of one of the modules.
+// Kept: this and the loops below count rows, since over `chunks_exact(5)` the invariant speaks of the iterator's own state.
 pub fn is_fixed(table: &[u32], a: usize) -> bool
     requires { length table.now ≤ 80 }
     ensures { (copy : List ℕ) → result ≡ is_fixed 0 (modules_in table.now copy) a }
@@ -81,10 +79,7 @@ pub fn globals_start(table: &[u32], k: u32) -> usize
 pub fn is_no_library(table: &[u32], l: u32) -> bool
     ensures { (copy : List ℕ) → result ≡ no_library (modules_in table.now copy) l }
 {
-    if l == 0 {
-        return true;
-    }
-    count(table) <= (l as usize)
+    l == 0 || count(table) <= l as usize
 }
 
 // The number of the module whose globals begin at `a`; as many as there are where none do.

@@ -13,8 +13,8 @@ use Rattle.entries.specs.Entries.{entry_at, entry_count, region_end}
 use Rattle.header.specs.Header.{header_of, code_of}
 use Rattle.record.specs.Number.{record_number}
 use Rattle.opcode.specs.Decode.{decode_at}
-use Rattle.opcode.proofs.Found.{ends}
-use Rattle.opcode.specs.declared.Decoded.TheVariants.{At}
+use Rattle.opcode.proofs.Found.{same-decoded, ends}
+use Rattle.std.specs.Prelude.{Ok}
 use Rattle.opcode.specs.declared.instruction.Instruction.{Instruction}
 use Rattle.shape.specs.Shape.{shape_of}
 use Rattle.layout.specs.Cut.{Marks, cut, cut_of, starts_in}
@@ -39,7 +39,7 @@ renumbered S r = renumbered_by (resolved S r)
 -- What an instruction of the copy is in the record's code.
 pub record Original (S : Members) (r : List ℕ) (p at : ℕ) (j : Instruction) (next : ℕ) : Type 0 where
   pub i : Instruction
-  pub decoded : decode_at (code_of r) (region_end (code_of r) p) at ≡ At i next
+  pub decoded : decode_at (code_of r) (region_end (code_of r) p) at ≡ Ok (i, next)
   pub same : j ≡ renumbered S r i
   pub shape : shape_of j ≡ shape_by (resolved S r) (shape_of i)
 
@@ -47,7 +47,7 @@ module _ (S : Members) (r : List ℕ) (sound : record_number r ≡ 0) (placed : 
   -- An instruction that cutting the code visits.
   module _ (p at : ℕ) (i : Instruction) (next : ℕ) (h : p < entry_count (code_of r))
       (v : Visits (code_of r) p (length (code_of r)) (entry_at (code_of r) p) at)
-      (d : decode_at (code_of r) (region_end (code_of r) p) at ≡ At i next) where
+      (d : decode_at (code_of r) (region_end (code_of r) p) at ≡ Ok (i, next)) where
     listed : (x : ℕ) → at ≤ x → x < next → has (relocations_of r) x ≡ (is_external i && eqb x (at + 1))
     listed x l u = places-agree r placed x ∙ visited-places (code_of r) (code-sound r sound) p at next x i h v d l u
 
@@ -77,7 +77,7 @@ module _ (S : Members) (r : List ℕ) (sound : record_number r ≡ 0) (placed : 
         (copy-changed S r (at + 1) K.1
         (omega (arith, K.0, (ends code (region_end code p) at d).1, (ordered code (code-sound r sound)).ends p)))
 
-    pub visited-decodes : decode_at (relocated S r) (region_end (relocated S r) p) at ≡ At (renumbered S r i) next
+    pub visited-decodes : decode_at (relocated S r) (region_end (relocated S r) p) at ≡ Ok ((renumbered S r i), next)
     visited-decodes =
         let code = code_of r in
         rw (copy-region S r sound placed p h)
@@ -86,14 +86,14 @@ module _ (S : Members) (r : List ℕ) (sound : record_number r ≡ 0) (placed : 
 
   -- An instruction that starts in the cut of the code.
   module _ (marks : Marks) (c : cut_of (code_of r) ≡ cut marks) (p at : ℕ) (s : starts_in marks p at ≡ true)
-      (i : Instruction) (next : ℕ) (d : decode_at (code_of r) (region_end (code_of r) p) at ≡ At i next) where
+      (i : Instruction) (next : ℕ) (d : decode_at (code_of r) (region_end (code_of r) p) at ≡ Ok (i, next)) where
     counted : p < entry_count (code_of r)
     counted = (code-starts r sound marks c).counted p at s
 
     visited : Visits (code_of r) p (length (code_of r)) (entry_at (code_of r) p) at
     visited = start-visits (code_of r) marks c p at s
 
-    pub copy-decodes : decode_at (relocated S r) (region_end (relocated S r) p) at ≡ At (renumbered S r i) next
+    pub copy-decodes : decode_at (relocated S r) (region_end (relocated S r) p) at ≡ Ok ((renumbered S r i), next)
     copy-decodes = visited-decodes p at i next counted visited d
 
     -- All bytes of an instruction that is not external, and the first byte of every one.
@@ -114,11 +114,12 @@ module _ (S : Members) (r : List ℕ) (sound : record_number r ≡ 0) (placed : 
     library-byte = visited-library p at i next counted visited d
 
   pub original : (marks : Marks) → cut_of (code_of r) ≡ cut marks → (p at : ℕ) → starts_in marks p at ≡ true
-      → (j : Instruction) (next : ℕ) → decode_at (relocated S r) (region_end (relocated S r) p) at ≡ At j next
+      → (j : Instruction) (next : ℕ) → decode_at (relocated S r) (region_end (relocated S r) p) at ≡ Ok (j, next)
       → Original S r p at j next
   original marks c p at s j next d =
       let (i, after, e) = (code-starts r sound marks c).decoded p at s in
       let copied = copy-decodes marks c p at s i after e in
-      let same : j ≡ renumbered S r i = cc (d, copied) in
-      let place : after ≡ next = cc (d, copied) in
+      let both = same-decoded (sym d ∙ copied) in
+      let same : j ≡ renumbered S r i = both.0 in
+      let place : after ≡ next = sym both.1 in
       record { i = i; decoded = rw place at e; same = same; shape = rw same (renumbered-shape (resolved S r) i) }

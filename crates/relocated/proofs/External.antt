@@ -16,7 +16,7 @@ use Rattle.opcode.specs.Length.{length_of, length_in}
 use Rattle.opcode.specs.Decode.{made, instruction_at, decode_at}
 use Rattle.opcode.proofs.Rows.{Every, row-every}
 use Rattle.opcode.proofs.Found.{Found, Origin, single, double, origin, decoded}
-use Rattle.opcode.specs.declared.Decoded.TheVariants.{At}
+use Rattle.std.specs.Prelude.{Ok}
 use Rattle.opcode.specs.declared.instruction.Mode.{Mode}
 use Rattle.opcode.specs.declared.instruction.Mode.TheVariants.{Normal, Double}
 use Rattle.opcode.specs.declared.instruction.Base.TheVariants.{External}
@@ -139,7 +139,7 @@ module _ (code : List ℕ) (limit at : ℕ) (i : Instruction) (next : ℕ) where
     found : Found Normal code limit at i next
     outer : Outer (row_of (byte_at code at))
 
-  external-origin : decode_at code limit at ≡ At i next → is_external i ≡ true → Outside
+  external-origin : decode_at code limit at ≡ Ok (i, next) → is_external i ≡ true → Outside
   unfolding length_in instruction_at
   external-origin e x = by (origin code limit i next at e)
     where
@@ -156,7 +156,7 @@ module _ (code : List ℕ) (limit at : ℕ) (i : Instruction) (next : ℕ) where
           absurd (false≢true (agreed Double code (at + 1) (row_of b) 0xF5 F.served (row-passes test b refl refl refl refl refl)
           (rw F.same x)))
 
-  module _ (e : decode_at code limit at ≡ At i next) (x : is_external i ≡ true) where
+  module _ (e : decode_at code limit at ≡ Ok (i, next)) (x : is_external i ≡ true) where
     pub external-long : next ≡ at + 3
     unfolding length_in
     external-long =
@@ -171,7 +171,7 @@ module _ (code : List ℕ) (limit at : ℕ) (i : Instruction) (next : ℕ) where
 
     module _ (other : List ℕ) (f : ℕ → ℕ) where
       pub decode-external : byte_at other at ≡ byte_at code at → byte_at other (at + 1) ≡ f (byte_at code (at + 1))
-          → byte_at other (at + 2) ≡ byte_at code (at + 2) → decode_at other limit at ≡ At (renumbered_by f i) next
+          → byte_at other (at + 2) ≡ byte_at code (at + 2) → decode_at other limit at ≡ Ok ((renumbered_by f i), next)
       unfolding length_in instruction_at
       decode-external first second third =
           let K = external-origin e x in
@@ -179,13 +179,13 @@ module _ (code : List ℕ) (limit at : ℕ) (i : Instruction) (next : ℕ) where
           (outer-found code other f limit at i next K.outer K.found external-long first second third))
 
 -- The same of every instruction.
-pub decode-renumbered : (c d : List ℕ) (limit at : ℕ) (i : Instruction) (next : ℕ) (f : ℕ → ℕ) → decode_at c limit at ≡ At i next
+pub decode-renumbered : (c d : List ℕ) (limit at : ℕ) (i : Instruction) (next : ℕ) (f : ℕ → ℕ) → decode_at c limit at ≡ Ok (i, next)
     → ((x : ℕ) → at ≤ x → x < next → (is_external i && eqb x (at + 1)) ≡ false → byte_at d x ≡ byte_at c x)
     → (is_external i ≡ true → byte_at d (at + 1) ≡ f (byte_at c (at + 1)))
-    → decode_at d limit at ≡ At (renumbered_by f i) next
+    → decode_at d limit at ≡ Ok ((renumbered_by f i), next)
 decode-renumbered c d limit at i next f e kept changed = by (is_external i) refl
   where
-    by : (b : Bool) → is_external i ≡ b → decode_at d limit at ≡ At (renumbered_by f i) next
+    by : (b : Bool) → is_external i ≡ b → decode_at d limit at ≡ Ok ((renumbered_by f i), next)
     by true x =
         let long : next ≡ at + 3 = external-long c limit at i next e x in
         decode-external c limit at i next e x d f

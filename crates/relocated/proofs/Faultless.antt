@@ -10,8 +10,9 @@ use Rattle.words.proofs.Refusal.{cleared}
 use Rattle.entries.specs.Entries.{region_end}
 use Rattle.entries.specs.Libraries.{Library}
 use Rattle.opcode.specs.Decode.{decode_at}
-use Rattle.opcode.specs.declared.Decoded.{Decoded}
-use Rattle.opcode.specs.declared.Decoded.TheVariants.{Unserved, Past, At}
+use Rattle.opcode.specs.Decode.{Decoded}
+use Rattle.opcode.specs.declared.DecodeError.TheVariants.{Unserved, Past}
+use Rattle.std.specs.Prelude.{Err, Ok}
 use Rattle.opcode.specs.declared.instruction.Instruction.{Instruction}
 use Rattle.shape.specs.Shape.{shape_of}
 use Rattle.layout.specs.Cut.{Marks, starts_in}
@@ -38,7 +39,7 @@ module _ (code : List ℕ) (marks : Marks) (test : FaultTest) where
   -- The test at every start.
   abbrev pub Passing : Type 0
   Passing =
-      (p at : ℕ) (i : Instruction) (next : ℕ) → starts_in marks p at ≡ true → decode_at code (region_end code p) at ≡ At i next
+      (p at : ℕ) (i : Instruction) (next : ℕ) → starts_in marks p at ≡ true → decode_at code (region_end code p) at ≡ Ok (i, next)
       → test p at next (shape_of i) ≡ false
 
   nowhere-passing : anywhere code marks test ≡ false → ((p at : ℕ) → starts_in marks p at ≡ true → at < length code) → Passing
@@ -54,9 +55,9 @@ module _ (code : List ℕ) (marks : Marks) (test : FaultTest) where
     where
       decodes : (p x : ℕ) → starts_in marks p x ≡ true → (d : Decoded) → decode_at code (region_end code p) x ≡ d
           → test_in test p x d ≡ false
-      decodes p x s Unserved e = refl
-      decodes p x s Past e = refl
-      decodes p x s (At i next) e = pass p x i next s e
+      decodes p x s (Err Unserved) e = refl
+      decodes p x s (Err Past) e = refl
+      decodes p x s (Ok (i, next)) e = pass p x i next s e
 
       marked : (x m : ℕ) → marks x ≡ m → test_at code m test x ≡ false
       marked x zero e = refl

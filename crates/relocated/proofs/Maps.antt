@@ -13,7 +13,7 @@ use Rattle.record.specs.Number.{record_number}
 use Rattle.entries.specs.Entries.{entry_at, entry_count, no_callee, region_end}
 use Rattle.entries.specs.Libraries.{Library}
 use Rattle.opcode.specs.Decode.{decode_at}
-use Rattle.opcode.specs.declared.Decoded.TheVariants.{At}
+use Rattle.std.specs.Prelude.{Ok}
 use Rattle.opcode.specs.declared.instruction.Instruction.{Instruction}
 use Rattle.shape.specs.Shape.{shape_of}
 use Rattle.shape.specs.declared.Shape.{Shape}
@@ -79,7 +79,7 @@ module _ (S : Members) (r : List ℕ) (sound : record_number r ≡ 0) (placed : 
 
   -- One start and its instruction.
   module _ (p at : ℕ) (i : Instruction) (next : ℕ) (s : starts_in marks p at ≡ true)
-      (d : decode_at (code_of r) (region_end (code_of r) p) at ≡ At i next) where
+      (d : decode_at (code_of r) (region_end (code_of r) p) at ≡ Ok (i, next)) where
     origin-alike : label_word (relocated S r) at ≡ label_word (code_of r) at → Like at
     origin-alike e =
         record {

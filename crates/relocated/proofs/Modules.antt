@@ -18,7 +18,7 @@ use Rattle.entries.specs.Entries.{region_end}
 use Rattle.header.specs.Header.{header_of, code_at, code_of}
 use Rattle.record.specs.Number.{record_number}
 use Rattle.opcode.specs.Decode.{decode_at}
-use Rattle.opcode.specs.declared.Decoded.TheVariants.{At}
+use Rattle.std.specs.Prelude.{Ok}
 use Rattle.opcode.specs.declared.instruction.Instruction.{Instruction}
 use Rattle.layout.specs.Cut.{Marks, cut, cut_of, starts_in}
 use Rattle.module_set.specs.Members.{Member, Members, member_at, libraries, imports_of, number_from, number_of, resolved}
@@ -117,7 +117,7 @@ module _ (S : Members) (r : List ℕ) (together : linked S ≡ true)
   -- An external instruction that starts in the copy has the number of a library.
   pub copy-number : record_number r ≡ 0 → relocation_sound r ≡ true
       → (marks : Marks) → cut_of (code_of r) ≡ cut marks → (p at : ℕ) → starts_in marks p at ≡ true → (j : Instruction) (next : ℕ)
-      → decode_at (relocated S r) (region_end (relocated S r) p) at ≡ At j next → is_external j ≡ true
+      → decode_at (relocated S r) (region_end (relocated S r) p) at ≡ Ok (j, next) → is_external j ≡ true
       → (1 ≤ library_of j) × (library_of j < length S)
   copy-number sound placed marks c p at s j next d x =
       let O = original S r sound placed marks c p at s j next d in

@@ -10,7 +10,7 @@ use Rattle.record.specs.Number.{record_number}
 use Rattle.entries.specs.Entries.{entry_at, region_end}
 use Rattle.entries.specs.Libraries.{Library, library_in}
 use Rattle.opcode.specs.Decode.{decode_at}
-use Rattle.opcode.specs.declared.Decoded.TheVariants.{At}
+use Rattle.std.specs.Prelude.{Ok}
 use Rattle.opcode.specs.declared.instruction.Instruction.{Instruction}
 use Rattle.shape.specs.Shape.{shape_of}
 use Rattle.shape.specs.Linkage.{linkage_of}
@@ -40,7 +40,7 @@ module _ (S : Members) (r : List ℕ) (sound : record_number r ≡ 0) (placed : 
     (marks : Marks) (c : cut_of (code_of r) ≡ cut marks) where
   -- One start, its instruction and its shape.
   module _ (p at : ℕ) (i : Instruction) (next : ℕ) (s : starts_in marks p at ≡ true)
-      (d : decode_at (code_of r) (region_end (code_of r) p) at ≡ At i next) where
+      (d : decode_at (code_of r) (region_end (code_of r) p) at ≡ Ok (i, next)) where
     targets-copied : (k : Shape) → shape_of i ≡ k
         → targets (relocated S r) at next (shape_by (resolved S r) k) ≡ targets (code_of r) at next k
     targets-copied (Straight pops pushes) e = refl

@@ -10,8 +10,9 @@ use lib.Dec.{eqb, ltb}
 use Rattle.entries.specs.Entries.{region_end}
 use Rattle.opcode.specs.Decode.{decode_at}
 use Rattle.opcode.proofs.Found.{ends}
-use Rattle.opcode.specs.declared.Decoded.{Decoded}
-use Rattle.opcode.specs.declared.Decoded.TheVariants.{Unserved, Past, At}
+use Rattle.opcode.specs.Decode.{Decoded}
+use Rattle.opcode.specs.declared.DecodeError.TheVariants.{Unserved, Past}
+use Rattle.std.specs.Prelude.{Err, Ok}
 use Rattle.opcode.specs.declared.instruction.Instruction.{Instruction}
 use Rattle.module_set.specs.Linked.{has}
 use Rattle.relocation.specs.Places.{is_external, library_byte, places_at, places_from}
@@ -20,7 +21,7 @@ use Rattle.relocated.proofs.External.{external-long}
 -- Cutting procedure p's region from an offset on, in at most n instructions, comes to an offset.
 pub data Visits (code : List ℕ) (p : ℕ) : (n from at : ℕ) → Type 0 where
   visits-first : {n from : ℕ} → from < region_end code p → Visits code p (suc n) from from
-  visits-later : {n from next at : ℕ} {i : Instruction} → decode_at code (region_end code p) from ≡ At i next
+  visits-later : {n from next at : ℕ} {i : Instruction} → decode_at code (region_end code p) from ≡ Ok (i, next)
       → Visits code p n next at → Visits code p (suc n) from at
 
 -- A place, by the external instruction that it belongs to.
@@ -29,7 +30,7 @@ pub record Place (code : List ℕ) (p n from x : ℕ) : Type 0 where
   pub i : Instruction
   pub next : ℕ
   pub visited : Visits code p n from at
-  pub decoded : decode_at code (region_end code p) at ≡ At i next
+  pub decoded : decode_at code (region_end code p) at ≡ Ok (i, next)
   pub external : is_external i ≡ true
   pub behind : x ≡ at + 1
   pub inside : x < next
@@ -58,9 +59,9 @@ module _ (code : List ℕ) (p : ℕ) where
       → ((next : ℕ) → has (places_from code p n next) x ≡ true → Place code p n next x)
       → has (cond b (places_at (places_from code p n) at d) []) x ≡ true → Place code p (suc n) at x
   place-step n at x false d b' d' rest e = absurd (false≢true e)
-  place-step n at x true Unserved b' d' rest e = absurd (false≢true e)
-  place-step n at x true Past b' d' rest e = absurd (false≢true e)
-  place-step n at x true (At i next) b' d' rest e =
+  place-step n at x true (Err Unserved) b' d' rest e = absurd (false≢true e)
+  place-step n at x true (Err Past) b' d' rest e = absurd (false≢true e)
+  place-step n at x true (Ok (i, next)) b' d' rest e =
       by (is_external i) refl (eqb (at + 1) x) refl (sym (byte-has at i (places_from code p n next) x) ∙ e)
     where
       later : has (places_from code p n next) x ≡ true → Place code p (suc n) at x
@@ -112,7 +113,7 @@ module _ (code : List ℕ) (p : ℕ) where
   not_behind n from x l = refuted (has (places_from code p n from) x) (λ e. omega (arith, (place-bounds n from x e).0))
 
   -- One instruction and the rest of its region.
-  module _ (n from next x : ℕ) (i : Instruction) (e : decode_at code (region_end code p) from ≡ At i next) where
+  module _ (n from next x : ℕ) (i : Instruction) (e : decode_at code (region_end code p) from ≡ Ok (i, next)) where
     places-turn :
         has (places_from code p (suc n) from) x ≡ ((is_external i && eqb (from + 1) x) || has (places_from code p n next) x)
     places-turn =
@@ -139,7 +140,7 @@ module _ (code : List ℕ) (p : ℕ) where
 
   -- Within an instruction that is visited the one place is the library byte of an external one.
   pub places-within : {n from at : ℕ} → Visits code p n from at → (i : Instruction) (next x : ℕ)
-      → decode_at code (region_end code p) at ≡ At i next → at ≤ x → x < next
+      → decode_at code (region_end code p) at ≡ Ok (i, next) → at ≤ x → x < next
       → has (places_from code p n from) x ≡ (is_external i && eqb x (at + 1))
   places-within (visits-first {n} {from} h) i next x e l u = places-here n from next x i e u
   places-within (visits-later {n} {from} {next = after} {i = first} f v) i next x e l u =

@@ -12,7 +12,7 @@ use Rattle.operand.specs.Operand.{Operands, none, digit, unsigned, signed, bytes
 use Rattle.opcode.specs.Table.{Row, row, unserved, row_of, allows}
 use Rattle.opcode.specs.Length.{length_of, length_in}
 use Rattle.opcode.specs.Decode.{made, instruction_at, decode_at}
-use Rattle.opcode.specs.declared.Decoded.TheVariants.{At}
+use Rattle.std.specs.Prelude.{Ok}
 use Rattle.opcode.specs.declared.instruction.Mode.{Mode}
 use Rattle.opcode.specs.declared.instruction.Instruction.{Instruction}
 use Rattle.opcode.proofs.Found.{Found, Origin, single, double, origin, decoded}
@@ -113,11 +113,11 @@ module _ (c d : List ℕ) (at : ℕ) where
         within = F.within;
       }
 
-pub decode-same : (c d : List ℕ) (limit at : ℕ) (i : Instruction) (next : ℕ) → decode_at c limit at ≡ At i next
-    → Agree c d at next → decode_at d limit at ≡ At i next
+pub decode-same : (c d : List ℕ) (limit at : ℕ) (i : Instruction) (next : ℕ) → decode_at c limit at ≡ Ok (i, next)
+    → Agree c d at next → decode_at d limit at ≡ Ok (i, next)
 decode-same c d limit at i next e A = by (origin c limit i next at e)
   where
-    by : Origin c limit at i next → decode_at d limit at ≡ At i next
+    by : Origin c limit at i next → decode_at d limit at ≡ Ok (i, next)
     by (single f F) =
         let first : byte_at d at ≡ byte_at c at = A at (omega arith) (omega (arith, F.served, F.ends)) in
         decoded d limit i next at (single (λ z. f (sym first ∙ z)) (found-same c d at F A))

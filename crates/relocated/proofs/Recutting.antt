@@ -11,8 +11,9 @@ use Rattle.entries.specs.Entries.{entry_at, entry_count, region_end}
 use Rattle.header.specs.Header.{code_of}
 use Rattle.record.specs.Number.{record_number}
 use Rattle.opcode.specs.Decode.{decode_at}
-use Rattle.opcode.specs.declared.Decoded.{Decoded}
-use Rattle.opcode.specs.declared.Decoded.TheVariants.{Unserved, Past, At}
+use Rattle.opcode.specs.Decode.{Decoded}
+use Rattle.opcode.specs.declared.DecodeError.TheVariants.{Unserved, Past}
+use Rattle.std.specs.Prelude.{Err, Ok}
 use Rattle.opcode.specs.declared.instruction.Instruction.{Instruction}
 use Rattle.layout.specs.Cut.{Marks, updated, cut, cut_at, cut_from, cut_procedures, cut_of}
 use Rattle.entries.proofs.Ordered.{ordered}
@@ -29,8 +30,8 @@ use Rattle.relocated.proofs.Decoding.{renumbered, visited-decodes}
 module _ (c d : List ℕ) (p : ℕ) (region : region_end d p ≡ region_end c p) where
   abbrev EndsAlike : (n from : ℕ) → Type 0
   EndsAlike n from =
-      (at : ℕ) (i : Instruction) (next : ℕ) → Visits c p n from at → decode_at c (region_end c p) at ≡ At i next
-      → (j : Instruction) × (decode_at d (region_end d p) at ≡ At j next)
+      (at : ℕ) (i : Instruction) (next : ℕ) → Visits c p n from at → decode_at c (region_end c p) at ≡ Ok (i, next)
+      → (j : Instruction) × (decode_at d (region_end d p) at ≡ Ok (j, next))
 
   cut_step : (n from : ℕ) (marks marks' : Marks) (b : Bool) (e : Decoded) → ltb from (region_end c p) ≡ b
       → decode_at c (region_end c p) from ≡ e → EndsAlike (suc n) from
@@ -38,9 +39,9 @@ module _ (c d : List ℕ) (p : ℕ) (region : region_end d p ≡ region_end c p)
       → cond b (cut_at (cut_from c p n) p from marks e) (cut marks) ≡ cut marks'
       → cond b (cut_at (cut_from d p n) p from marks (decode_at d (region_end d p) from)) (cut marks) ≡ cut marks'
   cut_step n from marks marks' false e b' e' E rest q = q
-  cut_step n from marks marks' true Unserved b' e' E rest q = absurd (not-bad q)
-  cut_step n from marks marks' true Past b' e' E rest q = absurd (not-bad q)
-  cut_step n from marks marks' true (At i next) b' e' E rest q =
+  cut_step n from marks marks' true (Err Unserved) b' e' E rest q = absurd (not-bad q)
+  cut_step n from marks marks' true (Err Past) b' e' E rest q = absurd (not-bad q)
+  cut_step n from marks marks' true (Ok (i, next)) b' e' E rest q =
       rw (E from i next (visits-first (ltb-true from (region_end c p) b')) e').1
       (rest next (updated marks from (p + 1)) (λ at k after v. E at k after (visits-later e' v)) q)
 

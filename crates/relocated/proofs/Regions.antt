@@ -11,7 +11,7 @@ use lib.ListN.{length}
 use Rattle.entries.specs.Entries.{entry_at, entry_count, count_sound, entries_sound, region_end}
 use Rattle.opcode.specs.Decode.{decode_at}
 use Rattle.opcode.proofs.Found.{ends}
-use Rattle.opcode.specs.declared.Decoded.TheVariants.{At}
+use Rattle.std.specs.Prelude.{Ok}
 use Rattle.opcode.specs.declared.instruction.Instruction.{Instruction}
 use Rattle.entries.proofs.Ordered.{first_of, Rises, rises-first, rises-rest, region-next, ordered}
 use Rattle.module_set.specs.Linked.{has}
@@ -77,7 +77,7 @@ module _ (code : List ℕ) where
 
   -- Within an instruction of procedure q.
   module _ (q at next x : ℕ) (i : Instruction) (v : Visits code q (length code) (entry_at code q) at)
-      (d : decode_at code (region_end code q) at ≡ At i next) (l : at ≤ x) (u : x < next) where
+      (d : decode_at code (region_end code q) at ≡ Ok (i, next)) (l : at ≤ x) (u : x < next) where
     own : has (places_in q) x ≡ (is_external i && eqb x (at + 1))
     own = places-within code q v i next x d l u
 
@@ -129,7 +129,7 @@ module _ (code : List ℕ) (e : entries_sound code ≡ true) where
 
   -- Within an instruction that is visited the one place is the library byte of an external one.
   pub visited-places : (p at next x : ℕ) (i : Instruction) → p < entry_count code
-      → Visits code p (length code) (entry_at code p) at → decode_at code (region_end code p) at ≡ At i next → at ≤ x → x < next
+      → Visits code p (length code) (entry_at code p) at → decode_at code (region_end code p) at ≡ Ok (i, next) → at ≤ x → x < next
       → has (library_places code) x ≡ (is_external i && eqb x (at + 1))
   unfolding library_places
   visited-places p at next x i h v d l u =

@@ -9,8 +9,9 @@ use lib.Dec.{eqb, ltb}
 use lib.ListN.{length}
 use Rattle.entries.specs.Entries.{entry_at, entry_count, entries_sound, region_end}
 use Rattle.opcode.specs.Decode.{decode_at}
-use Rattle.opcode.specs.declared.Decoded.{Decoded}
-use Rattle.opcode.specs.declared.Decoded.TheVariants.{Unserved, Past, At}
+use Rattle.opcode.specs.Decode.{Decoded}
+use Rattle.opcode.specs.declared.DecodeError.TheVariants.{Unserved, Past}
+use Rattle.std.specs.Prelude.{Err, Ok}
 use Rattle.opcode.specs.declared.instruction.Instruction.{Instruction}
 use Rattle.layout.specs.Cut.{Marks, updated, Cut, bad, cut, cut_at, cut_from, then_cut, cut_procedures, cut_of, starts_in}
 use Rattle.layout.proofs.Updates.{Change, changed, spared, change}
@@ -40,9 +41,9 @@ module _ (code : List ℕ) where
       cond b (cut_at (cut_from code p n) p from marks d) (cut marks) ≡ cut marks' → starts_in marks' q at ≡ true →
       Marked p (suc n) from marks q at
   marked_step p n from marks marks' q at false d b' d' rest e s = old (rw (same-marks e) s)
-  marked_step p n from marks marks' q at true Unserved b' d' rest e s = absurd (not-bad e)
-  marked_step p n from marks marks' q at true Past b' d' rest e s = absurd (not-bad e)
-  marked_step p n from marks marks' q at true (At i next) b' d' rest e s =
+  marked_step p n from marks marks' q at true (Err Unserved) b' d' rest e s = absurd (not-bad e)
+  marked_step p n from marks marks' q at true (Err Past) b' d' rest e s = absurd (not-bad e)
+  marked_step p n from marks marks' q at true (Ok (i, next)) b' d' rest e s =
       by (rest next (updated marks from (p + 1)) e) (change marks from (p + 1) at)
     where
       by : Marked p n next (updated marks from (p + 1)) q at → Change marks from (p + 1) at → Marked p (suc n) from marks q at
@@ -86,7 +87,7 @@ module _ (code : List ℕ) where
 
     -- Within an instruction that starts there the one place is the library byte of an external one.
     pub start-places : entries_sound code ≡ true → (p at : ℕ) (i : Instruction) (next x : ℕ) → starts_in marks p at ≡ true
-        → decode_at code (region_end code p) at ≡ At i next → at ≤ x → x < next
+        → decode_at code (region_end code p) at ≡ Ok (i, next) → at ≤ x → x < next
         → has (library_places code) x ≡ (is_external i && eqb x (at + 1))
     start-places e p at i next x s d l u =
         visited-places code e p at next x i ((cutting-starts code marks e c).counted p at s) (start-visits p at s) d l u

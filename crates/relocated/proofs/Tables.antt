@@ -17,7 +17,7 @@ use Rattle.opcode.specs.Table.{row_of}
 use Rattle.opcode.specs.Length.{length_in}
 use Rattle.opcode.specs.Decode.{instruction_at, decode_at}
 use Rattle.opcode.proofs.Found.{origin, unprefixed}
-use Rattle.opcode.specs.declared.Decoded.TheVariants.{At}
+use Rattle.std.specs.Prelude.{Ok}
 use Rattle.opcode.specs.declared.instruction.Instruction.{Instruction}
 use Rattle.shape.specs.Shape.{shape_of}
 use Rattle.shape.specs.declared.Shape.TheVariants.{Iter, Switch}
@@ -39,7 +39,7 @@ abbrev switch_bytes : Table → ℕ → ℕ
 switch_bytes Branches n = 9 + 2 * n
 switch_bytes Ranges n = 7 + 10 * n
 
-switch-long : (c : List ℕ) (limit at next : ℕ) (i : Instruction) → decode_at c limit at ≡ At i next → (t : Table) (n : ℕ)
+switch-long : (c : List ℕ) (limit at next : ℕ) (i : Instruction) → decode_at c limit at ≡ Ok (i, next) → (t : Table) (n : ℕ)
     → shape_of i ≡ Switch t n → next ≡ at + switch_bytes t n
 unfolding length_in instruction_at row_of shape_of
 switch-long c limit at next i e t n s =
@@ -100,7 +100,7 @@ module _ (c d : List ℕ) (at : ℕ) where
 -- At a start of the cut.
 module _ (S : Members) (r : List ℕ) (sound : record_number r ≡ 0) (placed : relocation_sound r ≡ true)
     (marks : Marks) (c : cut_of (code_of r) ≡ cut marks) (p at : ℕ) (s : starts_in marks p at ≡ true) (i : Instruction) (next : ℕ)
-    (d : decode_at (code_of r) (region_end (code_of r) p) at ≡ At i next) where
+    (d : decode_at (code_of r) (region_end (code_of r) p) at ≡ Ok (i, next)) where
   pub copy-iter : is_iter (relocated S r) at ≡ is_iter (code_of r) at
   copy-iter = rw (first_byte S r sound placed marks c p at s i next d)
 

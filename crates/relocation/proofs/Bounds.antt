@@ -17,8 +17,9 @@ use Rattle.opcode.specs.Length.{length_of, length_in}
 use Rattle.opcode.specs.Decode.{made, instruction_at, decode_at}
 use Rattle.opcode.proofs.Rows.{row-passes}
 use Rattle.opcode.proofs.Found.{Found, Origin, single, double, origin, ends}
-use Rattle.opcode.specs.declared.Decoded.{Decoded}
-use Rattle.opcode.specs.declared.Decoded.TheVariants.{Unserved, Past, At}
+use Rattle.opcode.specs.Decode.{Decoded}
+use Rattle.opcode.specs.declared.DecodeError.TheVariants.{Unserved, Past}
+use Rattle.std.specs.Prelude.{Err, Ok}
 use Rattle.opcode.specs.declared.instruction.Mode.{Mode}
 use Rattle.opcode.specs.declared.instruction.Mode.TheVariants.{Normal, Double}
 use Rattle.opcode.specs.declared.instruction.Instruction.{Instruction}
@@ -60,7 +61,7 @@ three-long o code at t =
 
 -- No DOUBLE stands before an external instruction.
 pub external-found :
-    (code : List ℕ) (limit at : ℕ) {i : Instruction} {next : ℕ} → decode_at code limit at ≡ At i next → is_external i ≡ true →
+    (code : List ℕ) (limit at : ℕ) {i : Instruction} {next : ℕ} → decode_at code limit at ≡ Ok (i, next) → is_external i ≡ true →
     Found Normal code limit at i next
 unfolding length_in instruction_at
 external-found code limit at {i} {next} e x = by (origin code limit i next at e)
@@ -74,7 +75,7 @@ external-found code limit at {i} {next} e x = by (origin code limit i next at e)
         absurd (false≢true s.1)
 
 pub external-length :
-    (code : List ℕ) (limit at : ℕ) {i : Instruction} {next : ℕ} → decode_at code limit at ≡ At i next → is_external i ≡ true →
+    (code : List ℕ) (limit at : ℕ) {i : Instruction} {next : ℕ} → decode_at code limit at ≡ Ok (i, next) → is_external i ≡ true →
     next ≡ at + 3
 unfolding length_in instruction_at
 external-length code limit at e x =
@@ -86,7 +87,7 @@ external-length code limit at e x =
     omega (arith, r.ends, long)
 
 module _ (code : List ℕ) (o : Ordered code) where
-  byte-below : (limit at : ℕ) (i : Instruction) (next : ℕ) → decode_at code limit at ≡ At i next → limit ≤ length code →
+  byte-below : (limit at : ℕ) (i : Instruction) (next : ℕ) → decode_at code limit at ≡ Ok (i, next) → limit ≤ length code →
       Below (length code) (library_byte at i)
   byte-below limit at i next e l = by (is_external i) refl
     where
@@ -102,9 +103,9 @@ module _ (code : List ℕ) (o : Ordered code) where
       by : (b : Bool) (d : Decoded) → decode_at code (region_end code p) at ≡ d →
           ((next : ℕ) → Below (length code) (places_from code p n next))
           → Below (length code) (cond b (places_at (places_from code p n) at d) [])
-      by true Unserved e rest = tt
-      by true Past e rest = tt
-      by true (At i next) e rest =
+      by true (Err Unserved) e rest = tt
+      by true (Err Past) e rest = tt
+      by true (Ok (i, next)) e rest =
           below-append (length code) (library_byte at i) (places_from code p n next)
           (byte-below (region_end code p) at i next e (o.ends p)) (rest next)
       by false d e rest = tt

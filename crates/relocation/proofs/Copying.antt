@@ -1,22 +1,22 @@
 -- The copy, a module at a time: what is left to write, to count or to compare decides the whole. And what it is that a list
 -- begins with another.
-use mathlib.Core.Bool.{Bool, true, false, ◌&&◌, and_assoc, and-eq-true_iff}
+use mathlib.Core.Bool.{Bool, true, false, ◌&&◌, and_assoc, and-false, and-eq-true_iff}
 use mathlib.Core.List.{List, [], ◌∷◌, ◌++◌}
 use mathlib.Core.Path.{◌≡◌, ◌∙◌, refl, sym, ap}
 use Prim.Native.Nat.{ℕ, zero, suc, ◌+◌, ◌-◌, ◌*◌, ◌<◌, ◌≤◌}
-use native.Mathlib.Nat.{sub-eq-zero_of_le}
 use native.Mathlib.Numerals.{add-one}
 use native.Mathlib.Omega.{arith}
-use lib.Dec.{eqb}
+use lib.Dec.{eqb, ltb}
 use lib.ListN.{length, take, drop, length-append, drop_of_length-le}
-use lib.Seq.{sets, drop-cons, drop-drop, sets-eq, length-sets, take_at, drop-append-add}
-use borrow.Author.Tests.{eq-eqb, ne_eqb, eqb-true}
+use lib.Seq.{sets, drop-cons, drop-drop, sets-eq, length-sets}
+use borrow.Author.Tests.{eq-eqb, eqb-true, ltb-true, ltb-false}
 use Rattle.words.specs.Bytes.{byte_at}
+use Rattle.words.specs.Order.{every}
 use Rattle.words.specs.Series.{series}
-use Rattle.words.proofs.Left.{one_left}
 use Rattle.words.proofs.Sets.{sets_behind, sets-within}
 use Rattle.words.proofs.Slices.{drop-one}
 use Rattle.header.specs.Header.{code_of}
+use Rattle.module_set.proofs.Counting.{row}
 use Rattle.module_set.specs.Members.{Members, no_member, member_at}
 use Rattle.relocation.specs.Relocation.{relocated, copies_from, copy_of, begins}
 use Rattle.words.specs.Lent.{over}
@@ -30,27 +30,6 @@ module _ (S : Members) (k : ℕ) where
   pub copies-turn : k < length S → copies_from S (drop k S) ≡ relocated S (member_at S k).bytes ++ copies_from S (drop (k + 1) S)
   copies-turn h = rw (drop-cons S k no_member h, add-one k)
 
--- Where the code of member k begins in the copy, and that it is the member's code as rewritten.
-abbrev pub code_start : Members → ℕ → ℕ
-code_start [] k = 0
-code_start (M ∷ S) zero = 0
-code_start (M ∷ S) (suc k) = length (code_of M.bytes) + code_start S k
-
-copies-part : (S rest : Members) (k : ℕ) → k < length rest →
-    take (length (code_of (member_at rest k).bytes)) (drop (code_start rest k) (copies_from S rest))
-    ≡ relocated S (member_at rest k).bytes
-copies-part S [] k h = absurd (omega arith)
-copies-part S (M ∷ rest) zero h =
-    take_at (relocated S M.bytes) (copies_from S rest) (length (code_of M.bytes)) (relocated-length S M.bytes)
-copies-part S (M ∷ rest) (suc k) h =
-    rw (← relocated-length S M.bytes, drop-append-add (relocated S M.bytes) (copies_from S rest) (code_start rest k))
-    (copies-part S rest k (omega arith))
-
-pub copy-part : (S : Members) (k : ℕ) → k < length S →
-    take (length (code_of (member_at S k).bytes)) (drop (code_start S k) (copy_of S)) ≡ relocated S (member_at S k).bytes
-unfolding copy_of
-copy-part S k h = copies-part S S k h
-
 -- Counted so far: `size` bytes.
 pub record Counted (S : Members) (size k : ℕ) : Type 0 where
   pub rest : size + length (copies_from S (drop k S)) ≡ length (copy_of S)
@@ -61,9 +40,6 @@ unfolding copy_of
 counted_start S = record { rest = omega arith; small = omega arith }
 
 module _ {S : Members} {size k : ℕ} (c : Counted S size k) where
-  pub counted-over : length S ≤ k → size ≡ length (copy_of S)
-  counted-over h = omega (arith, c.rest, ap length (copies-over S k h))
-
   pub counted_next :
       k < length S → (r : List ℕ) → r ≡ (member_at S k).bytes → (n : ℕ) → n ≡ length (code_of r) → n ≤ 4096 →
       Counted S (size + n) (k + 1)
@@ -143,21 +119,24 @@ takes-begins (x ∷ xs) (z ∷ zs) e =
     rw (eq-eqb x z (sym same), takes-begins xs zs rest)
 
 -- Compared byte by byte, from `at` on.
-module _ (f : ℕ → ℕ) (part : List ℕ) (n at : ℕ) where
-  pub agree-over : n ≤ at → begins (series f 1 at (n - at)) (drop at part) ≡ true
-  agree-over h = rw (sub-eq-zero_of_le h)
+pub compared : (f : ℕ → ℕ) (part : List ℕ) (n at : ℕ) → at + n ≤ length part →
+    begins (series f 1 at n) (drop at part) ≡ every (λ i. eqb (f i) (byte_at part i)) (row at n)
+compared f part zero at h = refl
+compared f part (suc n) at h =
+    rw (drop-one part at (omega arith))
+    (ap (λ (b : Bool). eqb (f at) (byte_at part at) && b) (compared f part n (at + 1) (omega arith)))
 
-  module _ (h : at < n) where
-    pub agree-short : length part ≤ at → begins (series f 1 at (n - at)) (drop at part) ≡ false
-    agree-short l = rw (one_left at n h, drop_of_length-le part {i = at} l)
-
-    module _ (l : at < length part) (b : ℕ) (e : b ≡ f at) where
-      pub agree-fails : (b ≡ byte_at part at → ⊥) → begins (series f 1 at (n - at)) (drop at part) ≡ false
-      agree-fails q = rw (one_left at n h, drop-one part at l, ← e, ne_eqb b (byte_at part at) q)
-
-      pub agree-next : b ≡ byte_at part at →
-          begins (series f 1 at (n - at)) (drop at part) ≡ begins (series f 1 (at + 1) (n - (at + 1))) (drop (at + 1) part)
-      agree-next q = rw (one_left at n h, drop-one part at l, ← e, eq-eqb b (byte_at part at) q)
+pub too-short : (f : ℕ → ℕ) (part : List ℕ) (n at : ℕ) → at ≤ length part → length part < at + n →
+    begins (series f 1 at n) (drop at part) ≡ false
+too-short f part zero at h l = absurd (omega arith)
+too-short f part (suc n) at h l = by (ltb at (length part)) refl (λ q. too-short f part n (at + 1) (omega arith) (omega arith))
+  where
+    by : (b : Bool) → ltb at (length part) ≡ b → (at < length part → begins (series f 1 (at + 1) n) (drop (at + 1) part) ≡ false)
+        → begins (series f 1 at (suc n)) (drop at part) ≡ false
+    by true q rest =
+        let some : at < length part = ltb-true at (length part) q in
+        rw (drop-one part at some, rest some, and-false)
+    by false q rest = rw (drop_of_length-le part {i = at} (ltb-false at (length part) q))
 
 -- Compared module by module, from `at` in `copy` on.
 pub same_start : (S : Members) (copy : List ℕ) → begins (copy_of S) copy ≡ begins (copies_from S (drop 0 S)) (drop 0 copy)
@@ -165,9 +144,6 @@ unfolding copy_of
 same_start S copy = refl
 
 module _ (S : Members) (copy : List ℕ) (at k : ℕ) where
-  pub same_over : length S ≤ k → begins (copies_from S (drop k S)) (drop at copy) ≡ true
-  same_over h = rw (copies-over S k h)
-
   module _ (h : k < length S) (r : List ℕ) (e : r ≡ (member_at S k).bytes) (b : Bool)
       (q : b ≡ begins (relocated S r) (drop at copy)) where
     same_turn : begins (copies_from S (drop k S)) (drop at copy)

@@ -1,13 +1,14 @@
 -- Code in which no byte is the code of an external instruction has no library byte: an instruction is external only if the
 -- row of its code byte is. Its relocation table is sound just if it is empty.
 use mathlib.Core.Bool.{Bool, true, false, cond, not, ◌&&◌, ◌||◌, false≢true}
-use mathlib.Core.List.{List, []}
+use mathlib.Core.List.{List, [], ◌∷◌}
+use mathlib.Core.Logic.{◌⊎◌, inl, inr}
 use mathlib.Core.Path.{◌≡◌, ◌∙◌, refl, sym, ap}
-use Prim.Native.Nat.{ℕ, zero, suc, ◌+◌, ◌-◌}
+use Prim.Native.Nat.{ℕ, zero, suc, ◌+◌, ◌-◌, ◌<◌}
 use native.Mathlib.Omega.{arith}
 use lib.Dec.{eqb, ltb}
 use lib.ListN.{length}
-use borrow.Author.Tests.{ltb-true, ltb-false, ne_eqb, not-true, not-false}
+use borrow.Author.Tests.{ltb-true, ltb-false, ne_eqb}
 use Rattle.words.specs.Bytes.{byte_at, word_at}
 use Rattle.words.specs.Order.{every}
 use Rattle.words.specs.Series.{series}
@@ -17,42 +18,59 @@ use Rattle.entries.specs.Entries.{entry_at, entry_count, region_end}
 use Rattle.opcode.specs.Table.{row_of}
 use Rattle.opcode.specs.Decode.{made, instruction_at, decode_at}
 use Rattle.opcode.proofs.Rows.{row-passes}
-use Rattle.opcode.specs.declared.Decoded.{Decoded}
-use Rattle.opcode.specs.declared.Decoded.TheVariants.{Unserved, Past, At}
+use Rattle.opcode.specs.Decode.{Decoded}
+use Rattle.opcode.specs.declared.DecodeError.TheVariants.{Unserved, Past}
+use Rattle.std.specs.Prelude.{Err, Ok}
+use Rattle.std.specs.List.{list_any}
 use Rattle.opcode.specs.declared.instruction.Mode.TheVariants.{Normal}
 use Rattle.opcode.specs.declared.instruction.Instruction.{Instruction}
 use Rattle.module_set.specs.Linked.{has}
-use Rattle.module_set.proofs.Among.{every-among}
 use Rattle.relocation.specs.Places.{is_external, places_at, places_from, places_over, library_places}
 use Rattle.relocation.specs.Relocation.{relocation_sound}
-use Rattle.relocation.specs.Marks.{offsets, external_row, external_code, has_external_byte}
+use Rattle.relocation.specs.Marks.{external_row, external_code, has_external_byte}
 use Rattle.relocation.proofs.Bounds.{external-found}
-use Rattle.relocation.proofs.Sound.{offset-has, implied}
+use Rattle.relocation.proofs.Sound.{implied}
 
 -- The codes: no other row is external.
 abbrev among : ℕ → Bool
 among b = eqb b 0x89 || (eqb b 0x91 || (eqb b 0x98 || eqb b 0xE6))
 
-pub other-code : (b : ℕ) → (b ≡ 0x89 → ⊥) → (b ≡ 0x91 → ⊥) → (b ≡ 0x98 → ⊥) → (b ≡ 0xE6 → ⊥) → external_code b ≡ false
-other-code b p q r s = by (external_code b)
+abbrev pub External : ℕ → Type 0
+External b = b ≡ 0x89 ⊎ (b ≡ 0x91 ⊎ (b ≡ 0x98 ⊎ b ≡ 0xE6))
+
+pub external-codes : (b : ℕ) → External b → true ≡ external_code b
+unfolding row_of
+external-codes b (inl e) = rw e
+external-codes b (inr (inl e)) = rw e
+external-codes b (inr (inr (inl e))) = rw e
+external-codes b (inr (inr (inr e))) = rw e
+
+pub other-code : (b : ℕ) → (External b → ⊥) → external_code b ≡ false
+other-code b none = by (external_code b)
     (row-passes (λ k row. not (external_row row) || among k) b refl refl refl refl refl)
   where
+    others : among b ≡ false
+    others =
+        rw (
+          ne_eqb b 0x89 (λ e. none (inl e)),
+          ne_eqb b 0x91 (λ e. none (inr (inl e))),
+          ne_eqb b 0x98 (λ e. none (inr (inr (inl e)))),
+          ne_eqb b 0xE6 (λ e. none (inr (inr (inr e)))),
+        )
+
     by : (t : Bool) → (not t || among b) ≡ true → t ≡ false
     by false h = refl
-    by true h = absurd (false≢true (rw (ne_eqb b 0x89 p, ne_eqb b 0x91 q, ne_eqb b 0x98 r, ne_eqb b 0xE6 s) at h))
+    by true h = absurd (false≢true (rw others at h))
 
--- A turn of the loop over the bytes: x is that the byte is such a code, `left` that the bytes from it on are others.
-pub found-next : (found x left rest : Bool) → left ≡ (not x && rest) → (found || not left) ≡ ((found || x) || not rest)
-found-next found x left rest e = rw e (by found x)
-  where
-    by : (found x : Bool) → (found || not (not x && rest)) ≡ ((found || x) || not rest)
-    by true x = refl
-    by false true = refl
-    by false false = refl
+-- Where no byte passes a test, none at a place does.
+neither : (a b : Bool) → (a || b) ≡ false → (a ≡ false) × (b ≡ false)
+neither true b e = absurd (false≢true (sym e))
+neither false b e = (refl, e)
 
-pub found-over : (found rest : Bool) → rest ≡ true → (found || not rest) ≡ found
-found-over true rest e = refl
-found-over false rest e = rw e
+none-at : (test : ℕ → Bool) (xs : List ℕ) → list_any test xs ≡ false → (at : ℕ) → at < length xs → test (byte_at xs at) ≡ false
+none-at test [] none at h = absurd (omega arith)
+none-at test (x ∷ xs) none zero h = (neither (test x) (list_any test xs) none).0
+none-at test (x ∷ xs) none (suc at) h = none-at test xs (neither (test x) (list_any test xs) none).1 at (omega arith)
 
 module _ (code : List ℕ) (plain : has_external_byte code ≡ false) where
   -- Bytes past the end read as 0, the code of LOAD_C.0.
@@ -61,13 +79,10 @@ module _ (code : List ℕ) (plain : has_external_byte code ≡ false) where
   plain_byte at = by (ltb at (length code)) refl
     where
       by : (t : Bool) → ltb at (length code) ≡ t → external_code (byte_at code at) ≡ false
-      by true l =
-          not-true (external_code (byte_at code at))
-          (every-among (λ i. not (external_code (byte_at code i))) (offsets (length code)) (not-false _ plain) at
-          (offset-has 0 (length code) at (omega arith) (omega (arith, ltb-true at (length code) l))))
+      by true l = none-at external_code code plain at (ltb-true at (length code) l)
       by false l = rw (byte_past code at (ltb-false at (length code) l))
 
-  plain-decoded : (limit at : ℕ) (i : Instruction) (next : ℕ) → decode_at code limit at ≡ At i next → is_external i ≡ false
+  plain-decoded : (limit at : ℕ) (i : Instruction) (next : ℕ) → decode_at code limit at ≡ Ok (i, next) → is_external i ≡ false
   unfolding instruction_at
   plain-decoded limit at i next e = by (is_external i) refl
     where
@@ -86,9 +101,9 @@ module _ (code : List ℕ) (plain : has_external_byte code ≡ false) where
     where
       by : (b : Bool) (d : Decoded) → decode_at code (region_end code p) at ≡ d → ((next : ℕ) → places_from code p n next ≡ [])
           → cond b (places_at (places_from code p n) at d) [] ≡ []
-      by true Unserved e rest = refl
-      by true Past e rest = refl
-      by true (At i next) e rest = rw (plain-decoded (region_end code p) at i next e) (rest next)
+      by true (Err Unserved) e rest = refl
+      by true (Err Past) e rest = refl
+      by true (Ok (i, next)) e rest = rw (plain-decoded (region_end code p) at i next e) (rest next)
       by false d e rest = refl
 
   over_plain : (p n : ℕ) → places_over code p n ≡ []

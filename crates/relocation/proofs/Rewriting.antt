@@ -1,22 +1,20 @@
 -- A record's code as rewritten: its length, each byte, and that storing the code and then the new numbers gives it. By
 -- induction on the entries; an entry that stands twice stores the same number twice.
 use mathlib.Core.Bool.{Bool, true, false, cond, ◌||◌}
-use mathlib.Core.List.{List, [], ◌∷◌}
+use mathlib.Core.List.{List, [], ◌∷◌, ◌++◌}
 use mathlib.Core.Path.{◌≡◌, ◌∙◌, refl, sym, ap}
-use Prim.Native.Nat.{ℕ, ◌+◌, ◌-◌, ◌*◌, ◌<◌, ◌≤◌}
-use native.Mathlib.Nat.{sub-eq-zero_of_le}
+use Prim.Native.Nat.{ℕ, ◌+◌, ◌*◌, ◌<◌, ◌≤◌, min}
 use native.Mathlib.Omega.{arith}
 use lib.Dec.{eqb, ltb}
-use lib.ListN.{length, get_or, set, length-set, get_or-eq_default}
-use lib.Seq.{sets, length-sets, get_or-set_same, get_or-set_other, ext_get_or}
+use lib.ListN.{length, get_or, take, drop, set, length-set, get_or-eq_default, take-append-drop, drop_of_length-le}
+use lib.Seq.{sets, length-sets, length-take-le, get_or-set_same, get_or-set_other, ext_get_or}
 use borrow.Author.Tests.{lt-ltb, ltb-true, ltb-false, eqb-true, eqb-false}
-use Rattle.words.specs.Bytes.{byte_at, word_at}
-use Rattle.words.specs.Series.{series}
-use Rattle.words.proofs.Left.{one_left}
-use Rattle.words.proofs.Sets.{sets-other, sets-front}
+use Rattle.words.specs.Bytes.{byte_at}
+use Rattle.words.proofs.Sets.{sets-other, sets-front, sets-out, sets_behind}
+use Rattle.std.proofs.lemmas.List.Edits.{sets-eq}
 use Rattle.words.proofs.Series.{series-at, series-length}
 use Rattle.header.specs.Header.{code_of}
-use Rattle.module_set.specs.Members.{Members, members_of, resolved}
+use Rattle.module_set.specs.Members.{Members, resolved}
 use Rattle.module_set.specs.Linked.{has}
 use Rattle.relocation.specs.Relocation.{relocations_of, relocated_byte, relocated}
 use Rattle.relocation.specs.Marks.{rewritten}
@@ -38,10 +36,6 @@ module _ (S : Members) (r : List ℕ) (i : ℕ) where
 
   pub relocated-kept : i < length (code_of r) → has (relocations_of r) i ≡ false → byte_at (relocated S r) i ≡ byte_at (code_of r) i
   relocated-kept h e = relocated-at h ∙ rw e
-
-  pub relocated-new :
-      i < length (code_of r) → has (relocations_of r) i ≡ true → byte_at (relocated S r) i ≡ resolved S r (byte_at (code_of r) i)
-  relocated-new h e = relocated-at h ∙ rw e
 
 module _ (S : Members) (r : List ℕ) where
   abbrev size : ℕ
@@ -117,30 +111,30 @@ module _ (S : Members) (r : List ℕ) where
           ∙ (sets-other m 0 (code_of r) i (λ a b. omega arith)
           ∙ sym (sets-other m 0 (relocated S r) i (λ a b. omega (arith, relocated-length S r))))
 
--- k entries of n are stored, the next one stands at `at`; for every set with this directory.
-pub record Puts (r d before m : List ℕ) (first n at k : ℕ) : Type 0 where
-  pub place : at ≡ first + 4 * k
-  pub kept : length m ≡ length before
-  pub rest : (records lists : List ℕ) →
-      rewritten (members_of records lists d) r m (series (word_at r) 4 at (n - k))
-      ≡ rewritten (members_of records lists d) r before (series (word_at r) 4 first n)
+-- Code stored at the front, as much as there is room for.
+pub front-stored : (code m : List ℕ) (n : ℕ) → n ≡ min (length code) (length m) → take n code ++ drop n m ≡ sets m 0 code
+front-stored code m n e = by (ltb (length m) (length code)) refl
+  where
+    first : List ℕ
+    first = take n code
 
-pub puts-start : (r d m : List ℕ) (first n : ℕ) → Puts r d m m first n first 0
-puts-start r d m first n =
-    let z : n - 0 ≡ n = omega arith in
-    record { place = omega arith; kept = refl; rest = λ records lists. rw z }
+    long : length first ≡ n
+    long = length-take-le n code (omega (arith, e))
 
-module _ {r d before m : List ℕ} {first n at k : ℕ} (p : Puts r d before m first n at k) where
-  pub puts-over : n ≤ k → (records lists : List ℕ) →
-      m ≡ rewritten (members_of records lists d) r before (series (word_at r) 4 first n)
-  puts-over h records lists = rw (sub-eq-zero_of_le h) at (p.rest records lists)
+    stored : take n code ++ drop n m ≡ sets m 0 first
+    stored =
+        let z : 0 + length first ≡ n = omega (arith, long) in
+        sym (sets-eq first m 0 (omega (arith, e, long)) ∙ ap (λ (k : ℕ). first ++ drop k m) z)
 
-  pub puts-next :
-      (x : ℕ) (m' : List ℕ) → k < n → x ≡ word_at r at → length m' ≡ length m →
-      ((records lists : List ℕ) → m' ≡ rewritten (members_of records lists d) r m (x ∷ [])) →
-      Puts r d before m' first n (at + 4) (k + 1)
-  puts-next x m' h w long s = record {
-    place = omega (arith, p.place);
-    kept = long ∙ p.kept;
-    rest = λ records lists. rw (s records lists, w) (rw (one_left k n h) at (p.rest records lists));
-  }
+    whole : sets (sets m 0 first) n (drop n code) ≡ sets m 0 code
+    whole =
+        sets_behind m 0 n first (drop n code) (omega (arith, long))
+        ∙ ap (λ (xs : List ℕ). sets m 0 xs) (take-append-drop n code)
+
+    by : (b : Bool) → ltb (length m) (length code) ≡ b → take n code ++ drop n m ≡ sets m 0 code
+    by true q =
+        let past : length (sets m 0 first) ≤ n = omega (arith, length-sets m 0 first, ltb-true (length m) (length code) q, e) in
+        stored ∙ (sym (sets-out (sets m 0 first) n (drop n code) past) ∙ whole)
+    by false q =
+        let none : drop n code ≡ [] = drop_of_length-le code {i = n} (omega (arith, ltb-false (length m) (length code) q, e)) in
+        stored ∙ (rw none at whole)

@@ -2,18 +2,16 @@
 use mathlib.Core.Bool.{Bool, true, false, cond}
 use mathlib.Core.List.{List, [], ◌∷◌}
 use mathlib.Core.Path.{◌≡◌, ◌∙◌, refl, sym}
-use Prim.Native.Nat.{ℕ, ◌+◌, ◌-◌, ◌*◌, ◌<◌, ◌≤◌}
-use native.Mathlib.Nat.{sub-eq-zero_of_le}
-use native.Mathlib.Omega.{arith}
-use lib.ListN.{length, set, length-set}
-use borrow.Author.Tests.{lt-ltb, le-ltb}
-use Rattle.words.specs.Bytes.{word_at}
-use Rattle.words.specs.Series.{series}
+use Prim.Native.Nat.{ℕ, ◌+◌, ◌-◌, ◌<◌}
+use lib.ListN.{length, set}
+use borrow.Author.Tests.{lt-ltb}
 use Rattle.words.proofs.Left.{one_left}
 use Rattle.entries.specs.Entries.{entry_at, entry_count, region_end}
 use Rattle.opcode.specs.Decode.{decode_at}
-use Rattle.opcode.specs.declared.Decoded.{Decoded}
-use Rattle.opcode.specs.declared.Decoded.TheVariants.{At}
+use Rattle.opcode.specs.Decode.{Decoded}
+use Rattle.std.specs.Prelude.{Ok, Err}
+use Rattle.opcode.specs.declared.DecodeError.{DecodeError}
+use Rattle.opcode.specs.declared.DecodeError.TheVariants.{Unserved, Past}
 use Rattle.opcode.specs.declared.instruction.Instruction.{Instruction}
 use Rattle.relocation.specs.Places.{is_external, library_byte, places_at, places_from, places_over, library_places}
 use Rattle.relocation.specs.Marks.{marked}
@@ -29,17 +27,8 @@ pub record Region (code : List ℕ) (p : ℕ) (before m : List ℕ) (at k : ℕ)
   pub rest : marked m (places_from code p (length code - k) at) ≡ marked before (places_from code p (length code) (entry_at code p))
   pub kept : length m ≡ length before
 
-pub region-start : (code : List ℕ) (p : ℕ) (m : List ℕ) (at : ℕ) → at ≡ entry_at code p → Region code p m m at 0
-region-start code p m at e = let z : length code - 0 ≡ length code = omega arith in record { rest = rw (z, e); kept = refl }
-
 module _ {code : List ℕ} {p : ℕ} {before m : List ℕ} {at k : ℕ} (r : Region code p before m at k) where
-  pub region-spent : length code ≤ k → m ≡ marked before (places_from code p (length code) (entry_at code p))
-  region-spent h = rw (sub-eq-zero_of_le h) at r.rest
-
   module _ (limit : ℕ) (l : limit ≡ region_end code p) (h : k < length code) where
-    pub region-over : limit ≤ at → m ≡ marked before (places_from code p (length code) (entry_at code p))
-    region-over q = rw (one_left k (length code) h, le-ltb at (region_end code p) (rw l at q)) at r.rest
-
     -- What stands at `at` decides.
     pub region-turn :
         (d : Decoded) → at < limit → decode_at code limit at ≡ d →
@@ -48,8 +37,13 @@ module _ {code : List ℕ} {p : ℕ} {before m : List ℕ} {at k : ℕ} (r : Reg
     region-turn d q e =
         rw (one_left k (length code) h, lt-ltb at (region_end code p) (rw l at q), rw l at e) at r.rest
 
+    pub region-ends : (e : DecodeError) → at < limit → decode_at code limit at ≡ Err e
+        → m ≡ marked before (places_from code p (length code) (entry_at code p))
+    region-ends Unserved q d = region-turn (Err Unserved) q d
+    region-ends Past q d = region-turn (Err Past) q d
+
     pub region-next :
-        (i : Instruction) (next : ℕ) (b : Bool) (m' : List ℕ) → at < limit → decode_at code limit at ≡ At i next →
+        (i : Instruction) (next : ℕ) (b : Bool) (m' : List ℕ) → at < limit → decode_at code limit at ≡ Ok (i, next) →
         b ≡ is_external i →
         m' ≡ cond b (set m (at + 1) 1) m → length m' ≡ length m → Region code p before m' next (k + 1)
     region-next i next b m' q e f s long =
@@ -57,7 +51,7 @@ module _ {code : List ℕ} {p : ℕ} {before m : List ℕ} {at k : ℕ} (r : Reg
         record {
           rest = rw one
               (sym (marked_append m (library_byte at i) (places_from code p (length code - (k + 1)) next))
-              ∙ region-turn (At i next) q e);
+              ∙ region-turn (Ok (i, next)) q e);
           kept = long ∙ r.kept;
         }
 
@@ -71,11 +65,6 @@ unfolding library_places
 regions-start code m = record { rest = refl; kept = refl }
 
 module _ {code before m : List ℕ} {p : ℕ} (r : Regions code before m p) (m' : List ℕ) where
-  pub regions-last :
-      entry_count code ≤ p → m' ≡ marked m (places_from code 0 (length code) (entry_at code 0)) →
-      m' ≡ marked before (library_places code)
-  regions-last h e = e ∙ (rw (sub-eq-zero_of_le h) at r.rest)
-
   pub regions-next :
       p < entry_count code → m' ≡ marked m (places_from code p (length code) (entry_at code p)) → Regions code before m' (p + 1)
   regions-next h e =
@@ -85,26 +74,3 @@ module _ {code before m : List ℕ} {p : ℕ} (r : Regions code before m p) (m' 
         rest = rw e (sym (marked_append m own others) ∙ (rw (one_left p (entry_count code) h) at r.rest));
         kept = rw e (marked-length m own ∙ r.kept);
       }
-
--- k entries of n are marked, the next one stands at `at`.
-pub record Entries (r before m : List ℕ) (first n at k : ℕ) : Type 0 where
-  pub place : at ≡ first + 4 * k
-  pub rest : marked m (series (word_at r) 4 at (n - k)) ≡ marked before (series (word_at r) 4 first n)
-  pub kept : length m ≡ length before
-
-pub entries-start : (r m : List ℕ) (first n : ℕ) → Entries r m m first n first 0
-entries-start r m first n =
-    let z : n - 0 ≡ n = omega arith in
-    record { place = omega arith; rest = rw z; kept = refl }
-
-module _ {r before m : List ℕ} {first n at k : ℕ} (e : Entries r before m first n at k) where
-  pub entries_over : n ≤ k → m ≡ marked before (series (word_at r) 4 first n)
-  entries_over h = rw (sub-eq-zero_of_le h) at e.rest
-
-  pub entries_next :
-      (x : ℕ) (m' : List ℕ) → k < n → x ≡ word_at r at → m' ≡ set m x 1 → Entries r before m' first n (at + 4) (k + 1)
-  entries_next x m' h w s = record {
-    place = omega (arith, e.place);
-    rest = rw (s, w) (rw (one_left k n h) at e.rest);
-    kept = rw s (length-set m x 1 ∙ e.kept);
-  }

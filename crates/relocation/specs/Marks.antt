@@ -1,8 +1,8 @@
 -- How the code holds places: a byte for each offset, 1 at each of the places. proofs/Marking joins this with the lists of
 -- places. And the quick test by which there is none: proofs/Plain.
 use Rattle.std.specs.Prelude.{Bool, false, cond, not, ◌&&◌, ◌||◌, List, [], ◌∷◌, ℕ, eqb, ltb, leb, length, get_or, set}
+use Rattle.std.specs.List.{list_any}
 use Rattle.words.specs.Bytes.{byte_at}
-use Rattle.words.specs.Order.{every}
 use Rattle.words.specs.Series.{series}
 use Rattle.header.specs.Header.{code_of}
 use Rattle.module_set.specs.Members.{Members, resolved}
@@ -36,7 +36,7 @@ external_code b = external_row (row_of b)
 
 -- A byte of the code, be it of an instruction or not, is the code of an external one.
 abbrev pub has_external_byte : List ℕ → Bool
-has_external_byte code = not (every (λ at. not (external_code (byte_at code at))) (offsets (length code)))
+has_external_byte code = list_any external_code code
 
 -- The bytes at these entries rewritten, those past the code not.
 abbrev pub rewritten : Members → List ℕ → List ℕ → List ℕ → List ℕ

@@ -3,8 +3,9 @@
 use Rattle.std.specs.Prelude.{Bool, true, false, cond, List, [], ◌∷◌, ◌++◌, ℕ, zero, suc, ◌+◌, ◌-◌, ltb, length}
 use Rattle.entries.specs.Entries.{entry_at, entry_count, region_end}
 use Rattle.opcode.specs.Decode.{decode_at}
-use Rattle.opcode.specs.declared.Decoded.{Decoded}
-use Rattle.opcode.specs.declared.Decoded.TheVariants.{Unserved, Past, At}
+use Rattle.opcode.specs.Decode.{Decoded}
+use Rattle.opcode.specs.declared.DecodeError.TheVariants.{Unserved, Past}
+use Rattle.std.specs.Prelude.{Err, Ok}
 use Rattle.opcode.specs.declared.instruction.Base.{Base}
 use Rattle.opcode.specs.declared.instruction.Base.TheVariants.{Local, Global, Constant, Popped, External}
 use Rattle.opcode.specs.declared.instruction.Instruction.{Instruction}
@@ -51,9 +52,9 @@ abbrev pub library_byte : ℕ → Instruction → List ℕ
 library_byte at i = cond (is_external i) ((at + 1) ∷ []) []
 
 abbrev pub places_at : (ℕ → List ℕ) → ℕ → Decoded → List ℕ
-places_at go at Unserved = []
-places_at go at Past = []
-places_at go at (At i next) = library_byte at i ++ go next
+places_at go at (Err Unserved) = []
+places_at go at (Err Past) = []
+places_at go at (Ok (i, next)) = library_byte at i ++ go next
 
 -- The region of procedure p from an offset on, in at most so many instructions.
 abbrev pub places_from : List ℕ → (p n at : ℕ) → List ℕ

@@ -12,7 +12,10 @@ ghost use Rattle.words.specs.Lent.{over};
 ghost use Rattle.relocation.specs.Marks.{rewritten, marked_byte};
 
 use crate::marks;
+use crate::table::Relocations;
 
+// Stores code at the front, as much as there is room for.
+// Kept: a loop, since `copy_from_slice` takes memmove, and the library for C takes memset alone (include/icode.h).
 fn put_code(code: &[u8], part: &mut [u8])
     ensures { part.new ≡ sets part.old 0 code.now }
 {
@@ -27,7 +30,7 @@ fn module_at(r: &[u8], directory: &[u32], code: &[u8], at: usize) -> u8
     ensures { (records lists : List ℕ) →
         result ≡ resolved (members_of records lists directory.now) r.now (byte_at code.now at) }
 {
-    let library = words::byte_at(code, at) as u32;
+    let library = u32::from(words::byte_at(code, at));
     module_set::resolve(r, directory, library) as u8
 }
 
@@ -37,10 +40,9 @@ fn put_module(r: &[u8], directory: &[u32], code: &[u8], at: usize, part: &mut [u
     ensures { (records lists : List ℕ) → part.new
         ≡ rewritten (members_of records lists directory.now) r.now part.old (at ∷ []) }
 {
-    if code.len() <= at {
-        return;
+    if at < code.len() {
+        words::set_byte(part, at, module_at(r, directory, code, at));
     }
-    words::set_byte(part, at, module_at(r, directory, code, at));
 }
 
 // The bytes that the relocation table names get their new numbers.
@@ -50,14 +52,10 @@ fn put_modules(r: &[u8], directory: &[u32], part: &mut [u8])
         ≡ rewritten (members_of records lists directory.now) r.now part.old
         (relocations_of r.now) }
 {
-    let h = header::header_of(r);
     let code = header::code_of(r);
-    let entries = h.relocation;
-    let mut at = header::relocation_at(h);
-    for _ in 0..entries {
-        let place = words::word_at(r, at) as usize;
+    let mut entries = Relocations::of(r);
+    while let Some(place) = entries.take(r) {
         put_module(r, directory, code, place, part);
-        at += 4;
     }
 }
 
@@ -72,7 +70,7 @@ pub fn relocate(r: &[u8], directory: &[u32], part: &mut [u8])
     put_modules(r, directory, part);
 }
 
-// The bytes of the copy.
+// The bytes of the copy. Kept: `sum` has no bound from the sizes of the records, which are known one by one.
 pub fn copy_size(records: &[u8], directory: &[u32]) -> usize
     requires directory_len_bound { length directory.now ≤ 67 }
     requires by_index { (lists : List ℕ) → records_number (members_of records.now lists directory.now) ≡ 0 }
@@ -111,9 +109,10 @@ fn relocated_byte(r: &[u8], directory: &[u32], code: &[u8], entries: &[u8], at: 
         entries.now at }
 {
     if words::byte_at(entries, at) == 0 {
-        return words::byte_at(code, at);
+        words::byte_at(code, at)
+    } else {
+        module_at(r, directory, code, at)
     }
-    module_at(r, directory, code, at)
 }
 
 // A slice begins with these bytes.
@@ -125,16 +124,9 @@ fn agrees(r: &[u8], directory: &[u32], code: &[u8], entries: &[u8], part: &[u8])
         entries.now)
         1 0 (length code.now)) part.now }
 {
-    for at in 0..code.len() {
-        if part.len() <= at {
-            return false;
-        }
-        let byte = relocated_byte(r, directory, code, entries, at);
-        if byte != part[at] {
-            return false;
-        }
-    }
-    true
+    code.len() <= part.len()
+        && (0..code.len()).all(|at| relocated_byte(r, directory, code, entries, at)
+            == words::byte_at(part, at))
 }
 
 // A slice begins with a record's code with its new numbers.

@@ -4,3 +4,4 @@
 pub mod copy;
 mod marks;
 pub mod number;
+mod table;

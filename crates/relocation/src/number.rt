@@ -1,6 +1,6 @@
 // The number 18 of a record, and the number of a set of modules.
 ghost use Rattle.std.specs.Prelude.{◌≡◌, List, ℕ, ◌≤◌, length};
-ghost use Rattle.opcode.specs.Sheet.{Sheet};
+ghost use Rattle.numbers.specs.Number.{number};
 ghost use Rattle.record.specs.Number.{record_number};
 ghost use Rattle.module_set.specs.Members.{members_of, single};
 ghost use Rattle.module_set.specs.Linked.{every_member, records_number};
@@ -8,33 +8,24 @@ ghost use Rattle.relocation.specs.Relocation.{relocation_sound, set_number};
 ghost use Rattle.relocation.specs.Marks.{external_code, has_external_byte};
 
 use crate::marks;
+use numbers::Refusal;
+use opcode::format::FormatSheet;
 
 fn is_external_code(byte: u8) -> bool
     ensures { result ≡ external_code byte }
 {
-    match byte {
-        0x89 => true,
-        0x91 => true,
-        0x98 => true,
-        0xE6 => true,
-        _ => false,
-    }
+    matches!(byte, 0x89 | 0x91 | 0x98 | 0xE6)
 }
 
 // Code without such a byte has no external instruction, and need not be cut to find that.
 fn has_external_byte(code: &[u8]) -> bool
     ensures { result ≡ has_external_byte code.now }
 {
-    let mut found = false;
-    for at in 0..code.len() {
-        found = found | is_external_code(code[at]);
-    }
-    found
+    code.iter().any(|byte| is_external_code(*byte))
 }
 
 // No number 18: each entry points at a library byte, and each library byte has an entry and a number of the import list.
-pub fn is_relocation_sound(formats: &[u16], r: &[u8]) -> bool
-    requires sheet { Sheet formats.now }
+pub fn is_relocation_sound(formats: FormatSheet<'_>, r: &[u8]) -> bool
     requires r_value { record_number r.now ≡ 0 }
     ensures { result ≡ relocation_sound r.now }
 {
@@ -53,9 +44,8 @@ pub fn is_relocation_sound(formats: &[u16], r: &[u8]) -> bool
     marks::all_listed(code, imports, &places, &entries)
 }
 
-// The same of every record of a set.
-fn all_sound(formats: &[u16], records: &[u8], directory: &[u32]) -> bool
-    requires sheet { Sheet formats.now }
+// The same of every record of a set. Kept: `all` would have to carry the callee's requires, of each module, into its closure.
+fn all_sound(formats: FormatSheet<'_>, records: &[u8], directory: &[u32]) -> bool
     requires directory_len_bound { length directory.now ≤ 67 }
     requires by_index { (lists : List ℕ) → records_number (members_of records.now lists directory.now) ≡ 0 }
     ensures { (lists : List ℕ) →
@@ -70,38 +60,32 @@ fn all_sound(formats: &[u16], records: &[u8], directory: &[u32]) -> bool
     true
 }
 
-// 0, or the number that refuses the set: the lowest of 1 to 7 over its records, 17 or 18.
-pub fn set_number(records: &[u8], directory: &[u32]) -> u32
-    ensures { (lists : List ℕ) → result ≡ set_number (members_of records.now lists directory.now) }
+// The number that refuses the set, if one does: the lowest of 1 to 7 over its records, 17 or 18.
+pub fn set_number(records: &[u8], directory: &[u32]) -> Result<(), Refusal>
+    ensures { (lists : List ℕ) → number result ≡ set_number (members_of records.now lists directory.now) }
 {
-    let number = module_set::records_number(records, directory);
-    if number != 0 {
-        return number;
-    }
+    module_set::records_number(records, directory)?;
     if !module_set::is_linked(records, directory) {
-        return 17;
+        return Err(Refusal::Linkage);
     }
-    let formats = opcode::format::formats();
-    if !all_sound(&formats, records, directory) {
-        return 18;
+    let entries = opcode::format::formats();
+    if !all_sound(FormatSheet { entries: &entries }, records, directory) {
+        return Err(Refusal::Relocation);
     }
-    0
+    Ok(())
 }
 
 // The same of a record by itself, which imports nothing where it has no number.
-pub fn single_number(r: &[u8]) -> u32
-    ensures { (results : List ℕ) → result ≡ set_number (single r.now results) }
+pub fn single_number(r: &[u8]) -> Result<(), Refusal>
+    ensures { (results : List ℕ) → number result ≡ set_number (single r.now results) }
 {
-    let number = record::record_number(r);
-    if number != 0 {
-        return number;
+    let h = record::read(r)?;
+    if h.imports != 0 {
+        return Err(Refusal::Linkage);
     }
-    if header::header_of(r).imports != 0 {
-        return 17;
+    let entries = opcode::format::formats();
+    if !is_relocation_sound(FormatSheet { entries: &entries }, r) {
+        return Err(Refusal::Relocation);
     }
-    let formats = opcode::format::formats();
-    if !is_relocation_sound(&formats, r) {
-        return 18;
-    }
-    0
+    Ok(())
 }

@@ -16,7 +16,7 @@ use Rattle.state.specs.Fits.{sizes_taken}
 use Rattle.load.specs.Modules.{modules_of}
 use Rattle.load.specs.Load.{Loading, load_of}
 use Rattle.load.proofs.Loading.{room, load-short}
-use Rattle.load.specs.declared.Loaded.TheVariants.{Refused as NotLoaded}
+use Rattle.std.specs.Prelude.{Err}
 use Rattle.verifier.specs.Check.{check_of}
 use Rattle.verifier.proofs.Accepting.{Answers, early, late, answers}
 use Rattle.joined.specs.Joined.{Joined, joined_of}
@@ -46,7 +46,7 @@ none-holds true false c d = refl
 none-holds false b c d = refl
 
 -- 8: "stack over 1,024".
-too-deep : (r ps m s : List ℕ) → set_number (single r []) ≡ 0 → 1024 < length s → (load_of r ps m s).answer ≡ NotLoaded 8
+too-deep : (r ps m s : List ℕ) → set_number (single r []) ≡ 0 → 1024 < length s → (load_of r ps m s).answer ≡ Err 8
 unfolding sizes_taken
 too-deep r ps m s e h =
     let S = single r [] in

@@ -19,16 +19,16 @@ use Rattle.registers.specs.Modules.{Modules, header_words}
 use Rattle.registers.specs.Program.{program_at, running}
 use Rattle.registers.specs.State.{State, state}
 use Rattle.state.proofs.Fitting.{fit_parts}
-use Rattle.load.specs.declared.Loaded.{Loaded}
-use Rattle.load.specs.declared.Loaded.TheVariants.{Refused as NotLoaded, Ready}
+use Rattle.load.specs.Loaded.{Loaded}
+use Rattle.std.specs.Prelude.{Err, Ok}
 use Rattle.load.specs.Modules.{modules_of}
 use Rattle.load.specs.Load.{load_of}
 use Rattle.step.specs.declared.Outcome.{Outcome}
 use Rattle.step.specs.declared.Outcome.TheVariants.{Went, Finished, Trapped}
 use Rattle.step.specs.Step.{step_in}
 use Rattle.invariant.proofs.Sizes.{stack-kept}
-use Rattle.run.specs.declared.Answer.{Answer}
-use Rattle.run.specs.declared.Answer.TheVariants.{Refused, Ended}
+use Rattle.run.specs.Answer.{Answer}
+use Rattle.std.specs.Prelude.{Err, Ok}
 use Rattle.run.specs.declared.Ended.{Ended as Ending}
 use Rattle.run.specs.Run.{Result, end_number, proceed, run_from, set_run, run_number, run_of}
 use Rattle.run.proofs.Taking.{taken-parts}
@@ -137,11 +137,11 @@ run-keeps Ms (suc left) count S =
         → length (proceed Ms (run_from Ms left (count + 1)) count o T).state.stack ≡ length T.stack
     by Went T e = e
     by Finished T e = refl
-    by (Trapped n) T e = refl
+    by (Trapped t) T e = refl
 
 answer-fits : (r : List ℕ) (a : Answer) (m s : List ℕ) → (header_of r).globals ≤ 1024 → length s ≤ 1024 → Fits (answer_text r a m s)
-answer-fits r (Refused n) m s g d = check-fits n
-answer-fits r (Ended e) m s g d = ended-fits r e m s g d
+answer-fits r (Err n) m s g d = check-fits n
+answer-fits r (Ok e) m s g d = ended-fits r e m s g d
 
 -- What a run that is not refused says of the page's lists.
 page-bounds : (r : List ℕ) (S : State) → run_number r S ≡ 0 → ((header_of r).globals ≤ 1024) × (length S.stack ≤ 1024)
@@ -176,8 +176,8 @@ joined-fits r results w ps budget m s =
         → Fits (answer_text r (then_load r budget (check_of r results w).workspace s l m').answer
         (then_load r budget (check_of r results w).workspace s l m').memory
         (then_load r budget (check_of r results w).workspace s l m').stack)
-    loaded (NotLoaded n) m' = check-fits n
-    loaded (Ready q) m' = run_fits r budget (state q m' s)
+    loaded (Err n) m' = check-fits n
+    loaded (Ok q) m' = run_fits r budget (state q m' s)
 
 pub pages-fit : PagesFit
 unfolding text_of

@@ -9,7 +9,7 @@ use borrow.Author.Tests.{le-leb, lt-leb, leb-true}
 use lib.Dec.{eqb, leb}
 use lib.ListN.{length, take, drop}
 use Rattle.words.specs.Bytes.{Bytes, word_at, halfword_at, words_from}
-use Rattle.run.specs.declared.Answer.{Answer}
+use Rattle.run.specs.Answer.{Answer}
 use Rattle.joined.specs.Joined.{joined, joined_of}
 use Rattle.verifier.specs.Check.{check_of}
 use Rattle.workspace.specs.Checking.{checking}

@@ -4,8 +4,8 @@ use Rattle.std.specs.Prelude.{cond, List, ◌++◌, ℕ, leb, length, take, drop
 use Rattle.header.specs.Header.{header_of}
 use Rattle.source.specs.Source.{line_at}
 use Rattle.registers.specs.Modules.{header_words}
-use Rattle.run.specs.declared.Answer.{Answer}
-use Rattle.run.specs.declared.Answer.TheVariants.{Refused, Ended}
+use Rattle.run.specs.Answer.{Answer}
+use Rattle.std.specs.Prelude.{Err, Ok}
 use Rattle.run.specs.declared.Ended.{Ended as Ending}
 use Rattle.run.specs.Run.{end_number}
 use Rattle.joined.specs.Joined.{joined_of}
@@ -20,8 +20,8 @@ ended_text r e m s =
     ++ (list_line 115 (take e.registers.height s) ++ list_line 103 (take (header_of r).globals (drop header_words m))))
 
 abbrev pub answer_text : List ℕ → Answer → List ℕ → List ℕ → List ℕ
-answer_text r (Refused n) m s = check_line n
-answer_text r (Ended e) m s = ended_text r e m s
+answer_text r (Err n) m s = check_line n
+answer_text r (Ok e) m s = ended_text r e m s
 
 abbrev pub zeros : ℕ → List ℕ
 zeros n = replicate n 0

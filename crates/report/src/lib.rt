@@ -5,32 +5,19 @@ ghost use Rattle.std.specs.Prelude.{◌≡◌, ◌≤◌, ◌<◌, length, take,
 ghost use Rattle.source.specs.Source.{line_at};
 ghost use Rattle.text.specs.Text.{check_line, Wrote};
 ghost use Rattle.run_file.specs.RunFile.{memory_words, stack_words};
+ghost use Rattle.numbers.specs.Number.{number, number_of, numbered};
 ghost use Rattle.report.specs.Report.{ended_text, answer_text, output, printed};
 ghost use Rattle.report.specs.Buffers.{or_eight, ran_page, part_page, leaving, delivered, report_of};
 
 use header::Header;
-use run::{Answer, Ended};
-use source::Lookup;
-
-// At most `n` words from `at` on: those that there are.
-fn part(s: &[u32], at: usize, n: usize) -> &[u32]
-    ensures { result.now ≡ take n (drop at s.now) }
-{
-    if s.len() <= at {
-        return &s[s.len()..];
-    }
-    if s.len() - at <= n {
-        return &s[at..];
-    }
-    &s[at..at + n]
-}
+use numbers::Refusal;
+use run::Ended;
 
 // The source line of an offset, 0 outside the code.
 fn line_at(r: &[u8], h: Header, offset: u32) -> u32
     ensures { result ≡ line_at r.now h offset }
 {
-    let lookup = source::lookup_at(r, h, offset);
-    let Lookup::Found(span) = lookup else {
+    let Some(span) = source::lookup_at(r, h, offset) else {
         return 0;
     };
     span.line
@@ -53,9 +40,14 @@ fn put_ended(out: &mut [u8], r: &[u8], e: Ended, memory: &[u32], stack: &[u32]) 
         out,
         stack_at,
         115,
-        part(stack, 0, registers.height as usize),
+        words::part(stack, 0, registers.height as usize),
     );
-    text::put_list(out, globals_at, 103, part(memory, 3, h.globals as usize))
+    text::put_list(
+        out,
+        globals_at,
+        103,
+        words::part(memory, 3, h.globals as usize),
+    )
 }
 
 // The text is measured on an empty buffer first: one that is too short stays as it was.
@@ -81,21 +73,31 @@ fn print_ended(out: &mut [u8], r: &[u8], e: Ended, memory: &[u32], stack: &[u32]
     put_ended(out, r, e, memory, stack)
 }
 
-fn print_answer(out: &mut [u8], r: &[u8], a: Answer, memory: &[u32], stack: &[u32]) -> usize
+fn print_answer(
+    out: &mut [u8],
+    r: &[u8],
+    answer: Result<Ended, Refusal>,
+    memory: &[u32],
+    stack: &[u32],
+) -> usize
     requires memory_len_bound { length memory.now ≤ 65536 }
     requires stack_len_bound { length stack.now ≤ 65536 }
-    ensures { output result out.new ≡ printed (answer_text r.now a memory.now stack.now) out.old }
+    ensures { output result out.new ≡ printed (answer_text r.now (numbered answer) memory.now stack.now) out.old }
 {
-    match a {
-        Answer::Refused(n) => print_check(out, n),
-        Answer::Ended(e) => print_ended(out, r, e, memory, stack),
+    match answer {
+        Ok(e) => print_ended(out, r, e, memory, stack),
+        Err(refusal) => print_check(out, refusal.number()),
     }
 }
 
-fn or_eight(n: u32) -> u32
-    ensures { result ≡ or_eight n }
+// The refusal that there is, or that of a stack that load doesn't take.
+fn or_room(checked: Result<(), Refusal>) -> Refusal
+    ensures { number_of result ≡ or_eight (number checked) }
 {
-    if n == 0 { 8 } else { n }
+    match checked {
+        Ok(()) => Refusal::Room,
+        Err(refusal) => refusal,
+    }
 }
 
 // A run file with just the memory and the stack that it asks for.
@@ -160,12 +162,13 @@ pub fn report(
     ensures { leaving result out.new workspace.new memory.new stack.new ≡ report_of f.now workspace.old memory.old stack.old out.old }
 {
     if !run_file::well_formed(f) {
-        return print_check(out, 16);
+        return print_check(out, Refusal::RunFile.number());
     }
     if run_file::stack_words(f) <= 1024 {
         return run_page(f, workspace, memory, stack, out);
     }
     let r = run_file::record_of(f);
     let results = run_file::results_of(f);
-    print_check(out, or_eight(verifier::check::check(r, results, workspace)))
+    let checked = verifier::check::check(r, results, workspace);
+    print_check(out, or_room(checked).number())
 }

@@ -30,7 +30,7 @@ use Rattle.step.specs.declared.Outcome.{Outcome}
 use Rattle.step.specs.declared.Outcome.TheVariants.{Went, Finished, Trapped}
 use Rattle.step.specs.Step.{step_in}
 use Rattle.step.specs.Ready.{Short, Ready}
-use Rattle.run.specs.declared.Answer.{Answer}
+use Rattle.run.specs.Answer.{Answer}
 use Rattle.run.specs.Run.{answer_number, Result, ran, proceed, run_from, fits_in, set_run_number, refused, set_run}
 
 -- A state that fits module k, among modules whose codes are short.
@@ -59,7 +59,7 @@ module _ (Ms : Modules) where
       → answer_number (proceed Ms go count o S).answer ≡ 0
   ends-after go g count Went S = g S
   ends-after go g count Finished S = refl
-  ends-after go g count (Trapped n) S = refl
+  ends-after go g count (Trapped t) S = refl
 
   pub run_ends : (left count : ℕ) (S : State) → answer_number (run_from Ms left count S).answer ≡ 0
   run_ends zero count S = refl

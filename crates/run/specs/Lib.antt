@@ -1,2 +1,3 @@
 -- Run.
+pub mod Answer
 pub mod Run

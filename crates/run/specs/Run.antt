@@ -11,20 +11,21 @@ use Rattle.step.specs.declared.Outcome.TheVariants.{Went, Finished, Trapped}
 use Rattle.run.specs.declared.End.{End}
 use Rattle.run.specs.declared.End.TheVariants.{Finished as finish, Spent, Trapped as stop}
 use Rattle.run.specs.declared.Ended.{Ended as Ending}
-use Rattle.run.specs.declared.Answer.{Answer}
-use Rattle.run.specs.declared.Answer.TheVariants.{Refused, Ended}
+use Rattle.run.specs.Answer.{Answer}
+use Rattle.std.specs.Prelude.{Err, Ok}
 use Rattle.registers.specs.Modules.{Modules, number_at}
 use Rattle.registers.specs.Program.{program_at}
 use Rattle.registers.specs.State.{State, state}
 use Rattle.load.specs.Modules.{modules_of}
 use Rattle.step.specs.Step.{step_in}
 use Rattle.state.specs.Fits.{fits}
+use Rattle.numbers.specs.TrapNumber.{trap_number}
 
 -- 01: "End is 0 finished, 1 spent, or the trap."
 abbrev pub end_number : End → ℕ
 end_number finish = 0
 end_number Spent = 1
-end_number (stop n) = n
+end_number (stop t) = trap_number t
 
 -- An end as three words: its number, its place, and the completed steps.
 abbrev pub outcome_words : Ending → List ℕ
@@ -32,12 +33,12 @@ outcome_words e = end_number e.ending ∷ e.registers.pc ∷ e.steps ∷ []
 
 -- The number of what run answers, 0 where it ended, and the values.
 abbrev pub answer_number : Answer → ℕ
-answer_number (Refused n) = n
-answer_number (Ended e) = 0
+answer_number (Err n) = n
+answer_number (Ok e) = 0
 
 abbrev pub answer_values : Answer → List ℕ
-answer_values (Refused n) = []
-answer_values (Ended e) = outcome_words e
+answer_values (Err n) = []
+answer_values (Ok e) = outcome_words e
 
 -- What a run leaves: its answer, and the state. The registers of an end are the state's; a refused run leaves them as they were.
 pub record Result : Type 0 where
@@ -45,8 +46,8 @@ pub record Result : Type 0 where
   pub state : State
 
 abbrev pub registers_after : Registers → Answer → Registers
-registers_after q (Refused n) = q
-registers_after q (Ended e) = e.registers
+registers_after q (Err n) = q
+registers_after q (Ok e) = e.registers
 
 -- What the code hands back of a run from registers q, with the memory and the stack that it leaves.
 abbrev pub ran : Registers → Answer → List ℕ → List ℕ → Result
@@ -59,13 +60,13 @@ ended_at ending steps member q = record { ending = ending; steps = steps; member
 
 abbrev pub ended : Modules → (ending : End) (steps : ℕ) (S : State) → Result
 ended Ms ending steps S =
-    record { answer = Ended (ended_at ending steps (number_at Ms S.registers.gp) S.registers); state = S }
+    record { answer = Ok (ended_at ending steps (number_at Ms S.registers.gp) S.registers); state = S }
 
 -- After a step: the run goes on, or ends there.
 abbrev pub proceed : Modules → (State → Result) → ℕ → Outcome → State → Result
 proceed Ms go count Went S = go S
 proceed Ms go count Finished S = ended Ms finish (count + 1) S
-proceed Ms go count (Trapped n) S = ended Ms (stop n) count S
+proceed Ms go count (Trapped t) S = ended Ms (stop t) count S
 
 -- At most so many more steps, after a count of completed ones.
 abbrev pub run_from : (Ms : Modules) (left count : ℕ) → State → Result
@@ -78,14 +79,14 @@ run_from Ms (suc left) count S =
 abbrev pub counted : End → ℕ → ℕ
 counted finish n = n + 1
 counted Spent n = n
-counted (stop k) n = n
+counted (stop t) n = n
 
 -- "After as many steps as the budget the run answers "spent", unless the last of them finished": a run that ends otherwise has
 -- completed fewer before its last step.
 abbrev pub Within : End → (n budget : ℕ) → Type 0
 Within finish n budget = n < budget
 Within Spent n budget = n ≡ budget
-Within (stop k) n budget = n < budget
+Within (stop t) n budget = n < budget
 
 -- 24: "a state that does not fit". 02, K1: "a state fits (24) only with the copy as the load writes it"; "the place's module is GP's",
 -- which is module k.
@@ -99,7 +100,7 @@ set_run_number S copy k T = after_set S (24 when not (fits_in S copy k T) ∷ []
 
 -- "Refused loads and runs change nothing." The copy is never written.
 abbrev pub refused : ℕ → State → Result
-refused n T = record { answer = Refused n; state = T }
+refused n T = record { answer = Err n; state = T }
 
 unfoldable pub set_run : Members → (copy : List ℕ) (budget k : ℕ) → State → Result
 set_run S copy budget k T =

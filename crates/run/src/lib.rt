@@ -4,6 +4,7 @@
 ghost use Rattle.std.specs.Prelude.{◌≡◌};
 ghost use Rattle.run.specs.Run.{end_number};
 
+use numbers::Trap;
 use registers::Registers;
 
 // How a run ended.
@@ -11,7 +12,7 @@ use registers::Registers;
 pub enum End {
     Finished,
     Spent,
-    Trapped(u32),
+    Trapped(Trap),
 }
 
 // The end, the completed steps, and the registers then: the place is PC in this member of the set.
@@ -23,12 +24,6 @@ pub struct Ended {
     pub registers: Registers,
 }
 
-#[derive(Clone, Copy)]
-pub enum Answer {
-    Refused(u32),
-    Ended(Ended),
-}
-
 // The number of an end: 0 finished, 1 spent, or the trap.
 pub fn end_number(e: End) -> u32
     ensures { result ≡ end_number e }
@@ -36,6 +31,6 @@ pub fn end_number(e: End) -> u32
     match e {
         End::Finished => 0,
         End::Spent => 1,
-        End::Trapped(n) => n,
+        End::Trapped(trap) => trap.number(),
     }
 }

@@ -56,31 +56,17 @@ pub fn record_of(f: &[u8]) -> &[u8]
 fn is_named(f: &[u8]) -> bool
     ensures { result ≡ named f.now }
 {
-    if words::byte_at(f, 0) != 84 {
-        return false;
-    }
-    if words::byte_at(f, 1) != 82 {
-        return false;
-    }
-    words::byte_at(f, 2) == 75
+    f.starts_with(b"TRK")
 }
 
 pub fn well_formed(f: &[u8]) -> bool
     ensures { result ≡ well_formed f.now }
 {
-    if 8192 < f.len() {
-        return false;
-    }
-    if !is_named(f) {
-        return false;
-    }
-    if words::halfword_at(f, 3) != 1 {
-        return false;
-    }
-    if f.len() < budget_at(f) + 8 {
-        return false;
-    }
-    memory_words(f) <= 4096
+    f.len() <= 8192
+        && is_named(f)
+        && words::halfword_at(f, 3) == 1
+        && budget_at(f) + 8 <= f.len()
+        && memory_words(f) <= 4096
 }
 
 // The parameter words, and as many words behind them as there is room for.
@@ -88,7 +74,7 @@ pub fn read_parameters(f: &[u8], parameters: &mut [u32])
     ensures { parameters.new ≡ words_from f.now (7 + results_count f.now) (length parameters.old) }
 {
     let from = 7 + results_count(f);
-    for i in 0..parameters.len() {
-        parameters[i] = words::word_at(f, from + 4 * i);
+    for (i, parameter) in parameters.iter_mut().enumerate() {
+        *parameter = words::word_at(f, from + 4 * i);
     }
 }

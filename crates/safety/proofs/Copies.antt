@@ -10,7 +10,7 @@ use lib.ListN.{length}
 use Rattle.entries.specs.Entries.{entry_count, region_end}
 use Rattle.record.specs.Number.{record_number}
 use Rattle.opcode.specs.Decode.{decode_at}
-use Rattle.opcode.specs.declared.Decoded.TheVariants.{At}
+use Rattle.std.specs.Prelude.{Ok}
 use Rattle.opcode.specs.declared.instruction.Base.{Base}
 use Rattle.opcode.specs.declared.instruction.Base.TheVariants.{Local, Global, Constant, Popped, External}
 use Rattle.opcode.specs.declared.instruction.Instruction.{Instruction}
@@ -115,7 +115,7 @@ module _ (S : Members) (R : Ruled S) where
         copy-parameters S (bytes_at k) sound-at placed_at (R.marks k) (R.are_cut k h) (libraries_of S (bytes_at k)) (R.in_order k h)
 
     number-at : (p at next : ℕ) (i : Instruction) → starts_in (R.marks k) p at ≡ true
-        → decode_at (copies k).code (region_end (copies k).code p) at ≡ At i next → lacks (modules_of S) i ≡ false
+        → decode_at (copies k).code (region_end (copies k).code p) at ≡ Ok (i, next) → lacks (modules_of S) i ≡ false
     number-at p at next i s d =
         none-lacks (modules_of S) i
         (λ x.

@@ -19,7 +19,7 @@ use Rattle.run.specs.declared.End.TheVariants.{Finished as finish, Spent, Trappe
 use Rattle.step.specs.declared.Outcome.{Outcome}
 use Rattle.step.specs.declared.Outcome.TheVariants.{Went, Finished, Trapped}
 use Rattle.step.proofs.Outcomes.{step-stops}
-use Rattle.load.specs.declared.Loaded.TheVariants.{Ready}
+use Rattle.std.specs.Prelude.{Ok}
 use Rattle.load.specs.Modules.{modules_of}
 use Rattle.load.specs.Load.{set_load}
 use Rattle.run.specs.Run.{Result, ended, proceed, run_from, set_run}
@@ -31,6 +31,8 @@ use Rattle.safety.specs.Demand3.{loaded_configuration, Ends, AllAccepted, Claim}
 use Rattle.safety.proofs.Copies.{copies}
 use Rattle.safety.proofs.LoadedState.{L, run-taken}
 use Rattle.safety.proofs.Safety.{keeps, S0, as-copies, at_load, same-parameters, run-safe}
+use Rattle.numbers.specs.declared.Trap.{Trap}
+use Rattle.numbers.specs.TrapNumber.{trap_number}
 
 -- Us are the records, and Vs the copies, which run.
 module _ (Ms : Modules) (Us Vs : Subjects)
@@ -49,19 +51,20 @@ module _ (Ms : Modules) (Us Vs : Subjects)
         let T = step-stops (running Ms c.state.registers.gp) c.state (λ w. let z : ◌≡◌ {A = ℕ} 0 1 = cc in omega arith) in
         record { steps = n; last = c; visited = v; ending = finish; proper = tt; within = l; ends = rw T }
 
-    trapped-at : (k : ℕ) → (step_on Ms c).outcome ≡ Trapped k → DataTrap k → EndsSo (ended Ms (stop k) n (step_on Ms c).state)
-    trapped-at k e d =
+    trapped-at : (t : Trap) → (step_on Ms c).outcome ≡ Trapped t → DataTrap (trap_number t)
+        → EndsSo (ended Ms (stop t) n (step_on Ms c).state)
+    trapped-at t e d =
         let T = step-stops (running Ms c.state.registers.gp) c.state (λ w. let z : ◌≡◌ {A = ℕ} 0 1 = cc in omega arith) in
-        record { steps = n; last = c; visited = v; ending = stop k; proper = d; within = l; ends = rw T }
+        record { steps = n; last = c; visited = v; ending = stop t; proper = d; within = l; ends = rw T }
 
     ended_at : (left : ℕ) → Inv Ms Vs c → (o : Outcome) → (step_on Ms c).outcome ≡ o
         → ((step_on Ms c).outcome ≡ Went → EndsSo (run_from Ms left (suc n) (advance Ms Us c).state))
         → EndsSo (proceed Ms (run_from Ms left (n + 1)) n o (step_on Ms c).state)
     ended_at left J Went e later = let z : n + 1 ≡ suc n = omega arith in rw z (later e)
     ended_at left J Finished e later = finished-at e
-    ended_at left J (Trapped k) e later =
+    ended_at left J (Trapped t) e later =
         let now = at_place Ms Vs G c J in
-        trapped-at k e
+        trapped-at t e
         (subst (λ (x : Outcome). Steps (U Ms Vs G c J) (E Ms Vs G c J) c now.out (linkage_of (shape_of now.instruction)) x) e
         (steps Ms Vs G c J))
 
@@ -73,7 +76,7 @@ module _ (Ms : Modules) (Us Vs : Subjects)
       (λ w. run_ends left (one_more v w) (omega arith))
 
 module _ (S : Members) (spaces : ℕ → List ℕ) (parameters copy m s : List ℕ) (q : Registers) (bytes : AllBytes S)
-    (accepted : AllAccepted S spaces) (ready : (set_load S parameters copy m s).answer ≡ Ready q) (R : Ruled S) where
+    (accepted : AllAccepted S spaces) (ready : (set_load S parameters copy m s).answer ≡ Ok q) (R : Ruled S) where
   -- Stands apart from `claim`, for a joined call needs no more to know that its run is not refused.
   pub loaded-ends : (budget : ℕ)
       → Ends (modules_of S) (subject S R) (loaded_configuration (S0 S spaces parameters copy m s q bytes accepted ready R)) budget

@@ -12,7 +12,7 @@ use Rattle.registers.specs.declared.Registers.{Registers}
 use Rattle.registers.specs.Modules.{Modules}
 use Rattle.registers.specs.Program.{program_at}
 use Rattle.registers.specs.State.{State, state}
-use Rattle.load.specs.declared.Loaded.TheVariants.{Ready}
+use Rattle.std.specs.Prelude.{Ok}
 use Rattle.load.specs.Modules.{modules_of}
 use Rattle.load.specs.Load.{Loading, loading, loaded_memory, start_of, set_load_number, set_load}
 use Rattle.load.proofs.Modules.{modules-length, set-some}
@@ -27,7 +27,7 @@ use Rattle.invariant.proofs.Places.{Together}
 use Rattle.safety.specs.Demand3.{loaded_configuration}
 
 module _ (S : Members) (parameters copy m s : List ℕ) (q : Registers)
-    (ready : (set_load S parameters copy m s).answer ≡ Ready q) where
+    (ready : (set_load S parameters copy m s).answer ≡ Ok q) where
   abbrev pub L : Loading
   L = set_load S parameters copy m s
 
@@ -43,7 +43,7 @@ module _ (S : Members) (parameters copy m s : List ℕ) (q : Registers)
   start : q ≡ start_of (program_at Ms 0)
   start = (ready-number S parameters copy m s q ready).1
 
-  left : loading (Ready (start_of (program_at Ms 0))) (over (copy_of S) copy) (loaded_memory S parameters (length m)) ≡ L
+  left : loading (Ok (start_of (program_at Ms 0))) (over (copy_of S) copy) (loaded_memory S parameters (length m)) ≡ L
   left = loads S parameters copy m s taken
 
   first : 0 < length Ms

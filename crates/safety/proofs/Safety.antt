@@ -13,7 +13,7 @@ use Rattle.registers.specs.Memory.{read}
 use Rattle.registers.specs.Modules.{Modules, is_fixed}
 use Rattle.registers.specs.Program.{running as runningProgram}
 use Rattle.registers.specs.State.{State}
-use Rattle.load.specs.declared.Loaded.TheVariants.{Ready}
+use Rattle.std.specs.Prelude.{Ok}
 use Rattle.load.specs.Modules.{modules_of}
 use Rattle.load.specs.Load.{set_load}
 use Rattle.load.proofs.Modules.{modules-length}
@@ -78,7 +78,7 @@ module _ (Ms : Modules) (Us Vs : Subjects)
   keeps (one_more {c = c} v w) = keeps_on c (keeps v) w
 
 module _ (S : Members) (spaces : ℕ → List ℕ) (parameters copy m s : List ℕ) (q : Registers) (bytes : AllBytes S)
-    (accepted : AllAccepted S spaces) (ready : (set_load S parameters copy m s).answer ≡ Ready q) (R : Ruled S) where
+    (accepted : AllAccepted S spaces) (ready : (set_load S parameters copy m s).answer ≡ Ok q) (R : Ruled S) where
   abbrev Ms : Modules
   Ms = modules_of S
 

@@ -13,7 +13,7 @@ use Rattle.stackmap.specs.StackMap.{Map, IsMap, Reached}
 use Rattle.module_set.specs.Members.{Members}
 use Rattle.verifier.specs.Check.{set_check}
 use Rattle.verifier.specs.Exact.{Ruled, subject, AllBytes, Shows}
-use Rattle.load.specs.declared.Loaded.TheVariants.{Ready}
+use Rattle.std.specs.Prelude.{Ok}
 use Rattle.run.specs.declared.End.{End}
 use Rattle.run.specs.declared.End.TheVariants.{Finished, Spent, Trapped}
 use Rattle.load.specs.Modules.{modules_of}
@@ -21,12 +21,13 @@ use Rattle.load.specs.Load.{set_load}
 use Rattle.run.specs.Run.{Result, ended, counted, Within, set_run}
 use Rattle.invariant.specs.Active.{Subjects, running_member, running, share_of, Configuration, Visits}
 use Rattle.invariant.specs.Shares.{Holds, Linked, SameFrom, Unread}
+use Rattle.numbers.specs.TrapNumber.{trap_number}
 
 -- "the run finishes, spends its budget, or ends in one of the nine data traps, never in one of the four code traps".
 abbrev pub Proper : End → Type 0
 Proper Finished = Unit {0}
 Proper Spent = Unit {0}
-Proper (Trapped n) = DataTrap n
+Proper (Trapped t) = DataTrap (trap_number t)
 
 -- What holds of each configuration: `spaces` are the modules' workspaces as their checks left them, S0 the state as loaded.
 pub record Safe (Ms : Modules) (Us : Subjects) (spaces : ℕ → List ℕ) (S0 : State) (c : Configuration) : Type 0 where
@@ -99,6 +100,6 @@ AllAccepted S spaces = (k : ℕ) → k < length S → (set_check S k (spaces k))
 abbrev pub Claim : Type 0
 Claim =
     (S : Members) (spaces : ℕ → List ℕ) (parameters copy m s : List ℕ) (q : Registers) → AllBytes S → AllAccepted S spaces
-    → (set_load S parameters copy m s).answer ≡ Ready q → (R : Ruled S)
+    → (set_load S parameters copy m s).answer ≡ Ok q → (R : Ruled S)
     → let L = set_load S parameters copy m s in
     Demand3 S L.copy (spaces_left S spaces) (state q L.memory s) (subject S R)

@@ -15,7 +15,7 @@ use Rattle.opcode.specs.Length.{length_of, length_in}
 use Rattle.opcode.specs.Decode.{made, instruction_at, decode_at}
 use Rattle.opcode.proofs.Rows.{row-passes}
 use Rattle.opcode.proofs.Found.{Found, Origin, single, double, origin, decoded, unprefixed}
-use Rattle.opcode.specs.declared.Decoded.TheVariants.{At}
+use Rattle.std.specs.Prelude.{Ok}
 use Rattle.opcode.specs.declared.instruction.Mode.{Mode}
 use Rattle.opcode.specs.declared.instruction.Mode.TheVariants.{Normal, Double}
 use Rattle.opcode.specs.declared.instruction.Instruction.{Instruction}
@@ -57,7 +57,7 @@ module _ (m : Mode) (code : List ℕ) (at : ℕ) where
       by true n t s e = e
       by false n t s e = absurd (s refl)
 
-module _ (code : List ℕ) (limit at next : ℕ) (i : Instruction) (e : decode_at code limit at ≡ At i next) where
+module _ (code : List ℕ) (limit at next : ℕ) (i : Instruction) (e : decode_at code limit at ≡ Ok (i, next)) where
   shape-begins : begins (shape_of i) (byte_at code at) ≡ true
   unfolding shape_of length_in instruction_at
   shape-begins = by (origin code limit i next at e)
@@ -95,7 +95,7 @@ module _ (code : List ℕ) (limit at next : ℕ) (i : Instruction) (e : decode_a
       cc (rw f at (ap shape_of r.same))
 
   -- A wider limit changes nothing.
-  pub decoded-wider : (more : ℕ) → limit ≤ more → decode_at code more at ≡ At i next
+  pub decoded-wider : (more : ℕ) → limit ≤ more → decode_at code more at ≡ Ok (i, next)
   decoded-wider more l = decoded code more i next at (by (origin code limit i next at e))
     where
       widened : {m : Mode} {k : ℕ} → Found m code limit k i next → Found m code more k i next

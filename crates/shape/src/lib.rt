@@ -49,11 +49,8 @@ pub fn popped_words(base: Base) -> u32
     ensures { result ≡ popped base }
 {
     match base {
-        Base::Local => 0,
-        Base::Global => 0,
-        Base::Constant => 0,
         Base::Popped => 1,
-        Base::External(_) => 0,
+        Base::Local | Base::Global | Base::Constant | Base::External(_) => 0,
     }
 }
 
@@ -71,18 +68,14 @@ pub fn operand_words(op: Operation) -> u32
     ensures { result ≡ operands op }
 {
     match op {
-        Operation::Signed(_) => 2,
-        Operation::Unsigned(_) => 2,
-        Operation::Negate => 1,
-        Operation::Equal => 2,
-        Operation::NotEqual => 2,
-        Operation::CompareSigned(_) => 2,
-        Operation::CompareUnsigned(_) => 2,
-        Operation::Set(_) => 2,
-        Operation::Not => 1,
+        Operation::Negate | Operation::Not => 1,
+        Operation::Signed(_) | Operation::Unsigned(_) | Operation::Set(_) => 2,
+        Operation::Equal | Operation::NotEqual => 2,
+        Operation::CompareSigned(_) | Operation::CompareUnsigned(_) => 2,
     }
 }
 
+#[tactic(auto, unfolding(crate::specs::Shape::shape_of))]
 pub fn shape_of(i: Instruction) -> Shape
     ensures { result ≡ shape_of i }
 {
@@ -101,8 +94,7 @@ pub fn shape_of(i: Instruction) -> Shape
         Instruction::Free => Shape::Straight(1, 0),
         Instruction::Jump(distance) => Shape::Jump(distance),
         Instruction::JumpC(distance) => Shape::JumpC(distance),
-        Instruction::JumpT(distance) => Shape::JumpTF(distance),
-        Instruction::JumpF(distance) => Shape::JumpTF(distance),
+        Instruction::JumpT(distance) | Instruction::JumpF(distance) => Shape::JumpTF(distance),
         Instruction::Iter(distance) => Shape::Iter(distance),
         Instruction::Next => Shape::Next,
         Instruction::Switch(n) => Shape::Switch(Table::Branches, n),
@@ -120,19 +112,11 @@ pub fn words_found(shape: Shape) -> u32
     ensures { result ≡ finds shape }
 {
     match shape {
-        Shape::Straight(pops, _) => pops,
-        Shape::Pop(n) => n,
-        Shape::Jump(_) => 0,
-        Shape::JumpC(_) => 1,
-        Shape::JumpTF(_) => 1,
+        Shape::Straight(n, _) | Shape::Pop(n) | Shape::Enter(n) => n,
+        Shape::Jump(_) | Shape::Call(_) | Shape::CallExternal(_, _) | Shape::Rtn => 0,
+        Shape::JumpC(_) | Shape::JumpTF(_) | Shape::Switch(_, _) | Shape::Leave => 1,
         Shape::Iter(_) => 4,
         Shape::Next => 5,
-        Shape::Switch(_, _) => 1,
-        Shape::Leave => 1,
-        Shape::Call(_) => 0,
-        Shape::CallExternal(_, _) => 0,
-        Shape::Enter(parameters) => parameters,
-        Shape::Rtn => 0,
     }
 }
 

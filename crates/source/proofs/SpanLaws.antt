@@ -10,7 +10,7 @@ use borrow.Author.Tests.{ltb-true, lt-ltb, le-ltb}
 use Rattle.header.specs.declared.Header.{Header}
 use Rattle.words.specs.Order.{rising}
 use Rattle.source.specs.declared.Span.{Span}
-use Rattle.source.specs.declared.Lookup.TheVariants.{Found, Outside}
+use Rattle.std.specs.Prelude.{Some, None}
 use Rattle.source.specs.Source.{source_offsets, source_sound, covering, pair_of, line_at}
 use Rattle.source.specs.Span.{end_of, span_of, lookup_at, lookup_line}
 use Rattle.source.specs.Spans.{In, SpanHolds, SameSpan, SpansCover, OutsideHasNone, SpansApart, LineAgrees}
@@ -18,7 +18,7 @@ use Rattle.source.specs.Spans.{LastLineEnds, BeforeFirstPair, WithoutPairs}
 use Rattle.source.proofs.Pairs.{pairs-length, pair-first, pair_end}
 use Rattle.source.proofs.Covering.{covering-most, covering-from, covering-next, rising-limit, covering-only}
 
-told : (b : Bool) (s t : Span) → cond b (Found s) Outside ≡ Found t → (b ≡ true) × (s ≡ t)
+told : (b : Bool) (s t : Span) → cond b (Some s) None ≡ Some t → (b ≡ true) × (s ≡ t)
 told true s t e = (refl, cc)
 told false s t e = let z : ◌≡◌ {A = ℕ} 0 1 = cc in absurd (omega arith)
 
@@ -38,7 +38,7 @@ module _ (r : List ℕ) (h : Header) where
   pub ends-behind : (offset : ℕ) → offset < h.code → offset < end_of r h (coverer offset)
   ends-behind offset within = rw (pair_end r h (coverer offset)) (covering-next h.code offset (source_offsets r h) within)
 
-  found : (offset : ℕ) (s : Span) → lookup_at r h offset ≡ Found s → (offset < h.code) × (span_of r h (coverer offset) ≡ s)
+  found : (offset : ℕ) (s : Span) → lookup_at r h offset ≡ Some s → (offset < h.code) × (span_of r h (coverer offset) ≡ s)
   unfolding lookup_at
   found offset s e =
       let t = told (ltb offset h.code) (span_of r h (coverer offset)) s e in
@@ -92,7 +92,7 @@ spans_apart r h one other offset s t sound e f i j =
     let b = same_span r h other offset t sound f j in
     cc
 
-both-lines : (b : Bool) (s : Span) → lookup_line (cond b (Found s) Outside) ≡ cond b s.line 0
+both-lines : (b : Bool) (s : Span) → lookup_line (cond b (Some s) None) ≡ cond b s.line 0
 both-lines true s = refl
 both-lines false s = refl
 
@@ -105,7 +105,7 @@ last-line-ends r h s sound e = let held = span-holds r h (h.code - 1) s sound e 
 
 -- No pair covers the offset: the span is the one before the first pair, which ends at a place.
 first-span : (r : List ℕ) (h : Header) (offset end : ℕ) → offset < h.code → coverer r h offset ≡ 0 → end_of r h 0 ≡ end
-    → lookup_at r h offset ≡ Found (record { first = 0; last = end - 1; line = 0 })
+    → lookup_at r h offset ≡ Some (record { first = 0; last = end - 1; line = 0 })
 unfolding lookup_at
 first-span r h offset end within none e = rw (lt-ltb offset h.code within, none, e)
 

@@ -16,13 +16,6 @@ pub struct Span {
     pub line: u32,
 }
 
-// What the line lookup answers for an offset.
-#[derive(Clone, Copy)]
-pub enum Lookup {
-    Found(Span),
-    Outside,
-}
-
 pub fn source_sound(r: &[u8], h: Header) -> bool
     ensures { result ≡ source_sound r.now h }
 {
@@ -85,16 +78,17 @@ pub fn end_of(r: &[u8], h: Header, k: u32) -> u32
     h.code
 }
 
-pub fn lookup_at(r: &[u8], h: Header, offset: u32) -> Lookup
+// The line's span; none past the code.
+pub fn lookup_at(r: &[u8], h: Header, offset: u32) -> Option<Span>
     ensures { result ≡ lookup_at r.now h offset }
 {
     if h.code <= offset {
-        return Lookup::Outside;
+        return None;
     }
     let k = pairs_covering(r, h, offset);
     let pair = pair_of(r, h, k);
     let end = end_of(r, h, k);
-    Lookup::Found(Span {
+    Some(Span {
         first: pair.first,
         last: end - 1,
         line: pair.second,

@@ -1,10 +1,8 @@
 -- Stack maps (01: pictures). "A picture gives some instruction starts of a region a list of slots, at most 255."
-use Rattle.std.specs.Prelude.{true, List, [], ◌∷◌, ◌≡◌, ℕ, ◌≤◌, length}
+use Rattle.std.specs.Prelude.{Err, Ok, true, List, [], ◌∷◌, ◌≡◌, ℕ, ◌≤◌, length}
 use Rattle.std.proofs.Math.Option.{Option, none, some}
 use Rattle.entries.specs.Entries.{entry_at, region_end}
-use Rattle.opcode.specs.Decode.{decode_at}
-use Rattle.opcode.specs.declared.Decoded.{Decoded}
-use Rattle.opcode.specs.declared.Decoded.TheVariants.{Unserved, Past, At}
+use Rattle.opcode.specs.Decode.{Decoded, decode_at}
 use Rattle.shape.specs.Shape.{shape_of}
 use Rattle.layout.specs.Cut.{starts_in}
 use Rattle.stackmap.specs.Slots.{Slot, push_words}
@@ -12,9 +10,8 @@ use Rattle.stackmap.specs.Ways.{Subject, Way, ◌gets◌, parameters_in, ways}
 
 -- The ways out of what is decoded at an offset of procedure p.
 abbrev pub ways_of : Subject → ℕ → ℕ → List Slot → Decoded → Option (List Way)
-ways_of U p at l Unserved = none
-ways_of U p at l Past = none
-ways_of U p at l (At i next) = ways U p at next (shape_of i) l
+ways_of U p at l (Err e) = none
+ways_of U p at l (Ok (i, next)) = ways U p at next (shape_of i) l
 
 unfoldable pub ways_at : Subject → ℕ → ℕ → List Slot → Option (List Way)
 ways_at U p at l = ways_of U p at l (decode_at U.code (region_end U.code p) at)

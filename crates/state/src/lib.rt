@@ -11,16 +11,11 @@ ghost use Rattle.registers.specs.Memory.{link_words, chained, link_based, links_
 use registers::{Attributes, Registers, access, table};
 
 // Whether memory and stack have sizes that load takes.
+#[tactic(auto, unfolding(crate::specs::Fits::sizes_taken))]
 pub fn sizes_taken(frames: usize, memory: &[u32], stack: &[u32]) -> bool
     ensures { result ≡ sizes_taken frames memory.now stack.now }
 {
-    if memory.len() < frames {
-        return false;
-    }
-    if 16384 < memory.len() {
-        return false;
-    }
-    stack.len() <= 1024
+    frames <= memory.len() && memory.len() <= 16384 && stack.len() <= 1024
 }
 
 // Whether following the saved FP so many times, each at least its link words lower, ends at `start`.
@@ -56,10 +51,8 @@ fn link_based(table: &[u32], memory: &[u32], frame: usize) -> bool
     ensures { (copy : List ℕ)
         → result ≡ link_based (modules_in table.now copy) memory.now frame }
 {
-    if access::link_words(memory, frame) == 2 {
-        return true;
-    }
-    is_base(table, access::word_at(memory, frame - 3) as usize)
+    access::link_words(memory, frame) == 2
+        || is_base(table, access::word_at(memory, frame - 3) as usize)
 }
 
 // Whether this is so of each active call.
@@ -80,21 +73,19 @@ fn links_based(table: &[u32], memory: &[u32], start: usize, fp: u32, calls: u32)
 }
 
 // Whether the header words of module `k`, whose data frame begins at `start` with so many globals, are as load writes them.
+#[tactic(auto, unfolding(crate::specs::Fits::header_kept))]
 fn header_kept(memory: &[u32], k: usize, start: usize, globals: usize) -> bool
     requires start_bound { start ≤ 0x40_0000_0000 }
     requires globals_bound { globals ≤ 0x40_0000_0000 }
     ensures { result ≡ header_kept memory.now k start globals }
 {
-    if access::word_at(memory, start) != 0 {
-        return false;
-    }
-    if (access::word_at(memory, start + 1) as usize) != k {
-        return false;
-    }
-    (access::word_at(memory, start + 2) as usize) == start + 3 + globals
+    access::word_at(memory, start) == 0
+        && access::word_at(memory, start + 1) as usize == k
+        && access::word_at(memory, start + 2) as usize == start + 3 + globals
 }
 
 // Whether the header words of all modules are.
+// Kept: rows by number, as in registers' table.
 fn headers_kept(table: &[u32], memory: &[u32]) -> bool
     requires { length table.now ≤ 80 }
     ensures { (copy : List ℕ) → result ≡ headers_kept 0 0 (modules_in table.now copy) memory.now }
@@ -112,50 +103,37 @@ fn headers_kept(table: &[u32], memory: &[u32]) -> bool
 }
 
 // Whether the registers stay within memory and stack.
+#[tactic(auto, unfolding(crate::specs::Fits::registers_fit))]
 fn registers_fit(attributes: Attributes, q: Registers, memory: &[u32], stack: &[u32]) -> bool
     ensures { result ≡ registers_fit attributes q memory.now stack.now }
 {
-    if q.gp != attributes.globals {
-        return false;
-    }
-    if q.mp < q.fp {
-        return false;
-    }
-    if memory.len() < (q.mp as usize) {
-        return false;
-    }
-    if stack.len() < (q.height as usize) {
-        return false;
-    }
-    q.calls <= 64
+    q.gp == attributes.globals
+        && q.fp <= q.mp
+        && q.mp as usize <= memory.len()
+        && q.height as usize <= stack.len()
+        && q.calls <= 64
 }
 
 // Whether globals, constants and frames follow each other.
+#[tactic(auto, unfolding(crate::specs::Fits::ordered))]
 fn is_ordered(attributes: Attributes) -> bool
     ensures { result ≡ ordered attributes }
 {
-    if attributes.constants < attributes.globals {
-        return false;
-    }
-    attributes.constants <= attributes.frames
+    attributes.globals <= attributes.constants && attributes.constants <= attributes.frames
 }
 
 // Whether the steps of the running module find their bounds.
+#[tactic(auto, unfolding(crate::specs::Fits::bounded))]
 fn is_bounded(attributes: Attributes, q: Registers, memory: &[u32], stack: &[u32]) -> bool
     ensures { result ≡ bounded attributes (state q memory.now stack.now) }
 {
-    if !is_ordered(attributes) {
-        return false;
-    }
-    if !sizes_taken(attributes.frames as usize, memory, stack) {
-        return false;
-    }
-    if !registers_fit(attributes, q, memory, stack) {
-        return false;
-    }
-    is_chained(memory, attributes.frames as usize, q.fp, q.calls)
+    is_ordered(attributes)
+        && sizes_taken(attributes.frames as usize, memory, stack)
+        && registers_fit(attributes, q, memory, stack)
+        && is_chained(memory, attributes.frames as usize, q.fp, q.calls)
 }
 
+#[tactic(auto, unfolding(crate::specs::Fits::fits))]
 pub fn state_fits(
     table: &[u32],
     attributes: Attributes,
@@ -167,11 +145,7 @@ pub fn state_fits(
     ensures { (code copy : List ℕ) → result
         ≡ fits (program code attributes (modules_in table.now copy)) (state q memory.now stack.now) }
 {
-    if !is_bounded(attributes, q, memory, stack) {
-        return false;
-    }
-    if !headers_kept(table, memory) {
-        return false;
-    }
-    links_based(table, memory, attributes.frames as usize, q.fp, q.calls)
+    is_bounded(attributes, q, memory, stack)
+        && headers_kept(table, memory)
+        && links_based(table, memory, attributes.frames as usize, q.fp, q.calls)
 }

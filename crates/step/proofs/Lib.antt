@@ -5,3 +5,5 @@ pub mod Intact
 pub mod Steady
 pub mod Preservation
 pub mod Running
+pub mod Decoding
+pub mod Copying

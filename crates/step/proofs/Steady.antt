@@ -46,7 +46,7 @@ pub record Steady (Ms : Modules) (q₀ q : Registers) (m n : List ℕ) : Type 0 
 
 -- An effect leaves registers and memory so, whatever words go.
 abbrev pub Keeps : Modules → Registers → List ℕ → Effect → Type 0
-Keeps Ms q₀ m (Trap n) = Unit {0}
+Keeps Ms q₀ m (Trap t) = Unit {0}
 Keeps Ms q₀ m Finish = Unit {0}
 Keeps Ms q₀ m (Go pops push write q) = (vs : List ℕ) → Steady Ms q₀ q m (written m vs write)
 

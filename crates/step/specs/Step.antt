@@ -4,8 +4,9 @@
 use Rattle.std.specs.Prelude.{cond, List, [], ◌∷◌, ℕ, ◌+◌, ◌-◌, eqb, ltb, length}
 use Rattle.std.proofs.lemmas.List.Edits.{sets}
 use Rattle.opcode.specs.Decode.{decode_at}
-use Rattle.opcode.specs.declared.Decoded.{Decoded}
-use Rattle.opcode.specs.declared.Decoded.TheVariants.{Unserved, Past, At}
+use Rattle.opcode.specs.Decode.{Decoded}
+use Rattle.opcode.specs.declared.DecodeError.TheVariants.{Unserved, Past}
+use Rattle.std.specs.Prelude.{Err, Ok}
 use Rattle.shape.specs.Shape.{needed}
 use Rattle.effect.specs.declared.effect.Push.{Push}
 use Rattle.effect.specs.declared.effect.Push.TheVariants.{NoPush, PushOne, PushTwo}
@@ -24,6 +25,8 @@ use Rattle.step.specs.declared.Machine.{Machine}
 use Rattle.step.specs.declared.Stepped.{Stepped}
 use Rattle.step.specs.declared.Outcome.{Outcome}
 use Rattle.step.specs.declared.Outcome.TheVariants.{Went, Finished, Trapped}
+use Rattle.numbers.specs.declared.Trap.{Trap as Cause}
+use Rattle.numbers.specs.declared.Trap.TheVariants as cause
 
 -- How a step ended, and the state that it left.
 pub record After : Type 0 where
@@ -37,8 +40,8 @@ after o S = record { outcome = o; state = S }
 abbrev pub left : Stepped → List ℕ → List ℕ → After
 left r m s = after r.outcome (state r.machine.registers m s)
 
-abbrev pub trapping : Machine → ℕ → Stepped
-trapping M n = record { outcome = Trapped n; machine = M }
+abbrev pub trapping : Machine → Cause → Stepped
+trapping M t = record { outcome = Trapped t; machine = M }
 
 abbrev pub pushed : Push → List ℕ
 pushed NoPush = []
@@ -66,18 +69,18 @@ code_after P gp = cond (eqb gp P.attributes.globals) P.code (running P.modules g
 
 -- The effect is carried out: room for the pushed words (36 is "stack full"), then the next place (21).
 unfoldable pub apply : Program → State → Effect → After
-apply P S (Trap n) = after (Trapped n) S
+apply P S (Trap t) = after (Trapped t) S
 apply P S Finish = after Finished S
 apply P S (Go pops push write q) =
-    cond (ltb (length S.stack) (S.registers.height - pops + pushes push)) (after (Trapped 36) S)
-    (cond (ltb q.pc (length (code_after P q.gp))) (after Went (applied S pops push write q)) (after (Trapped 21) S))
+    cond (ltb (length S.stack) (S.registers.height - pops + pushes push)) (after (Trapped cause.StackFull) S)
+    (cond (ltb q.pc (length (code_after P q.gp))) (after Went (applied S pops push write q)) (after (Trapped cause.Outside) S))
 
 -- Code traps: 20 is "unserved", 21 "offset or bytes outside the code", 22 "too few stack words".
 unfoldable pub perform : Program → State → Decoded → After
-perform P S Unserved = after (Trapped 20) S
-perform P S Past = after (Trapped 21) S
-perform P S (At i next) =
-    cond (ltb S.registers.height (needed i)) (after (Trapped 22) S) (apply P S (executed P S next i))
+perform P S (Err Unserved) = after (Trapped cause.Unserved) S
+perform P S (Err Past) = after (Trapped cause.Outside) S
+perform P S (Ok (i, next)) =
+    cond (ltb S.registers.height (needed i)) (after (Trapped cause.TooFewWords) S) (apply P S (executed P S next i))
 
 unfoldable pub step_of : Program → State → After
 step_of P S = perform P S (decode_at P.code (length P.code) S.registers.pc)

@@ -3,7 +3,6 @@
 
 ghost use Rattle.std.specs.Prelude.{◌≡◌, true, ◌≤◌, ◌<◌, ◌-◌, length, take, drop};
 ghost use Rattle.std.proofs.lemmas.List.Edits.{sets};
-ghost use Rattle.opcode.specs.Sheet.{Sheet};
 ghost use Rattle.effect.specs.Data.{pushes};
 ghost use Rattle.registers.specs.Modules.{modules_in, frames_start};
 ghost use Rattle.registers.specs.Program.{program};
@@ -12,10 +11,12 @@ ghost use Rattle.state.specs.Fits.{bounded};
 ghost use Rattle.step.specs.Step.{left, trapping, pushed, written, code_after, apply, step_of};
 
 use effect::effect::{Effect, Push, Write};
-use opcode::Decoded;
+use numbers::Trap;
+use opcode::format::FormatSheet;
 use registers::{Attributes, Registers, table};
 
 // The words of `src` copied to the front of `dst`, as many as it has room for.
+// Kept: a loop, since `copy_from_slice` takes memmove, and the library for C takes memset alone (include/icode.h).
 fn copy_words(dst: &mut [u32], src: &[u32])
     ensures { dst.new ≡ sets dst.old 0 src.now }
 {
@@ -29,18 +30,10 @@ fn move_words(memory: &mut [u32], a: u32, stack: &[u32], low: usize, n: u32)
     ensures { memory.new ≡ sets memory.old a (take n (drop low stack.now)) }
 {
     let from = a as usize;
-    if memory.len() < from {
-        return;
+    if from <= memory.len() && low <= stack.len() {
+        let words = &stack[low..];
+        copy_words(&mut memory[from..], &words[..words.len().min(n as usize)]);
     }
-    if stack.len() <= low {
-        return;
-    }
-    let end = low + (n as usize);
-    if stack.len() < end {
-        copy_words(&mut memory[from..], &stack[low..]);
-        return;
-    }
-    copy_words(&mut memory[from..], &stack[low..end]);
 }
 
 fn write_words(memory: &mut [u32], stack: &[u32], low: usize, pops: u32, write: Write)
@@ -87,10 +80,7 @@ fn push_words(stack: &mut [u32], low: usize, push: Push)
 fn low_word(height: u32, pops: u32) -> usize
     ensures { (result ≡ height - pops) × (result < 0x1_0000_0000) }
 {
-    if height < pops {
-        return 0;
-    }
-    (height - pops) as usize
+    height.saturating_sub(pops) as usize
 }
 
 fn push_count(push: Push) -> usize
@@ -135,7 +125,7 @@ pub struct Machine {
 pub enum Outcome {
     Went,
     Finished,
-    Trapped(u32),
+    Trapped(Trap),
 }
 
 // A step's outcome, and the machine after it.
@@ -146,18 +136,18 @@ pub struct Stepped {
 }
 
 impl Machine {
-    fn trapped(self, n: u32) -> Stepped
-        ensures { result ≡ trapping self n }
+    fn trapped(self, trap: Trap) -> Stepped
+        ensures { result ≡ trapping self trap }
     {
         Stepped {
-            outcome: Outcome::Trapped(n),
+            outcome: Outcome::Trapped(trap),
             machine: self,
         }
     }
 
     // Carries an effect out.
     fn apply(
-        mut self,
+        self,
         table: &[u32],
         copy: &[u8],
         code: &[u8],
@@ -173,7 +163,7 @@ impl Machine {
             (state self.registers memory.old stack.old) e }
     {
         match e {
-            Effect::Trap(n) => self.trapped(n),
+            Effect::Trap(trap) => self.trapped(trap),
             Effect::Finish => Stepped {
                 outcome: Outcome::Finished,
                 machine: self,
@@ -182,17 +172,18 @@ impl Machine {
                 let low = low_word(self.registers.height, pops);
                 let height = low + push_count(push);
                 if stack.len() < height {
-                    return self.trapped(36);
+                    return self.trapped(Trap::StackFull);
                 }
                 if code_size(table, copy, code, attributes, next.gp) <= (next.pc as usize) {
-                    return self.trapped(21);
+                    return self.trapped(Trap::Outside);
                 }
                 write_words(memory, stack, low, pops, write);
                 push_words(stack, low, push);
-                self.registers = next.raised(height as u32);
                 Stepped {
                     outcome: Outcome::Went,
-                    machine: self,
+                    machine: Machine {
+                        registers: next.raised(height as u32),
+                    },
                 }
             }
         }
@@ -200,8 +191,8 @@ impl Machine {
 
     // One step; a trap leaves registers, memory and stack as they were.
     pub fn step(
-        mut self,
-        formats: &[u16],
+        self,
+        formats: FormatSheet<'_>,
         table: &[u32],
         copy: &[u8],
         code: &[u8],
@@ -209,7 +200,6 @@ impl Machine {
         memory: &mut [u32],
         stack: &mut [u32],
     ) -> Stepped
-        requires sheet { Sheet formats.now }
         requires code_len_bound { length code.now ≤ 4096 }
         requires table_len_bound { length table.now ≤ 80 }
         requires copy_bound { frames_start (modules_in table.now copy.now) ≤ 16384 }
@@ -219,13 +209,11 @@ impl Machine {
             (state self.registers memory.old stack.old) }
     {
         let q = self.registers;
-        let decoded = opcode::decode(formats, code, code.len(), q.pc as usize);
-        match decoded {
-            Decoded::Unserved => self.trapped(20),
-            Decoded::Past => self.trapped(21),
-            Decoded::At(i, next) => {
+        match opcode::decode(formats, code, code.len(), q.pc as usize) {
+            Err(error) => self.trapped(Trap::from(error)),
+            Ok((i, next)) => {
                 if q.height < shape::needed_words(i) {
-                    return self.trapped(22);
+                    return self.trapped(Trap::TooFewWords);
                 }
                 let e = execute::execute(
                     table,

@@ -47,12 +47,9 @@ pub fn table_target(code: &[u8], at: usize, table: Table, k: u32) -> usize
 {
     match table {
         Table::Branches => place_at(at, switch_table::branch_distance(code, at, k) as u32),
-        Table::Ranges => {
-            let distance = switch_table::range_distance(code, at, k);
-            if distance == 0 {
-                return else_target(code, at);
-            }
-            place_at(at, distance as u32)
-        }
+        Table::Ranges => match switch_table::range_distance(code, at, k) {
+            0 => else_target(code, at),
+            distance => place_at(at, distance as u32),
+        },
     }
 }

@@ -42,10 +42,8 @@ fn range_holds(code: &[u8], at: usize, k: u32, x: u32) -> bool
     ensures { result ≡ range_holds code.now at k x }
 {
     let lower = words::word_behind(code, at, 7 + 10 * (k as usize));
-    if !integer::at_most(lower, x) {
-        return false;
-    }
-    integer::at_most(x, words::word_behind(code, at, 11 + 10 * (k as usize)))
+    integer::at_most(lower, x)
+        && integer::at_most(x, words::word_behind(code, at, 11 + 10 * (k as usize)))
 }
 
 // The distance of the first of `n` ranges that holds `x`; 0 where none does.
@@ -53,7 +51,8 @@ pub fn search_distance(code: &[u8], at: usize, n: u32, x: u32) -> u16
     ensures { result ≡ search_distance code.now at n x }
 {
     let mut k = 0;
-    let distance = loop {
+    // Kept: a `loop` that yields the distance by `break`, which 01's list of forms names; a `for` over `k` yields nothing.
+    loop {
         if k == n {
             break 0;
         }
@@ -61,6 +60,5 @@ pub fn search_distance(code: &[u8], at: usize, n: u32, x: u32) -> u16
             break range_distance(code, at, k);
         }
         k += 1;
-    };
-    distance
+    }
 }

@@ -1,17 +1,16 @@
 -- Text written piece by piece, and how long numbers are. Stores one after the other are the stores of the joined text, whether there is
 -- room for them or not, so a piece behind a piece is the two as one; a loop is told by what is left to write.
-use Prim.Native.Nat.{ℕ, zero, suc, ◌+◌, ◌*◌, ◌-◌, ◌/◌, ◌%◌, ◌≤◌, ◌<◌}
+use Prim.Native.Nat.{ℕ, zero, suc, ◌+◌, ◌*◌, ◌-◌, ◌/◌, ◌%◌, ◌^◌, ◌≤◌, ◌<◌, max}
 use mathlib.Core.Path.{◌≡◌, refl, sym, ◌∙◌, ap}
 use mathlib.Core.List.{List, [], ◌∷◌, ◌++◌, append_assoc, append-nil}
-use native.Mathlib.Nat.{add-zero}
+use native.Mathlib.Nat.{add-zero, pow-suc}
 use native.Mathlib.Omega.{arith}
+use borrow.Author.Tests.{ltb-true, ltb-false}
 use lib.Dec.{ltb}
 use lib.ListN.{length, set, get_or, drop, length-append}
-use lib.Seq.{length-sets}
-use Rattle.words.proofs.Tests.{either}
+use Rattle.words.proofs.Tests.{either, by-test}
 use Rattle.words.proofs.Slices.{drop-one}
 use Rattle.words.proofs.Sets.{sets_then}
-use Rattle.words.proofs.Arms.{Other, past}
 use Rattle.text.specs.Text.{power, digits, width, decimal, words_text, numbered, Wrote}
 
 -- A piece behind a piece.
@@ -27,9 +26,6 @@ wrote_nothing {a} {at} = record { ends = sym (add-zero at); leaves = refl }
 -- One byte is stored.
 pub wrote_one : {a b : List ℕ} {at v next : ℕ} → b ≡ set a at v → next ≡ at + 1 → Wrote a at (v ∷ []) next b
 wrote_one e n = record { ends = n; leaves = e }
-
-pub wrote-length : {a b x : List ℕ} {at next : ℕ} → Wrote a at x next b → length b ≡ length a
-wrote-length {a} {b} {x} {at} w = ap length w.leaves ∙ length-sets a at x
 
 -- Within a loop: a part of the text is done, the rest is left.
 pub record Left (before : List ℕ) (at : ℕ) (text out : List ℕ) (place : ℕ) (rest : List ℕ) : Type 0 where
@@ -52,9 +48,6 @@ module _ {before text out rest : List ℕ} {at place : ℕ} (l : Left before at 
   left_over e n =
       let all : text ≡ l.done = sym l.whole ∙ (ap (λ (r : List ℕ). l.done ++ r) e ∙ append-nil l.done) in
       rw (all, n) l.wrote
-
-  pub left-length : length out ≡ length before
-  left-length = wrote-length l.wrote
 
 -- The next of w digits.
 pub digits-one :
@@ -108,6 +101,46 @@ words-short [] = omega arith
 words-short (x ∷ xs) =
     rw (length-append (decimal x) (words_text xs)) (omega (arith, decimal-short x, words-short xs))
 
--- An exponent up to 9 that is none of 0 to 8.
-pub ninth : (k : ℕ) → k ≤ 9 → Other 9 k → k ≡ 9
-ninth k h o = omega (arith, h, past 9 k o)
+-- A number has as many digits as tell between which powers it lies; 0 has one.
+pub power-is : (k : ℕ) → 10 ^ k ≡ power k
+power-is zero = refl
+power-is (suc k) = rw pow-suc (omega (arith, power-is k))
+
+power-gap : (j k : ℕ) → j < k → 10 * power j ≤ power k
+power-gap zero zero h = absurd (omega arith)
+power-gap zero (suc k) h = omega (arith, power-positive k)
+power-gap (suc j) zero h = absurd (omega arith)
+power-gap (suc j) (suc k) h = omega (arith, power-gap j k (omega arith))
+
+abbrev Sized : ℕ → ℕ → Type 0
+Sized n k = (power (k - 1) ≤ max n 1) × (max n 1 < 10 * power (k - 1))
+
+sized : (n : ℕ) → n < 2 ^ 32 → Sized n (width n)
+unfolding width
+sized n h =
+    let P = Sized n in
+    let below = ltb-true n in
+    let from = ltb-false n in
+    by-test P (ltb n 10) _ _ (λ e. (omega arith, omega (arith, below 10 e))) (λ a.
+    by-test P (ltb n 100) _ _ (λ e. (omega (arith, from 10 a), omega (arith, below 100 e))) (λ a.
+    by-test P (ltb n 1000) _ _ (λ e. (omega (arith, from 100 a), omega (arith, below 1000 e))) (λ a.
+    by-test P (ltb n 10000) _ _ (λ e. (omega (arith, from 1000 a), omega (arith, below 10000 e))) (λ a.
+    by-test P (ltb n 100000) _ _ (λ e. (omega (arith, from 10000 a), omega (arith, below 100000 e))) (λ a.
+    by-test P (ltb n 1000000) _ _ (λ e. (omega (arith, from 100000 a), omega (arith, below 1000000 e))) (λ a.
+    by-test P (ltb n 10000000) _ _ (λ e. (omega (arith, from 1000000 a), omega (arith, below 10000000 e))) (λ a.
+    by-test P (ltb n 100000000) _ _ (λ e. (omega (arith, from 10000000 a), omega (arith, below 100000000 e))) (λ a.
+    by-test P (ltb n 1000000000) _ _ (λ e. (omega (arith, from 100000000 a), omega (arith, below 1000000000 e))) (λ a.
+    (omega (arith, from 1000000000 a), omega arith))))))))))
+
+pub width-is : (n k : ℕ) → n < 2 ^ 32 → 10 ^ k ≤ max n 1 → max n 1 < 10 * 10 ^ k → k + 1 ≡ width n
+width-is n k h low high =
+    let w = width n - 1 in
+    let s = sized n h in
+    let e = power-is k in
+    let under : k < w → ⊥ = λ l. omega (arith, power-gap k w l) in
+    let over : w < k → ⊥ = λ l. omega (arith, power-gap w k l) in
+    omega (arith, width-bounds n)
+
+-- The powers up to the ninth fit a word.
+pub power-fits : (k : ℕ) → k ≤ 9 → 10 ^ k < 2 ^ 32
+power-fits k h = omega (arith, power-is k, power-is 10, power-gap k 10)

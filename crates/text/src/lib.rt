@@ -1,8 +1,8 @@
 // Printed text, written as far as there is room: so a first pass over an empty buffer tells how long it is.
 #![tactic(auto)]
 
-ghost use Rattle.std.specs.Prelude.{◌≡◌, ◌≤◌, ◌<◌, length};
-ghost use Rattle.text.specs.Text.{power, width, decimal, words_text, list_line, numbered, check_line, end_line, Wrote};
+ghost use Rattle.std.specs.Prelude.{◌≡◌, ◌≤◌, length};
+ghost use Rattle.text.specs.Text.{width, decimal, words_text, list_line, numbered, check_line, end_line, Wrote};
 
 // Constant text.
 fn put_bytes(out: &mut [u8], at: usize, s: &[u8]) -> usize
@@ -10,62 +10,17 @@ fn put_bytes(out: &mut [u8], at: usize, s: &[u8]) -> usize
     requires s_len_bound { length s.now ≤ 100 }
     ensures { Wrote out.old at s.now result out.new }
 {
-    for i in 0..s.len() {
-        words::set_byte(out, at + i, s[i]);
+    for (i, &b) in s.iter().enumerate() {
+        words::set_byte(out, at + i, b);
     }
     at + s.len()
-}
-
-fn power_of_ten(k: u32) -> u32
-    requires { k ≤ 9 }
-    ensures { result ≡ power k }
-{
-    match k {
-        0 => 1,
-        1 => 10,
-        2 => 100,
-        3 => 1000,
-        4 => 10000,
-        5 => 100000,
-        6 => 1000000,
-        7 => 10000000,
-        8 => 100000000,
-        _ => 1000000000,
-    }
 }
 
 // How many decimal digits a number has.
 fn width_of(n: u32) -> u32
     ensures { result ≡ width n }
 {
-    if n < 10 {
-        return 1;
-    }
-    if n < 100 {
-        return 2;
-    }
-    if n < 1000 {
-        return 3;
-    }
-    if n < 10000 {
-        return 4;
-    }
-    if n < 100000 {
-        return 5;
-    }
-    if n < 1000000 {
-        return 6;
-    }
-    if n < 10000000 {
-        return 7;
-    }
-    if n < 100000000 {
-        return 8;
-    }
-    if n < 1000000000 {
-        return 9;
-    }
-    10
+    n.max(1).ilog10() + 1
 }
 
 fn put_number(out: &mut [u8], at: usize, n: u32) -> usize
@@ -74,8 +29,8 @@ fn put_number(out: &mut [u8], at: usize, n: u32) -> usize
 {
     let digits = width_of(n);
     for i in 0..digits {
-        let digit = n / power_of_ten(digits - 1 - i) % 10;
-        words::set_byte(out, at + (i as usize), 48 + (digit as u8));
+        let digit = n / 10u32.pow(digits - 1 - i) % 10;
+        words::set_byte(out, at + (i as usize), b'0' + (digit as u8));
     }
     at + (digits as usize)
 }
@@ -87,9 +42,9 @@ fn put_words(out: &mut [u8], at: usize, xs: &[u32]) -> usize
     ensures { Wrote out.old at (words_text xs.now) result out.new }
 {
     let mut place = at;
-    for i in 0..xs.len() {
+    for &x in xs {
         place = put_bytes(out, place, b" ");
-        place = put_number(out, place, xs[i]);
+        place = put_number(out, place, x);
     }
     place
 }

@@ -24,7 +24,7 @@ use Rattle.stackmap.specs.Walk.{States, blank, walk_of}
 use Rattle.verifier.specs.Check.{subject_of, refuted, walked, concluded, shown_from}
 use Rattle.workspace.specs.Checking.{checking}
 use Rattle.verifier.specs.Handing.{walked_top}
-use Rattle.verifier.specs.Examine.{examined_of, zeroed, unmarked, after_walk, after_faults, after_marks, examined_top}
+use Rattle.verifier.specs.Examine.{examined_of, zeroed, unmarked, after_walk, after_faults, after_marks, tested_top, settled, examined_top}
 use Rattle.verifier.proofs.Coherence.{Shown}
 use Rattle.verifier.proofs.Simulation.{Alike, walks-alike}
 use Rattle.verifier.proofs.Showing.{unmarked-shows}
@@ -92,7 +92,7 @@ module _ (code : List ℕ) (libraries : List Library) (results w : List ℕ) (e 
             }
 
     walks : (o : Option States) → walk_of subject ≡ o
-        → after_walk code (walked_top code libraries results marked) ≡ concluded (length code) w (walked o)
+        → settled code (after_walk (walked_top code libraries results marked)) ≡ concluded (length code) w (walked o)
     walks none f =
         rw (alike.refused f) (cleared 15 (walked_top code libraries results marked).workspace (alike.sized ∙ marked-length))
     walks (some σ) f =
@@ -104,19 +104,19 @@ module _ (code : List ℕ) (libraries : List Library) (results w : List ℕ) (e 
         rw A.accepts (ap (checking 0) z)
 
     faults : (n : ℕ) → code_number code libraries (marks_in marked (length code)) ≡ n
-        → after_faults code libraries results marked n
+        → settled code (after_faults code libraries results marked n)
         ≡ concluded (length code) w (cond (eqb n 0) (walked (walk_of subject)) (refuted n))
     faults zero f = walks (walk_of subject) refl
-    faults (suc n) f = rw (eqb-suc-zero n) (cleared (suc n) marked marked-length)
+    faults (suc n) f = rw (eqb-suc-zero n, eqb-suc-zero n) (cleared (suc n) marked marked-length)
 
   marks : (n : ℕ) → (mark_all code zeros).number ≡ n
-      → after_marks code libraries results marked n ≡ concluded (length code) w (examined_of code libraries results)
+      → settled code (after_marks code libraries results marked n) ≡ concluded (length code) w (examined_of code libraries results)
   unfolding examined_of
   marks zero f = rw (is_cut f) (faults f (code_number code libraries (marks_in marked (length code))) refl)
   marks (suc n) f =
-      rw (marking-refuses code e zeros room clean n f, eqb-suc-zero n)
+      rw (marking-refuses code e zeros room clean n f, eqb-suc-zero n, eqb-suc-zero n)
       (cleared (suc n) marked marked-length)
 
   pub examined-concludes : examined_top code libraries results w ≡ concluded (length code) w (examined_of code libraries results)
-  unfolding examined_top
+  unfolding examined_top tested_top
   examined-concludes = marks (mark_all code zeros).number refl

@@ -25,3 +25,4 @@ pub mod Borrowing
 pub mod Tables
 pub mod Rowing
 pub mod Scratch
+pub mod Chains

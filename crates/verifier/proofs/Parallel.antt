@@ -22,7 +22,7 @@ use Rattle.stackmap.proofs.Comparing.{slots-equal, slots_same}
 use Rattle.stackmap.proofs.Placing.{Grows, grows-change}
 use Rattle.compact_ways.specs.declared.Ways.{Ways}
 use Rattle.compact_ways.specs.Ways.{way}
-use Rattle.verifier.specs.declared.hand.Handed.TheVariants.{Stuck, From}
+use Rattle.std.specs.Prelude.{None, Some}
 use Rattle.verifier.specs.Handing.{Handing, handing, with_list, least, taken_top}
 use Rattle.verifier.specs.Handing.{handed_top, then_handing, handed_two, handed_targets, handed_ways}
 use Rattle.verifier.proofs.Coherence.{Coherent, Shown, top_of, compact_of, Stands, broken, ended}
@@ -33,9 +33,9 @@ use Rattle.verifier.proofs.Keeping.{Sim, sim-change, all-grow}
 
 -- Both broke, or both went on and are still alike.
 pub data Parallel (U : Subject) (w : List ℕ) (σ : States) : Handing → Option States → Type 0 where
-  both-stop : {v : List ℕ} → length v ≡ length w → Parallel U w σ (handing Stuck v) none
+  both-stop : {v : List ℕ} → length v ≡ length w → Parallel U w σ (handing None v) none
   both_go : {v : List ℕ} {τ : States} {from : ℕ} → length v ≡ length w → Grows (map_of σ) (map_of τ) → Sim U v τ from
-      → Parallel U w σ (handing (From from) v) (some τ)
+      → Parallel U w σ (handing (Some from) v) (some τ)
 
 -- What was reached from a workspace and states that are later than others.
 pub parallel-after : {U : Subject} {w v : List ℕ} {σ τ : States} {h : Handing} {o : Option States} → length v ≡ length w
@@ -87,7 +87,7 @@ module _ (U : Subject) (S : WellCut U) (p : ℕ) where
     module _ (h : t < length U.code) where
       -- A blank offset takes the list.
       took : σ t ≡ blank
-          → Parallel U w σ (handing (From (least t from)) (with_list w t (length k) (top_origin k))) (some (updated σ t (waiting k)))
+          → Parallel U w σ (handing (Some (least t from)) (with_list w t (length k) (top_origin k))) (some (updated σ t (waiting k)))
       took b =
           both_go (within-list t w (length k) (top_origin k)).long (grows-change σ t (waiting k) k refl none_yet)
           (sim-change t (waiting k) k (least t from) X h (within-list t w (length k) (top_origin k))
@@ -108,7 +108,7 @@ module _ (U : Subject) (S : WellCut U) (p : ℕ) where
           rw (high, low, ne_eqb (length l + 1) 0 (λ e. omega arith), pair_same U.code (map_of σ) l k (X.coherent t l g) c)
           (by (same_slots l k))
         where
-          by : (b : Bool) → Parallel U w σ (cond b (handing (From from) w) (handing Stuck w)) (cond b (some σ) none)
+          by : (b : Bool) → Parallel U w σ (cond b (handing (Some from) w) (handing None w)) (cond b (some σ) none)
           by true = both_go refl (λ at j e. e) X
           by false = both-stop refl
 
@@ -124,7 +124,7 @@ module _ (U : Subject) (S : WellCut U) (p : ℕ) where
     one_way = rw (X.held.marks t) (by (starts_in U.marks p t && leb (length k) 255) refl)
       where
         by : (b : Bool) → starts_in U.marks p t && leb (length k) 255 ≡ b
-            → Parallel U w σ (cond b (taken_top w (way t (length k) (top_origin k)) from) (handing Stuck w))
+            → Parallel U w σ (cond b (taken_top w (way t (length k) (top_origin k)) from) (handing None w))
             (cond b (taken σ t k (σ t)) none)
         by true e =
             let h = S.within p t ((and-eq-true_iff (starts_in U.marks p t) (leb (length k) 255)).0 e).0 in

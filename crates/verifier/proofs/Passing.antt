@@ -12,7 +12,7 @@ use Rattle.words.specs.Bytes.{byte_at}
 use Rattle.words.proofs.Tests.{either}
 use Rattle.opcode.specs.Decode.{decode_at}
 use Rattle.operand.specs.Distance.{place_at}
-use Rattle.opcode.specs.declared.Decoded.TheVariants.{At}
+use Rattle.std.specs.Prelude.{Ok}
 use Rattle.opcode.specs.declared.instruction.Instruction.{Instruction}
 use Rattle.shape.specs.Shape.{shape_of}
 use Rattle.shape.specs.declared.Shape.{Shape}
@@ -94,7 +94,7 @@ module _ {code : List ℕ} {π : Map} where
   switch-lies at (label m ∷ l) rest a b e p = absurd (none-ne-some rest p)
 
 shape-passes : (U : Subject) (p at next limit : ℕ) (i : Instruction) (s : Shape) (π : Map) (l : List Slot) → shape_of i ≡ s
-    → decode_at U.code limit at ≡ At i next → Coherent U.code π l → π at ≡ some l
+    → decode_at U.code limit at ≡ Ok (i, next) → Coherent U.code π l → π at ≡ some l
     → Passes U.code π (ways U p at next s l)
 unfolding ways
 shape-passes U p at next limit i (Straight pops pushes) π l q d c e = straight-passes next pops pushes l c
@@ -129,7 +129,7 @@ shape-passes U p at next limit i Rtn π l q d c e =
     either (Passes U.code π) (is_words (results_in U.results p) l) (some []) none (passing no_way) nothing
 
 pub ways-coherent : (U : Subject) (p at next limit : ℕ) (i : Instruction) (π : Map) (l : List Slot) (out : List Way)
-    → decode_at U.code limit at ≡ At i next → Coherent U.code π l → π at ≡ some l
+    → decode_at U.code limit at ≡ Ok (i, next) → Coherent U.code π l → π at ≡ some l
     → ways U p at next (shape_of i) l ≡ some out → AllCoherent U.code π out
 ways-coherent U p at next limit i π l out d c e f =
     passes-some (subst (Passes U.code π) f (shape-passes U p at next limit i (shape_of i) π l refl d c e))

@@ -19,8 +19,9 @@ use Rattle.module_set.specs.Members.{Members}
 use Rattle.module_set.specs.Linked.{every_member, records_number, linked}
 use Rattle.relocation.specs.Relocation.{relocation_sound, set_number}
 use Rattle.opcode.specs.Decode.{decode_at}
-use Rattle.opcode.specs.declared.Decoded.{Decoded}
-use Rattle.opcode.specs.declared.Decoded.TheVariants.{Unserved, Past, At}
+use Rattle.opcode.specs.Decode.{Decoded}
+use Rattle.opcode.specs.declared.DecodeError.TheVariants.{Unserved, Past}
+use Rattle.std.specs.Prelude.{Err, Ok}
 use Rattle.layout.specs.Cut.{Marks, Cut, bad, cut, cut_at, cut_from, then_cut, cut_procedures, cut_of, updated}
 use Rattle.faults.specs.Faults.{fault_tests, code_number}
 use Rattle.verifier.specs.Check.{libraries_of, list_tests, list_number, bad_number, fault_number, cut_number, codes_number, fault_in}
@@ -73,9 +74,9 @@ proper-from code p (suc n) at marks =
   where
     by : (b : Bool) (d : Decoded) → ((next : ℕ) (m : Marks) → Proper (cut_from code p n next m))
         → Proper (cond b (cut_at (cut_from code p n) p at marks d) (cut marks))
-    by true Unserved go = proper-bad {n = 10} (omega arith) (omega arith)
-    by true Past go = proper-bad {n = 11} (omega arith) (omega arith)
-    by true (At i next) go = go next (updated marks at (p + 1))
+    by true (Err Unserved) go = proper-bad {n = 10} (omega arith) (omega arith)
+    by true (Err Past) go = proper-bad {n = 11} (omega arith) (omega arith)
+    by true (Ok (i, next)) go = go next (updated marks at (p + 1))
     by false d go = proper-cut
 
 proper-procedures : (code : List ℕ) (p n : ℕ) (marks : Marks) → Proper (cut_procedures code p n marks)

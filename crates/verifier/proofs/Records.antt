@@ -3,35 +3,28 @@
 use mathlib.Core.Bool.{Bool, true, false, ◌||◌, false≢true}
 use mathlib.Core.List.{List}
 use mathlib.Core.Path.{◌≡◌, refl, sym}
-use Prim.Native.Nat.{ℕ, ◌+◌, ◌*◌, ◌/◌, ◌≤◌, ◌<◌}
+use Prim.Native.Nat.{ℕ, ◌+◌, ◌*◌, ◌≤◌, ◌<◌}
 use native.Mathlib.Omega.{arith}
 use lib.Dec.{leb, ltb}
 use lib.ListN.{length, get_or, take, drop, length-take, get_or-eq_default}
 use lib.Seq.{get_or-take, get_or-drop}
-use borrow.Author.Tests.{lt-ltb, ltb-true, ltb-false, leb-false, not-false}
+use borrow.Author.Tests.{ltb-true, ltb-false, leb-false, ne_eqb, not-false}
 use Rattle.words.specs.Bytes.{Bytes}
-use Rattle.words.proofs.Tests.{same_answer}
 use Rattle.header.specs.Header.{header_of, code_at, code_of}
 use Rattle.entries.specs.Entries.{entries_sound}
 use Rattle.record.specs.Number.{record_number}
-use Rattle.record.proofs.Sound.{numberless, sound-code}
+use Rattle.record.proofs.Sound.{numberless, sound-code, sound-sizes}
 use Rattle.module_set.specs.Members.{Members, member_at}
 use Rattle.module_set.specs.Linked.{every_member}
 use Rattle.relocation.specs.Relocation.{set_number}
 use Rattle.relocation.proofs.Sound.{set_sound, set-cleared}
-use Rattle.verifier.specs.Check.{results_sound, list_tests, list_number}
+use Rattle.workspace.specs.Checking.{checking}
+use Rattle.verifier.specs.Check.{results_sound, list_tests, list_number, set_check}
 use Rattle.verifier.specs.Tables.{Linkable}
 
 neither : (a b : Bool) → (a || b) ≡ false → (a ≡ false) × (b ≡ false)
 neither true b e = absurd (false≢true (sym e))
 neither false b e = (refl, e)
-
--- Four halfwords for each byte.
-pub quarter : (room size : ℕ) → ltb (room / 4) size ≡ ltb room (4 * size)
-quarter room size =
-    same_answer (ltb (room / 4) size) (ltb room (4 * size))
-    (λ e. lt-ltb room (4 * size) (omega (arith, ltb-true (room / 4) size e)))
-    (λ e. lt-ltb (room / 4) size (omega (arith, ltb-true room (4 * size) e)))
 
 -- A module of a set without a number up to 7.
 pub record Module (S : Members) (k : ℕ) : Type 0 where
@@ -80,3 +73,13 @@ code-bytes r b i = by (ltb i (header_of r).code) refl
         omega (arith, length-take (header_of r).code (drop (code_at (header_of r)) r), ltb-false i (header_of r).code e) in
         rw (get_or-eq_default (take (header_of r).code (drop (code_at (header_of r)) r)) 0 z)
         (let y : 0 < 256 = omega arith in y)
+
+-- It has at most sixteen imports.
+pub imports-few : (S : Members) (k : ℕ) → set_number S ≡ 0 → k < length S → (header_of (member_at S k).bytes).imports ≤ 16
+imports-few S k e h = (sound-sizes (member_at S k).bytes (a-module S k e h).sound).imports
+
+-- A number up to 9, 17 or 18 is the check's, and leaves the workspace as it was.
+pub list-refuses : (S : Members) (own : ℕ) (w : List ℕ) (n : ℕ) → n ≡ list_number S own (length w) → (n ≡ 0 → ⊥)
+    → checking n w ≡ set_check S own w
+unfolding set_check
+list-refuses S own w n e some = rw (← e, ne_eqb n 0 some)

@@ -1,32 +1,22 @@
--- The turns of the loops that hand on, walk and give: what is left decides the whole, as the definitions unroll by one turn. And a
--- start lies in the code.
-use mathlib.Core.Bool.{true}
+-- The turns of the loops that hand on, walk and give: what is left decides the whole, as the definitions unroll by one turn.
 use mathlib.Core.List.{List}
 use mathlib.Core.Path.{◌≡◌, refl, ◌∙◌}
 use Prim.Native.Nat.{ℕ, ◌+◌, ◌-◌, ◌<◌, ◌≤◌}
-use native.Mathlib.Nat.{sub-eq-zero_of_le, lt_of_not-le}
+use native.Mathlib.Nat.{sub-eq-zero_of_le}
 use native.Mathlib.Omega.{arith}
-use borrow.Author.Tests.{lt-ltb, le-ltb, eqb-true}
+use borrow.Author.Tests.{lt-ltb}
 use lib.ListN.{length}
 use Rattle.entries.specs.Entries.{entry_count}
 use Rattle.entries.specs.Libraries.{Library}
 use Rattle.words.proofs.Left.{one_left}
 use Rattle.shape.specs.declared.Table.{Table}
-use Rattle.layout.specs.Cut.{starts_in}
 use Rattle.successors.specs.Successors.{table_size, table_target, table_from}
-use Rattle.layout.specs.Workspace.{marks_in}
 use Rattle.compact.specs.declared.top.Top.{Top}
 use Rattle.compact_ways.specs.Ways.{way}
-use Rattle.verifier.specs.declared.hand.Handed.{Handed}
-use Rattle.verifier.specs.declared.hand.Handed.TheVariants.{From}
-use Rattle.verifier.specs.Handing.{handing, then_handing, handed_top, handed_targets, visited_top, first_waiting, walking}
+use Rattle.std.specs.Prelude.{Option}
+use Rattle.std.specs.Prelude.{Some}
+use Rattle.verifier.specs.Handing.{handing, then_handing, handed_top, handed_targets, visited_top, first_waiting}
 use Rattle.verifier.specs.Handing.{then_walk, walk_top, with_entry, with_entries}
-
--- A place outside of the code has mark 0, which is no start's.
-pub start-near : (w : List ℕ) (size p place : ℕ) → starts_in (marks_in w size) p place ≡ true → place < size
-start-near w size p place e = lt_of_not-le λ h.
-    let z : 0 ≡ p + 1 = eqb-true 0 (p + 1) (rw (le-ltb place size h) at e) in
-    omega arith
 
 -- The branches of a switch's table before k are handed their list; nothing waits below `low`.
 pub record Branched (code before : List ℕ) (p at : ℕ) (table : Table) (n : ℕ) (t : Top) (from : ℕ) (w : List ℕ) (low k : ℕ) : Type 0 where
@@ -42,19 +32,14 @@ branched-start {table = table} {n = n} =
 
 module _ {code before : List ℕ} {p at : ℕ} {table : Table} {n : ℕ} {t : Top} {from : ℕ} {w : List ℕ} {low k : ℕ}
     (r : Branched code before p at table n t from w low k) where
-  pub branched-over :
-      table_size table n ≤ k
-      → handing (From low) w ≡ handed_targets (length code) p t (table_from code at table 0 (table_size table n)) from before
-  branched-over h = rw (sub-eq-zero_of_le h) at r.rest
-
-  module _ (h : k < table_size table n) {place : ℕ} (f : place ≡ table_target code at table k) {a : Handed} {w' : List ℕ}
+  module _ (h : k < table_size table n) {place : ℕ} (f : place ≡ table_target code at table k) {a : Option ℕ} {w' : List ℕ}
       (e : handing a w' ≡ handed_top (length code) p (way place t.height t.origin) low w) where
-    pub branched-turn :
+    branched-turn :
         then_handing (handed_targets (length code) p t (table_from code at table (k + 1) (table_size table n - (k + 1)))) a w'
         ≡ handed_targets (length code) p t (table_from code at table 0 (table_size table n)) from before
     branched-turn = rw (one_left k (table_size table n) h, ← f, ← e) at r.rest
 
-    pub branched-next : {next : ℕ} → a ≡ From next → length w' ≡ length w → Branched code before p at table n t from w' next (k + 1)
+    pub branched-next : {next : ℕ} → a ≡ Some next → length w' ≡ length w → Branched code before p at table n t from w' next (k + 1)
     branched-next q l = record { rest = rw q at branched-turn; kept = l ∙ r.kept }
 
 -- After k visits nothing waits below `from`.
@@ -67,20 +52,14 @@ walked_start {code = code} = let z : length code - 0 ≡ length code = omega ari
 
 module _ {code : List ℕ} {libraries : List Library} {results before w : List ℕ} {from k : ℕ}
     (r : Walked code libraries results before w from k) where
-  pub walked-spent : length code ≤ k → walking true w ≡ walk_top code libraries results (length code) 0 before
-  walked-spent h = rw (sub-eq-zero_of_le h) at r.rest
-
   module _ (h : k < length code) {at : ℕ} (f : at ≡ first_waiting w from (length code - from)) where
-    pub walked-over : length code ≤ at → walking true w ≡ walk_top code libraries results (length code) 0 before
-    walked-over q = rw (one_left k (length code) h, ← f, le-ltb at (length code) q) at r.rest
-
-    module _ (q : at < length code) {a : Handed} {w' : List ℕ} (e : handing a w' ≡ visited_top code libraries results at w) where
-      pub walked-turn :
+    module _ (q : at < length code) {a : Option ℕ} {w' : List ℕ} (e : handing a w' ≡ visited_top code libraries results at w) where
+      walked-turn :
           then_walk (walk_top code libraries results (length code - (k + 1))) a w'
           ≡ walk_top code libraries results (length code) 0 before
       walked-turn = rw (one_left k (length code) h, ← f, lt-ltb at (length code) q, ← e) at r.rest
 
-      pub walked_next : {next : ℕ} → a ≡ From next → length w' ≡ length w → Walked code libraries results before w' next (k + 1)
+      pub walked_next : {next : ℕ} → a ≡ Some next → length w' ≡ length w → Walked code libraries results before w' next (k + 1)
       walked_next g l = record { rest = rw g at walked-turn; kept = l ∙ r.kept }
 
 -- The entries of the procedures from 1 and before p wait.

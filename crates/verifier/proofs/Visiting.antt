@@ -10,8 +10,9 @@ use lib.Seq.{get_or-set_same, get_or-set_other}
 use borrow.Author.Tests.{lt-ltb}
 use Rattle.entries.specs.Entries.{region_end}
 use Rattle.opcode.specs.Decode.{decode_at}
-use Rattle.opcode.specs.declared.Decoded.{Decoded}
-use Rattle.opcode.specs.declared.Decoded.TheVariants.{Unserved, Past, At}
+use Rattle.opcode.specs.Decode.{Decoded}
+use Rattle.opcode.specs.declared.DecodeError.TheVariants.{Unserved, Past}
+use Rattle.std.specs.Prelude.{Err, Ok}
 use Rattle.shape.specs.Shape.{shape_of}
 use Rattle.layout.specs.Cut.{updated}
 use Rattle.stackmap.specs.Slots.{Slot, top_origin}
@@ -78,9 +79,9 @@ module _ (U : Subject) (S : WellCut U) (w : List ℕ) (σ : States) (from : ℕ)
   decoded : (d : Decoded) → decode_at U.code (region_end U.code (owner U at)) at ≡ d
       → Parallel U w σ (visited_with U.code U.libraries U.results w (owner U at) at d)
       (passed U (owner U at) (updated σ at (done l)) (ways_of U (owner U at) at l d))
-  decoded Unserved e = both-stop refl
-  decoded Past e = both-stop refl
-  decoded (At i next) e =
+  decoded (Err Unserved) e = both-stop refl
+  decoded (Err Past) e = both-stop refl
+  decoded (Ok (i, next)) e =
       rw found
       (parallel-after marked.long grown
       (ways-alike U S (owner U at) at cleared (updated σ at (done l)) (at + 1) finished

@@ -28,22 +28,28 @@ abbrev pub unmarked : ℕ → ℕ → List ℕ → List ℕ
 unmarked at zero w = w
 unmarked at (suc n) w = unmarked (at + 1) n (set w (4 * at + 3) 0)
 
-abbrev pub after_walk : List ℕ → Walking → Checking
-after_walk code a =
-    cond a.accepts (checking 0 (unmarked 0 (length code) a.workspace)) (checking 15 (zeroed a.workspace))
+abbrev pub after_walk : Walking → Checking
+after_walk a = checking (cond a.accepts 0 15) a.workspace
 
--- A number ends the check, and what is left is zeros; without one it goes on.
+-- A number ends the tests; without one they go on.
 abbrev pub unless : List ℕ → ℕ → Checking → Checking
-unless w number onward = cond (eqb number 0) onward (checking number (zeroed w))
+unless w number onward = cond (eqb number 0) onward (checking number w)
 
 abbrev pub after_faults : List ℕ → List Library → List ℕ → List ℕ → ℕ → Checking
-after_faults code libraries results w number = unless w number (after_walk code (walked_top code libraries results w))
+after_faults code libraries results w number = unless w number (after_walk (walked_top code libraries results w))
 
 abbrev pub after_marks : List ℕ → List Library → List ℕ → List ℕ → ℕ → Checking
 after_marks code libraries results w number =
     unless w number (after_faults code libraries results w (code_number code libraries (marks_in w (length code))))
 
-unfoldable pub examined_top : List ℕ → List Library → List ℕ → List ℕ → Checking
-examined_top code libraries results w =
-    let a = mark_all code (zeroed w) in
+unfoldable pub tested_top : List ℕ → List Library → List ℕ → List ℕ → Checking
+tested_top code libraries results w =
+    let a = mark_all code w in
     after_marks code libraries results a.workspace a.number
+
+-- What is left where there is a number is zeros; without one the marks go.
+abbrev pub settled : List ℕ → Checking → Checking
+settled code a = cond (eqb a.number 0) (checking 0 (unmarked 0 (length code) a.workspace)) (checking a.number (zeroed a.workspace))
+
+unfoldable pub examined_top : List ℕ → List Library → List ℕ → List ℕ → Checking
+examined_top code libraries results w = settled code (tested_top code libraries results (zeroed w))

@@ -4,3 +4,4 @@ pub mod Exact
 pub mod Handing
 pub mod Examine
 pub mod Tables
+pub mod Lent

@@ -16,10 +16,6 @@ pub record Linkable (S : Members) : Type 0 where
   pub numberless : set_number S ≡ 0
   pub fitting : lists_sound S ≡ true
 
--- With some results lists it is a set without a number up to 7, 17 or 18: results lists count for none of these.
-abbrev pub Lendable : (records directory : List ℕ) → Type 0
-Lendable records directory = (lists : List ℕ) × (set_number (members_of records lists directory) ≡ 0)
-
 -- The own module examined with its libraries, and what that leaves of the workspace.
 unfoldable pub own_examined : Members → (own : ℕ) (w : List ℕ) → Checking
 own_examined S own w =

@@ -1,31 +1,26 @@
 // The numbers 10 to 15 of one module, and what is left of the workspace.
-ghost use Rattle.std.specs.Prelude.{◌≡◌, true, ◌++◌, ◌≤◌, ◌*◌, length, take, drop, replicate};
-ghost use Rattle.opcode.specs.Sheet.{Sheet};
+ghost use Rattle.std.specs.Prelude.{◌≡◌, true, ◌++◌, ◌≤◌, ◌*◌, length, drop, replicate};
+ghost use Rattle.numbers.specs.Number.{number};
 ghost use Rattle.entries.specs.Entries.{entries_sound};
-ghost use Rattle.entries.specs.Libraries.{libraries_in};
+ghost use Rattle.entries.specs.Listed.{listed};
 ghost use Rattle.workspace.specs.Checking.{checking};
 ghost use Rattle.verifier.specs.Check.{concluded};
-ghost use Rattle.verifier.specs.Examine.{zeroed, unmarked, examined_top, examined_of};
+ghost use Rattle.verifier.specs.Examine.{unmarked, tested_top, examined_top, examined_of};
 
+use crate::subject::Subject;
 use crate::walk;
 use layout::marks;
-
-fn clear(w: &mut [u16])
-    ensures { w.new ≡ zeroed w.old }
-{
-    for i in 0..w.len() {
-        w[i] = 0;
-    }
-}
+use numbers::Refusal;
 
 // The first `n` halfwords.
 pub fn clear_front(w: &mut [u16], n: usize)
     requires { n ≤ length w.old }
     ensures { w.new ≡ replicate n 0 ++ drop n w.old }
 {
-    clear(&mut w[..n]);
+    w[..n].fill(0);
 }
 
+// Kept: a loop over offsets, since the marks are one halfword in four of any workspace, also one too short for them.
 pub fn clear_marks(w: &mut [u16], size: usize)
     requires { size ≤ 65535 }
     ensures { w.new ≡ unmarked 0 size w.old }
@@ -35,69 +30,43 @@ pub fn clear_marks(w: &mut [u16], size: usize)
     }
 }
 
-// The code of a sound record, with a workspace of just four halfwords for each byte.
-fn examine(
-    formats: &[u16],
-    code: &[u8],
-    results: &[u8],
-    libraries: &[u32],
-    records: &[u8],
-    lists: &[u8],
-    w: &mut [u16],
-) -> u32
-    requires sheet { Sheet formats.now }
-    requires code_len_bound { length code.now ≤ 65535 }
-    ensures { checking result w.new
-        ≡ examined_top code.now (libraries_in libraries.now records.now lists.now)
-        results.now w.old }
+// The tests in their order, over a workspace of zeros.
+#[tactic(auto, unfolding(crate::specs::Examine::tested_top))]
+fn test(subject: Subject<'_>, w: &mut [u16]) -> Result<(), Refusal>
+    ensures { let s = subject.entry in
+        checking (number result) w.new ≡ tested_top s.code.now (listed s.libraries) s.results.now w.old }
 {
-    clear(w);
-    let number = marks::cut_all(formats, code, w);
-    if number != 0 {
-        clear(w);
-        return number;
+    marks::cut_all(subject.formats, subject.code, w)?;
+    faults::code_number(subject.formats, subject.code, subject.libraries, w)?;
+    if !walk::find_maps(subject, w) {
+        return Err(Refusal::Unmapped);
     }
-    let fault = faults::code_number(formats, code, libraries, records, lists, w);
-    if fault != 0 {
-        clear(w);
-        return fault;
-    }
-    if !walk::find_maps(formats, code, results, libraries, records, lists, w) {
-        clear(w);
-        return 15;
-    }
-    clear_marks(w, code.len());
-    0
+    Ok(())
 }
 
-// The same with any longer workspace, and with the first `size` words of a table of libraries.
-pub fn examine_in(
-    formats: &[u16],
-    code: &[u8],
-    results: &[u8],
-    table: &[u32],
-    size: usize,
-    records: &[u8],
-    lists: &[u8],
-    w: &mut [u16],
-) -> u32
-    requires sheet { Sheet formats.now }
-    requires code_value { entries_sound code.now ≡ true }
-    requires code_len_bound { length code.now ≤ 4096 }
-    requires size_in_bounds { size ≤ length table.now }
-    requires code_in_bounds { 4 * length code.now ≤ length w.old }
-    ensures { checking result w.new
-        ≡ concluded (length code.now) w.old
-        (examined_of code.now (libraries_in (take size table.now) records.now lists.now)
-        results.now) }
+// The code of a sound record, with a workspace of just four halfwords for each byte.
+#[tactic(auto, unfolding(crate::specs::Examine::examined_top))]
+fn examine(subject: Subject<'_>, w: &mut [u16]) -> Result<(), Refusal>
+    ensures { let s = subject.entry in
+        checking (number result) w.new ≡ examined_top s.code.now (listed s.libraries) s.results.now w.old }
 {
-    examine(
-        formats,
-        code,
-        results,
-        &table[..size],
-        records,
-        lists,
-        &mut w[..4 * code.len()],
-    )
+    w.fill(0);
+    let answer = test(subject, w);
+    match answer {
+        Ok(()) => clear_marks(w, subject.code.len()),
+        Err(_) => w.fill(0),
+    }
+    answer
+}
+
+// The same with any longer workspace.
+pub fn examine_in(subject: Subject<'_>, w: &mut [u16]) -> Result<(), Refusal>
+    requires sound { entries_sound subject.code.now ≡ true }
+    requires room { 4 * length subject.code.now ≤ length w.old }
+    ensures { let s = subject.entry in
+        checking (number result) w.new
+        ≡ concluded (length s.code.now) w.old (examined_of s.code.now (listed s.libraries) s.results.now) }
+{
+    let size = 4 * subject.code.len();
+    examine(subject, &mut w[..size])
 }

@@ -6,5 +6,7 @@ pub mod codes;
 pub mod examine;
 pub mod hand;
 pub mod libraries;
+pub mod linked;
 pub mod results;
+pub mod subject;
 pub mod walk;

@@ -7,9 +7,7 @@ use Prim.Native.Nat.{ℕ, ◌+◌, ◌*◌, ◌-◌, ◌≤◌, ◌<◌}
 use native.Mathlib.Omega.{arith}
 use borrow.Author.Tests.{ltb-true, ltb-false, lt-ltb, le-ltb, ne_eqb, eqb-true}
 use lib.Dec.{eqb, ltb}
-use lib.ListN.{length}
 use Rattle.words.specs.Bytes.{byte_at}
-use Rattle.words.proofs.Bytes.{byte_past}
 use Rattle.words.proofs.Tests.{by-test}
 use Rattle.version.specs.Issue.{digit_of, issue_of, earlier, issue3, later_words, NumberDecides, IssuesRise}
 
@@ -55,6 +53,3 @@ module _ (r : List ℕ) (i : ℕ) where
   units-tell h =
       sym (number-decides (issue_of r i)
       ∙ below-3 (byte_at r (i + 1)) (digit_of (byte_at r i)) (no-tens (byte_at r i) h) (ltb (byte_at r (i + 1)) 51) refl)
-
-  pub past_end : length r ≤ i → true ≡ earlier (issue_of r i) issue3
-  past_end h = rw (← units-tell (rw (byte_past r i h) (omega arith)), byte_past r (i + 1) (omega arith))

@@ -2,7 +2,7 @@
 -- in common have its numbers in common, and parts of bytes are bytes.
 use mathlib.Core.Path.{◌≡◌, ◌∙◌, sym, ap}
 use mathlib.Core.List.{List, [], ◌∷◌, ◌++◌}
-use Prim.Native.Nat.{ℕ, zero, suc, ◌+◌, ◌≤◌, ◌<◌}
+use Prim.Native.Nat.{ℕ, zero, suc, ◌+◌, ◌≤◌, ◌<◌, min}
 use native.Mathlib.Omega.{arith}
 use lib.ListN.{length, get_or, take, drop, get_or-eq_default}
 use lib.Seq.{get_or-take, get_or-drop}
@@ -25,6 +25,13 @@ word-past s i h =
     let a : halfword_at s i ≡ 0 = halfword-past s i h in
     let b : halfword_at s (i + 2) ≡ 0 = halfword-past s (i + 2) (omega arith) in
     omega arith
+
+-- A place that is held down to one past the end reads as it would.
+pub halfword-capped : (s : List ℕ) (i most n : ℕ) → n ≡ min i most → length s ≤ most → halfword_at s n ≡ halfword_at s i
+halfword-capped s i most n e l = grind (arith, halfword-past)
+
+pub word-capped : (s : List ℕ) (i most n : ℕ) → n ≡ min i most → length s ≤ most → word_at s n ≡ word_at s i
+word-capped s i most n e l = grind (arith, word-past)
 
 pub halfword-below : (s : List ℕ) → Bytes s → (i : ℕ) → halfword_at s i < 65536
 unfolding halfword_at

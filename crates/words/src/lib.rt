@@ -3,28 +3,29 @@
 
 ghost use Rattle.std.specs.Prelude.{◌≡◌, ◌+◌, ◌*◌, take, drop, set};
 ghost use Rattle.words.specs.Bytes.{byte_at, halfword_at, word_at};
-ghost use Rattle.words.specs.Refusal.{lower};
 
 pub fn byte_at(s: &[u8], i: usize) -> u8
     ensures { result ≡ byte_at s.now i }
 {
-    if i < s.len() { s[i] } else { 0 }
+    s.get(i).copied().unwrap_or(0)
 }
 
 // The number that two bytes make, the higher one first.
+// Kept: no `from_be_bytes`, which compiles to a swap of bytes and some three instructions more a halfword.
 pub fn pair(high: u8, low: u8) -> u16
     ensures { result ≡ high * 256 + low }
 {
-    (high as u16) * 256 + (low as u16)
+    u16::from(high) * 256 + u16::from(low)
 }
 
 // The number that two halfwords make, the higher one first.
 pub fn join(high: u16, low: u16) -> u32
     ensures { result ≡ high * 65536 + low }
 {
-    (high as u32) * 65536 + (low as u32)
+    u32::from(high) * 65536 + u32::from(low)
 }
 
+// Kept: the test that `byte_behind(s, i, 1)` would spare, since its sum would cost the machine two instructions a byte more.
 pub fn halfword_at(s: &[u8], i: usize) -> u16
     ensures { result ≡ halfword_at s.now i }
 {
@@ -43,57 +44,35 @@ pub fn word_at(s: &[u8], i: usize) -> u32
     join(halfword_at(s, i), halfword_at(s, i + 2))
 }
 
-// The byte, the halfword and the word `k` places behind a place. The sum may be past every place, so it is made where it is in the slice.
+// The byte, the halfword and the word `k` places behind a place. Where their sum is past every place, so is the last place.
 pub fn byte_behind(s: &[u8], at: usize, k: usize) -> u8
     ensures { result ≡ byte_at s.now (at + k) }
 {
-    if s.len() <= at {
-        return 0;
-    }
-    if s.len() - at <= k {
-        return 0;
-    }
-    s[at + k]
+    byte_at(s, at.saturating_add(k))
 }
 
 pub fn halfword_behind(s: &[u8], at: usize, k: usize) -> u16
     ensures { result ≡ halfword_at s.now (at + k) }
 {
-    if s.len() <= at {
-        return 0;
-    }
-    if s.len() - at <= k {
-        return 0;
-    }
-    halfword_at(s, at + k)
+    halfword_at(s, at.saturating_add(k))
 }
 
 pub fn word_behind(s: &[u8], at: usize, k: usize) -> u32
     ensures { result ≡ word_at s.now (at + k) }
 {
-    if s.len() <= at {
-        return 0;
-    }
-    if s.len() - at <= k {
-        return 0;
-    }
-    word_at(s, at + k)
+    word_at(s, at.saturating_add(k))
 }
 
 // At most `n` elements from `at` on: those that there are.
-pub fn part(s: &[u8], at: usize, n: usize) -> &[u8]
+pub fn part<T>(s: &[T], at: usize, n: usize) -> &[T]
     ensures { result.now ≡ take n (drop at s.now) }
 {
-    if s.len() <= at {
-        return &s[s.len()..];
-    }
-    if s.len() - at <= n {
-        return &s[at..];
-    }
-    &s[at..at + n]
+    let rest = &s[at.min(s.len())..];
+    &rest[..n.min(rest.len())]
 }
 
 // The byte or the word at a place set; nothing past the end.
+// Kept: two functions, since their edits store the numbers 0 and 1, which one over any type of element could not.
 pub fn set_byte(s: &mut [u8], i: usize, b: u8)
     ensures { s.new ≡ set s.old i b }
 {
@@ -108,17 +87,4 @@ pub fn set_word(s: &mut [u32], i: usize, w: u32)
     if i < s.len() {
         s[i] = w;
     }
-}
-
-// The lower of two numbers, 0 being none.
-pub fn lower_number(a: u32, b: u32) -> u32
-    ensures { result ≡ lower a b }
-{
-    if a == 0 {
-        return b;
-    }
-    if b == 0 {
-        return a;
-    }
-    if b < a { b } else { a }
 }

@@ -6,9 +6,10 @@ ghost use Rattle.std.specs.Prelude.{◌≡◌, get_or, set};
 pub fn half_at(w: &[u16], i: usize) -> u16
     ensures { result ≡ get_or w.now i 0 }
 {
-    if i < w.len() { w[i] } else { 0 }
+    w.get(i).copied().unwrap_or(0)
 }
 
+// Kept: no generic store, since its edits store the numbers 0 and 1.
 pub fn set_half(w: &mut [u16], i: usize, x: u16)
     ensures { w.new ≡ set w.old i x }
 {

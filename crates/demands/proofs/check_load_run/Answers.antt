@@ -2,6 +2,7 @@
 use mathlib.Core.List.{List}
 use mathlib.Core.Path.{◌≡◌}
 use Prim.Native.Nat.{ℕ}
+use Rattle.numbers.specs.Number.{numbered}
 use Rattle.joined.specs.Joined.{Joined, joined, joined_of}
 use Rattle.demands.proofs.Collected.{demands}
 use Rattle.demands.proofs.check_load_run.Goals.{After-check_load_run}
@@ -10,7 +11,7 @@ use Rattle.demands.proofs.check_load_run.Goals as goal
 abbrev Left : (c : After-check_load_run) → Joined
 Left c =
     let last = c.check_load_run.new in
-    joined c.check_load_run.result last.workspace last.memory last.stack
+    joined (numbered c.check_load_run.result) last.workspace last.memory last.stack
 
 -- The results are handed on, whatever budget is; and the budget, whatever results are.
 results-told : (c : After-check_load_run) →

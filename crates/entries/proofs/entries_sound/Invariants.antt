@@ -1,5 +1,5 @@
 -- `entries::entries_sound` meets its contract. The loop's invariant: all entries rise just if what is left of them, entry 0
--- last, rises from `least` on. The measure is what is left.
+-- last, rises from `least` on.
 use Prim.Native.Nat.{◌-◌}
 use mathlib.Core.List.{[], ◌∷◌, ◌++◌}
 use mathlib.Core.Path.{◌≡◌}
@@ -10,8 +10,5 @@ use Rattle.entries.proofs.entries_sound.Given as goal
 
 abbrev pub invariant-loop-p : goal.invariant-loop-p
 invariant-loop-p l =
-    rising_from (length l.code) 0 (entries_from l.code 1 (l.count - 1) ++ (entry_at l.code 0 ∷ []))
-    ≡ rising_from (length l.code) l.least (entries_from l.code l.p (l.count - l.p) ++ (entry_at l.code 0 ∷ []))
-
-abbrev pub decreases-loop-p : goal.decreases-loop-p
-decreases-loop-p l = l.count - l.p
+    rising_from (length l.code) 0 (entries_from l.code 1 (l.p-end - 1) ++ (entry_at l.code 0 ∷ []))
+    ≡ rising_from (length l.code) l.least (entries_from l.code l.p (l.p-end - l.p) ++ (entry_at l.code 0 ∷ []))

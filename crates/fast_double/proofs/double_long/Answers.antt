@@ -205,22 +205,6 @@ returns-in-150 c =
     (sym pre.b_value ∙ c.in-150.is) refl refl byte_at.ensures if1.false)
     store-two-popped.ensures
 
-pub double_half-requires : goal.double_half-requires
-double_half-requires c =
-    let if1 = c.if-code-at in
-    let pre = c.requires in
-    record {
-      pc_in_bounds = if1.false;
-      pc_value = pre.pc_value;
-      b_value = pre.b_value;
-      stack_value = pre.stack_value;
-    }
-
-pub returns-in_default : goal.returns-in_default
-returns-in_default c =
-    let double-half = c.double_half in
-    double-half.ensures
-
 pub store_two_popped-requires : goal.store_two_popped-requires
 store_two_popped-requires c =
     let byte_at = c.byte_at-n in

@@ -53,7 +53,7 @@ overflow_cast-height-2 c =
 
 pub returns : goal.returns
 returns c =
-    let raised = c.raised-registers in
+    let raised = c.raised in
     let moved = c.moved in
     let globals-start = c.globals_start in
     let if3 = c.if-code-next in

@@ -74,8 +74,8 @@ bounds-memory-old-3 c =
     let if4 = c.if-memory-old in
     rw (length-set, length-set) (omega (arith, if4.false))
 
-pub called-registers-requires : goal.called-registers-requires
-called-registers-requires c =
+pub called-requires : goal.called-requires
+called-requires c =
     let if4 = c.if-memory-old in
     let if3 = c.if-q-ge64 in
     let a = c.args in
@@ -89,7 +89,7 @@ called-registers-requires c =
 
 pub returns : goal.returns
 returns c =
-    let called = c.called-registers in
+    let called = c.called in
     let negated = c.negated in
     let globals-start = c.globals_start-gp in
     let if5 = c.if-part-entry in

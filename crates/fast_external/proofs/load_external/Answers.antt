@@ -29,7 +29,7 @@ overflow_cast-height-2 c =
 
 pub returns : goal.returns
 returns c =
-    let raised = c.raised-registers in
+    let raised = c.raised in
     let moved = c.moved in
     let if4 = c.if-code-next in
     let if3 = c.if-stack-height in

@@ -68,7 +68,7 @@ bounds-memory-a c =
 
 pub returns : goal.returns
 returns c =
-    let raised = c.raised-registers in
+    let raised = c.raised in
     let moved = c.moved in
     let globals-start = c.globals_start in
     let if4 = c.if-code-next in

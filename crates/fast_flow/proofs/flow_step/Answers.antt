@@ -1,5 +1,4 @@
 -- `fast_flow::flow_step` meets its contract: each arm is its code's step.
-use mathlib.Core.Path.{◌∙◌, sym}
 use Rattle.state.proofs.Fitting.{fitting}
 use Rattle.fast.specs.Fast.{spot, state_at}
 use Rattle.fast_flow.proofs.flow_step.Goals as goal
@@ -42,22 +41,3 @@ unsigned_step-requires c =
       pc_in_bounds = pre.pc_in_bounds;
       height_in_bounds = F.height;
     }
-
-pub returns-in-224 : goal.returns-in-224
-returns-in-224 c =
-    let iter = c.iter in
-    let pre = c.requires in
-    iter.ensures (sym pre.b_value ∙ c.in-224.is)
-
-pub returns-in-225 : goal.returns-in-225
-returns-in-225 c =
-    let next = c.next in
-    let pre = c.requires in
-    next.ensures (sym pre.b_value ∙ c.in-225.is)
-
-pub returns-in_default : goal.returns-in_default
-returns-in_default c =
-    let unsigned-step = c.unsigned_step in
-    let a = c.args in
-    let pre = c.requires in
-    unsigned-step.ensures a.memory.now a.q pre.stack_value (sym pre.b_value)

@@ -56,8 +56,3 @@ returns-in-173 c =
     two-arm a.code.now a.attributes q a.pc.now a.height.now m a.stack.now f 0xAD _ _ (e ∙ c.in-173.is)
     refl (λ z. omega arith) refl refl c.requires.pc_in_bounds unsigned-two5.result
     (spot unsigned-two5.new.pc unsigned-two5.new.height m unsigned-two5.new.stack) (unsigned-two5.ensures m)
-
-pub returns-in_default : goal.returns-in_default
-returns-in_default c =
-    let jump-step = c.jump_step in
-    λ m q f e. jump-step.ensures m c.args.attributes q f e

@@ -15,12 +15,12 @@ use Rattle.icode.proofs.icode_bench_decode.Goals as goal
 near :
     (c : After-parts_of-parts) →
     let at = c.args.at in
-    let next = c.in-At.next in
+    let next = c.in-Ok.next in
     (at ≤ next) × (next ≤ at + 655366)
 near c =
     let a = c.args in
     reach a.code.now (λ k. (c.type_inv.code k).fits) a.limit a.at
-    (sym c.decode-decoded.ensures ∙ c.in-At.is)
+    (sym c.decode.ensures ∙ c.in-Ok.is)
 
 pub returns-then-out-ne5 : goal.returns-then-out-ne5
 unfolding decode_reply
@@ -44,34 +44,25 @@ overflow_cast-out c = omega (arith, near (goal.at.overflow_cast-out c).After-par
 pub bounds-out-4 : goal.bounds-out-4
 bounds-out-4 c = simp length-set (omega arith)
 
-pub returns-in-Unserved : goal.returns-in-Unserved
+pub returns-in-Err : goal.returns-in-Err
 unfolding decode_reply
-returns-in-Unserved c =
+returns-in-Err c =
     rw (
-      c.decoded_number.ensures,
+      c.number.ensures,
+      c.from.ensures,
       eq-eqb (length c.args.out.now) 5 c.if-out-ne5.false,
-      ← c.decode-decoded.ensures,
-      c.in-Unserved.is,
+      ← c.decode.ensures,
+      c.in-Err.is,
     )
 
-pub returns-in-Past : goal.returns-in-Past
+pub returns-in-Ok : goal.returns-in-Ok
 unfolding decode_reply
-returns-in-Past c =
-    rw (
-      c.decoded_number-in-Past.ensures,
-      eq-eqb (length c.args.out.now) 5 c.if-out-ne5.false,
-      ← c.decode-decoded.ensures,
-      c.in-Past.is,
-    )
-
-pub returns-in-At : goal.returns-in-At
-unfolding decode_reply
-returns-in-At c =
+returns-in-Ok c =
     let out = c.args.out.now in
     rw (
       eq-eqb (length out) 5 c.if-out-ne5.false,
-      ← c.decode-decoded.ensures,
-      c.in-At.is,
+      ← c.decode.ensures,
+      c.in-Ok.is,
       ← c.parts_of-parts.ensures,
     )
     (ap (output 0) (sets-eq (_ ∷ _ ∷ _ ∷ _ ∷ _ ∷ []) out 0 (omega (arith, c.if-out-ne5.false))))

@@ -6,16 +6,11 @@ use borrow.Author.Tests.{le-ltb}
 use Rattle.icode.specs.Interface.{span_reply}
 use Rattle.icode.proofs.icode_line_span.Goals as goal
 
-pub returns-in-Refused : goal.returns-in-Refused
-unfolding span_reply
-returns-in-Refused c =
-    let span = c.args.span.now in
-    rw (
-      ← c.line_span-answer.ensures.0,
-      c.in-Refused.is,
-      le-ltb (length span) 0 (omega arith),
-    )
+pub returns-in-Ok : goal.returns-in-Ok
+returns-in-Ok c = rw (c.number.ensures) (c.write_lookup.ensures ∙ rw (← c.line_span.ensures.answer, c.in-Ok.is))
 
-pub returns-in-At : goal.returns-in-At
-returns-in-At c =
-    c.write_lookup.ensures ∙ rw (← c.line_span-answer.ensures.0, c.in-At.is)
+pub returns-in-Err : goal.returns-in-Err
+unfolding span_reply
+returns-in-Err c =
+    let span = c.args.span.now in
+    rw (c.number-in-Err.ensures, ← c.line_span.ensures.answer, c.in-Err.is, le-ltb (length span) 0 (omega arith))

@@ -11,20 +11,20 @@ returns-then-out-lt4 c =
     let a = c.args in
     rw (four-values a.lookup, lt-ltb (length a.out.now) 4 c.if-out-lt4.true)
 
-pub returns-in-Found : goal.returns-in-Found
+pub returns-in-Some : goal.returns-in-Some
 unfolding span_reply
-returns-in-Found c =
+returns-in-Some c =
     rw (
-      c.in-Found.is,
+      c.in-Some.is,
       le-ltb (length c.args.out.now) 4 c.if-out-lt4.false,
       c.write_span.ensures,
     )
 
-pub returns-in-Outside : goal.returns-in-Outside
+pub returns-in-None : goal.returns-in-None
 unfolding span_reply
-returns-in-Outside c =
+returns-in-None c =
     rw (
-      c.in-Outside.is,
+      c.in-None.is,
       le-ltb (length c.args.out.now) 4 c.if-out-lt4.false,
-      c.write_span-in-Outside.ensures,
+      c.write_span-in-None.ensures,
     )

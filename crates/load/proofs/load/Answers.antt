@@ -1,6 +1,9 @@
 -- `load::load` meets its contract: the record's number, then the parameters' and the sizes', else memory is filled.
 use mathlib.Core.List.{[]}
 use mathlib.Core.Path.{◌≡◌, ◌∙◌, sym, ap}
+use Rattle.numbers.specs.Number.{number_of}
+use Rattle.numbers.proofs.Refusing.{no-number}
+use Rattle.record.proofs.Sound.{handed-on}
 use native.Mathlib.Omega.{arith}
 use Rattle.header.specs.declared.Header.{Header}
 use Rattle.module_set.specs.Members.{single}
@@ -11,23 +14,22 @@ use Rattle.load.proofs.Loading.{alone-refused, alone-many, alone-short, alone-si
 use Rattle.load.proofs.Loading.{alone-frames, alone-code, main-base}
 use Rattle.load.proofs.load.Goals as goal
 
-pub returns-then-number-ne0 : goal.returns-then-number-ne0
-returns-then-number-ne0 c =
-    let if1 = c.if-number-ne0 in
-    let single-number = c.single_number-number in
+pub returns-in_err-single_number : goal.returns-in_err-single_number
+returns-in_err-single_number c =
+    let e = c.in_err-single_number.field-0.0 in
     let a = c.args in
-    alone-refused a.r.now a.parameters.now a.memory.now a.stack.now single-number.result
-    (single-number.ensures []) if1.true
+    rw (handed-on c.from_residual.result e c.from_residual.ensures.1)
+    (alone-refused a.r.now a.parameters.now a.memory.now a.stack.now (number_of e)
+    (c.in_err-single_number.ensures []) (no-number e))
 
 pub returns-then-h-parameters : goal.returns-then-h-parameters
 returns-then-h-parameters c =
     let if2 = c.if-h-parameters in
     let header_of = c.header_of-h in
-    let if1 = c.if-number-ne0 in
-    let single-number = c.single_number-number in
     let a = c.args in
+    let none = sym (c.in_ok-single_number.ensures []) in
     alone-many a.r.now a.parameters.now a.memory.now a.stack.now
-    (sym (single-number.ensures []) ∙ if1.false) header_of.result header_of.ensures if2.true
+    none header_of.result header_of.ensures if2.true
 
 pub returns-then-not-sizes_taken : goal.returns-then-not-sizes_taken
 returns-then-not-sizes_taken c =
@@ -36,11 +38,10 @@ returns-then-not-sizes_taken c =
     let frame-size = c.frame_size-size in
     let if2 = c.if-h-parameters in
     let header_of = c.header_of-h in
-    let if1 = c.if-number-ne0 in
-    let single-number = c.single_number-number in
     let a = c.args in
+    let none = sym (c.in_ok-single_number.ensures []) in
     alone-short a.r.now a.parameters.now a.memory.now a.stack.now
-    (sym (single-number.ensures []) ∙ if1.false) header_of.result header_of.ensures if2.false
+    none header_of.result header_of.ensures if2.false
     frame-size.result frame-size.ensures sizes-taken.result sizes-taken.ensures
     (if3.true)
 
@@ -51,15 +52,14 @@ fill_single-requires c =
     let frame-size = c.frame_size-size in
     let if2 = c.if-h-parameters in
     let header_of = c.header_of-h in
-    let if1 = c.if-number-ne0 in
-    let single-number = c.single_number-number in
     let a = c.args in
+    let none = sym (c.in_ok-single_number.ensures []) in
     let own = header_of.ensures in
     let sizes = alone-sizes a.r.now a.parameters.now a.memory.now a.stack.now
-    (sym (single-number.ensures []) ∙ if1.false) header_of.result header_of.ensures if2.false
+    none header_of.result header_of.ensures if2.false
     frame-size.result frame-size.ensures sizes-taken.result sizes-taken.ensures
     (if3.false) in record {
-      r_value = sym (single-number.ensures []) ∙ if1.false;
+      r_value = none;
       parameters_len_bound = omega (arith, ap (λ (h : Header). h.globals) own, if2.false);
       r_in_bounds = omega (
         arith,
@@ -77,11 +77,10 @@ start_of-requires c =
     let frame-size = c.frame_size-size in
     let if2 = c.if-h-parameters in
     let header_of = c.header_of-h in
-    let if1 = c.if-number-ne0 in
-    let single-number = c.single_number-number in
     let a = c.args in
+    let none = sym (c.in_ok-single_number.ensures []) in
     (alone-sizes a.r.now a.parameters.now a.memory.now a.stack.now
-    (sym (single-number.ensures []) ∙ if1.false) header_of.result header_of.ensures if2.false
+    none header_of.result header_of.ensures if2.false
     frame-size.result frame-size.ensures sizes-taken.result sizes-taken.ensures
     (if3.false)).1
 
@@ -95,10 +94,8 @@ returns c =
     let frame-size = c.frame_size-size in
     let if2 = c.if-h-parameters in
     let header_of = c.header_of-h in
-    let if1 = c.if-number-ne0 in
-    let single-number = c.single_number-number in
     let a = c.args in
-    let none : set_number (single a.r.now []) ≡ 0 = sym (single-number.ensures []) ∙ if1.false in
+    let none : set_number (single a.r.now []) ≡ 0 = sym (c.in_ok-single_number.ensures []) in
     let S = single a.r.now [] in
     let first = start_of_lem.ensures (program_at (modules_of S) 0)
     (alone-code a.r.now none header_of.result header_of.ensures frame-size.result frame-size.ensures

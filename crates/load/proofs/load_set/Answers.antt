@@ -2,6 +2,9 @@
 use Prim.Native.Nat.{ℕ}
 use mathlib.Core.List.{List, []}
 use mathlib.Core.Path.{◌≡◌, ◌∙◌, sym}
+use Rattle.numbers.specs.Number.{number_of}
+use Rattle.numbers.proofs.Refusing.{no-number}
+use Rattle.record.proofs.Sound.{handed-on}
 use native.Mathlib.Omega.{arith}
 use Rattle.module_set.specs.Members.{members_of}
 use Rattle.relocation.specs.Relocation.{set_number, copy_of}
@@ -17,44 +20,41 @@ clear : (c : Else-not-is_taken) (lists : List ℕ) →
     (set_number S ≡ 0) × Room S a.parameters.now a.copy.now a.memory.now a.stack.now
 clear c lists =
     let is-taken = c.is_taken in
-    let if1 = c.if-number-ne0 in
-    let set-number = c.set_number-number in
+    let sound = c.in_ok-set_number in
     let a = c.args in
     let S = members_of a.records.now lists a.directory.now in (
-      sym (set-number.ensures lists) ∙ if1.false,
+      sym (sound.ensures lists),
       room-parts S a.parameters.now a.copy.now a.memory.now a.stack.now
           (sym (is-taken.ensures lists) ∙ c.if-not-is_taken.false),
     )
 
-pub returns-then-number-ne0 : goal.returns-then-number-ne0
-returns-then-number-ne0 c =
-    let if1 = c.if-number-ne0 in
-    let set-number = c.set_number-number in
+pub returns-in_err-set_number : goal.returns-in_err-set_number
+returns-in_err-set_number c =
+    let e = c.in_err-set_number.field-0.0 in
     let a = c.args in
     λ lists.
     let S = members_of a.records.now lists a.directory.now in
-    with_number S a.parameters.now a.copy.now a.memory.now a.stack.now _ _ _
-    (load-refused S a.parameters.now a.copy.now a.memory.now a.stack.now set-number.result
-    (set-number.ensures lists) if1.true)
+    rw (handed-on c.from_residual.result e c.from_residual.ensures.1)
+    (with_number S a.parameters.now a.copy.now a.memory.now a.stack.now _ _ _
+    (load-refused S a.parameters.now a.copy.now a.memory.now a.stack.now (number_of e)
+    (c.in_err-set_number.ensures lists) (no-number e)))
 
 pub is_taken-requires : goal.is_taken-requires
 is_taken-requires c =
-    let if1 = c.if-number-ne0 in
-    let set-number = c.set_number-number in
-    λ lists. sym (set-number.ensures lists) ∙ if1.false
+    let sound = c.in_ok-set_number in
+    λ lists. sym (sound.ensures lists)
 
 pub returns-then-not-is_taken : goal.returns-then-not-is_taken
 returns-then-not-is_taken c =
     let if2 = c.if-not-is_taken in
     let is-taken = c.is_taken in
-    let if1 = c.if-number-ne0 in
-    let set-number = c.set_number-number in
+    let sound = c.in_ok-set_number in
     let a = c.args in
     λ lists.
     let S = members_of a.records.now lists a.directory.now in
     with_number S a.parameters.now a.copy.now a.memory.now a.stack.now _ _ _
     (load-short S a.parameters.now a.copy.now a.memory.now a.stack.now
-    (sym (set-number.ensures lists) ∙ if1.false) (sym (is-taken.ensures lists) ∙ if2.true))
+    (sym (sound.ensures lists)) (sym (is-taken.ensures lists) ∙ if2.true))
 
 pub write_copy-requires : goal.write_copy-requires
 write_copy-requires c =
@@ -94,12 +94,11 @@ returns c =
     let write_copy = c.write_copy in
     let if2 = c.if-not-is_taken in
     let is-taken = c.is_taken in
-    let if1 = c.if-number-ne0 in
-    let set-number = c.set_number-number in
+    let sound = c.in_ok-set_number in
     let a = c.args in
     λ lists.
     let S = members_of a.records.now lists a.directory.now in
     with_number S a.parameters.now a.copy.now a.memory.now a.stack.now _ _ _
     (rw (set-start.ensures lists, write_copy.ensures lists, fill.ensures lists)
     (load-ready S a.parameters.now a.copy.now a.memory.now a.stack.now
-    (sym (set-number.ensures lists) ∙ if1.false) (sym (is-taken.ensures lists) ∙ if2.false)))
+    (sym (sound.ensures lists)) (sym (is-taken.ensures lists) ∙ if2.false)))

@@ -2,6 +2,9 @@
 use mathlib.Core.List.{[]}
 use mathlib.Core.Path.{◌≡◌, ◌∙◌, refl, sym}
 use native.Mathlib.Omega.{arith}
+use Rattle.numbers.specs.Number.{number_of}
+use Rattle.numbers.proofs.Refusing.{no-number}
+use Rattle.record.proofs.Sound.{handed-on}
 use Rattle.header.specs.Header.{code_of}
 use Rattle.module_set.specs.Members.{single}
 use Rattle.relocation.specs.Relocation.{set_number}
@@ -12,22 +15,21 @@ use Rattle.run.proofs.Taking.{with_number, run-refused, run-decided, main-there,
 use Rattle.machine.proofs.Tabled.{tabled-count, tabled-frames, tabled-short}
 use Rattle.machine.proofs.run_by.Goals as goal
 
-pub returns-then-number-ne0 : goal.returns-then-number-ne0
-returns-then-number-ne0 c =
-    let if1 = c.if-number-ne0 in
-    let single-number = c.single_number-number in
+pub returns-in_err-single_number : goal.returns-in_err-single_number
+returns-in_err-single_number c =
+    let e = c.in_err-single_number.field-0.0 in
     let a = c.args in
     let One = single a.r.now [] in
     let T = state a.q a.memory.now a.stack.now in
-    with_number One (code_of a.r.now) 0 T a.budget a.q _ _ _
-    (run-refused One (code_of a.r.now) 0 T a.budget single-number.result (single-number.ensures []) if1.true)
+    rw (handed-on c.from_residual.result e c.from_residual.ensures.1)
+    (with_number One (code_of a.r.now) 0 T a.budget a.q _ _ _
+    (run-refused One (code_of a.r.now) 0 T a.budget (number_of e) (c.in_err-single_number.ensures []) (no-number e)))
 
 pub single_row-requires : goal.single_row-requires
 single_row-requires c =
-    let if1 = c.if-number-ne0 in
-    let single-number = c.single_number-number in
+    let sound = c.in_ok-single_number in
     record {
-      r_value = sym (single-number.ensures []) ∙ if1.false;
+      r_value = sym (sound.ensures []);
       table_len = refl;
     }
 
@@ -35,11 +37,10 @@ pub run_rows-requires : goal.run_rows-requires
 run_rows-requires c =
     let code_of_lem = c.code_of in
     let single-row = c.single_row in
-    let if1 = c.if-number-ne0 in
-    let single-number = c.single_number-number in
+    let sound = c.in_ok-single_number in
     let a = c.args in
     let One = single a.r.now [] in
-    let none : set_number One ≡ 0 = sym (single-number.ensures []) ∙ if1.false in
+    let none : set_number One ≡ 0 = sym (sound.ensures []) in
     let row = single-row.new.table in
     let code = code_of_lem.result.now in
     let same : modules_in row code ≡ modules_of One = rw code_of_lem.ensures single-row.ensures.1 in record {
@@ -54,12 +55,11 @@ returns c =
     let run-rows = c.run_rows in
     let code_of_lem = c.code_of in
     let single-row = c.single_row in
-    let if1 = c.if-number-ne0 in
-    let single-number = c.single_number-number in
+    let sound = c.in_ok-single_number in
     let a = c.args in
     let One = single a.r.now [] in
     let T = state a.q a.memory.now a.stack.now in
-    let none : set_number One ≡ 0 = sym (single-number.ensures []) ∙ if1.false in
+    let none : set_number One ≡ 0 = sym (sound.ensures []) in
     let row = single-row.new.table in
     let same : modules_in row code_of_lem.result.now ≡ modules_of One = rw code_of_lem.ensures single-row.ensures.1 in
     with_number One (code_of a.r.now) 0 T a.budget a.q _ _ _

@@ -4,6 +4,9 @@ use mathlib.Core.List.{List, []}
 use mathlib.Core.Path.{◌≡◌, ◌∙◌, sym}
 use Prim.Native.Nat.{ℕ, ◌*◌}
 use native.Mathlib.Omega.{arith}
+use Rattle.numbers.specs.Number.{number_of}
+use Rattle.numbers.proofs.Refusing.{no-number}
+use Rattle.record.proofs.Sound.{handed-on}
 use lib.ListN.{take, length-take}
 use Rattle.module_set.specs.Members.{members_of}
 use Rattle.relocation.specs.Relocation.{set_number, copy_of, begins}
@@ -16,24 +19,23 @@ use Rattle.run.proofs.Taking.{with_number, run-refused, run-uncopied, run-outsid
 use Rattle.machine.proofs.Tabled.{tabled-count, tabled-frames, tabled-short}
 use Rattle.machine.proofs.run_set_by.Goals as goal
 
-pub returns-then-number-ne0 : goal.returns-then-number-ne0
-returns-then-number-ne0 c =
-    let if1 = c.if-number-ne0 in
-    let set-number = c.set_number-number in
+pub returns-in_err-set_number : goal.returns-in_err-set_number
+returns-in_err-set_number c =
+    let e = c.in_err-set_number.field-0.0 in
     let a = c.args in
     λ lists.
     let S = members_of a.records.now lists a.directory.now in
     let T = state a.q a.memory.now a.stack.now in
-    with_number S a.copy.now a.member T a.budget a.q _ _ _
-    (run-refused S a.copy.now a.member T a.budget set-number.result (set-number.ensures lists) if1.true)
+    rw (handed-on c.from_residual.result e c.from_residual.ensures.1)
+    (with_number S a.copy.now a.member T a.budget a.q _ _ _
+    (run-refused S a.copy.now a.member T a.budget (number_of e) (c.in_err-set_number.ensures lists) (no-number e)))
 
 pub is_copy-requires : goal.is_copy-requires
 is_copy-requires c =
-    let if1 = c.if-number-ne0 in
-    let set-number = c.set_number-number in
+    let sound = c.in_ok-set_number in
     let a = c.args in
     let none : (lists : List ℕ) → set_number (members_of a.records.now lists a.directory.now) ≡ 0 =
-    λ lists. sym (set-number.ensures lists) ∙ if1.false in record {
+    λ lists. sym (sound.ensures lists) in record {
       directory_len_bound = set-few a.records.now [] a.directory.now (none []);
       by_index = λ lists. (set_sound (members_of a.records.now lists a.directory.now) (none lists)).records;
     }
@@ -42,14 +44,13 @@ pub returns-then-not-is_copy : goal.returns-then-not-is_copy
 returns-then-not-is_copy c =
     let if2 = c.if-not-is_copy in
     let is-copy = c.is_copy in
-    let if1 = c.if-number-ne0 in
-    let set-number = c.set_number-number in
+    let sound = c.in_ok-set_number in
     let a = c.args in
     λ lists.
     let S = members_of a.records.now lists a.directory.now in
     let T = state a.q a.memory.now a.stack.now in
     with_number S a.copy.now a.member T a.budget a.q _ _ _
-    (run-uncopied S a.copy.now a.member T a.budget (sym (set-number.ensures lists) ∙ if1.false)
+    (run-uncopied S a.copy.now a.member T a.budget (sym (sound.ensures lists))
     (sym (is-copy.ensures lists) ∙ if2.true))
 
 pub returns-then-n-member : goal.returns-then-n-member
@@ -58,25 +59,23 @@ returns-then-n-member c =
     let count = c.count-n in
     let if2 = c.if-not-is_copy in
     let is-copy = c.is_copy in
-    let if1 = c.if-number-ne0 in
-    let set-number = c.set_number-number in
+    let sound = c.in_ok-set_number in
     let a = c.args in
     λ lists.
     let S = members_of a.records.now lists a.directory.now in
     let T = state a.q a.memory.now a.stack.now in
     let many = count.ensures a.records.now lists in
     with_number S a.copy.now a.member T a.budget a.q _ _ _
-    (run-outside S a.copy.now a.member T a.budget (sym (set-number.ensures lists) ∙ if1.false)
+    (run-outside S a.copy.now a.member T a.budget (sym (sound.ensures lists))
     (sym (is-copy.ensures lists) ∙ if2.false)
     (omega (arith, modules-length S, many, if3.true)))
 
 pub fill_table-requires : goal.fill_table-requires
 fill_table-requires c =
-    let if1 = c.if-number-ne0 in
-    let set-number = c.set_number-number in
+    let sound = c.in_ok-set_number in
     let a = c.args in
     let none : (lists : List ℕ) → set_number (members_of a.records.now lists a.directory.now) ≡ 0 =
-    λ lists. sym (set-number.ensures lists) ∙ if1.false in
+    λ lists. sym (sound.ensures lists) in
     record {
       by_index = none;
       by_index_2 = λ lists. rows_few (members_of a.records.now lists a.directory.now) (none lists);
@@ -85,10 +84,9 @@ fill_table-requires c =
 pub overflow_mul-rows : goal.overflow_mul-rows
 overflow_mul-rows c =
     let count = c.count-n in
-    let if1 = c.if-number-ne0 in
-    let set-number = c.set_number-number in
+    let sound = c.in_ok-set_number in
     let a = c.args in
-    let none = sym (set-number.ensures []) ∙ if1.false in
+    let none = sym (sound.ensures []) in
     let S = members_of a.records.now [] a.directory.now in
     omega (arith, count.ensures a.records.now [], rows_few S none)
 
@@ -96,10 +94,9 @@ pub slice_bounds-rows-end : goal.slice_bounds-rows-end
 slice_bounds-rows-end c =
     let fill-table = c.fill_table in
     let count = c.count-n in
-    let if1 = c.if-number-ne0 in
-    let set-number = c.set_number-number in
+    let sound = c.in_ok-set_number in
     let a = c.args in
-    let none = sym (set-number.ensures []) ∙ if1.false in
+    let none = sym (sound.ensures []) in
     let S = members_of a.records.now [] a.directory.now in
     omega (arith, count.ensures a.records.now [], rows_few S none, fill-table.auto.table)
 
@@ -107,10 +104,9 @@ pub slice_bounds-run_rows-end : goal.slice_bounds-run_rows-end
 slice_bounds-run_rows-end c =
     let fill-table = c.fill_table in
     let count = c.count-n in
-    let if1 = c.if-number-ne0 in
-    let set-number = c.set_number-number in
+    let sound = c.in_ok-set_number in
     let a = c.args in
-    let none = sym (set-number.ensures []) ∙ if1.false in
+    let none = sym (sound.ensures []) in
     let S = members_of a.records.now [] a.directory.now in
     omega (
       arith,
@@ -127,11 +123,10 @@ run_rows-requires c =
     let count = c.count-n in
     let if2 = c.if-not-is_copy in
     let is-copy = c.is_copy in
-    let if1 = c.if-number-ne0 in
-    let set-number = c.set_number-number in
+    let sound = c.in_ok-set_number in
     let a = c.args in
     let S = members_of a.records.now [] a.directory.now in
-    let none : set_number S ≡ 0 = sym (set-number.ensures []) ∙ if1.false in
+    let none : set_number S ≡ 0 = sym (sound.ensures []) in
     let many = count.ensures a.records.now [] in
     let rows = fill-table.new.table in
     let copied : begins (copy_of S) a.copy.now ≡ true = sym (is-copy.ensures []) ∙ if2.false in
@@ -151,13 +146,12 @@ returns c =
     let count = c.count-n in
     let if2 = c.if-not-is_copy in
     let is-copy = c.is_copy in
-    let if1 = c.if-number-ne0 in
-    let set-number = c.set_number-number in
+    let sound = c.in_ok-set_number in
     let a = c.args in
     λ lists.
     let S = members_of a.records.now lists a.directory.now in
     let T = state a.q a.memory.now a.stack.now in
-    let none : set_number S ≡ 0 = sym (set-number.ensures lists) ∙ if1.false in
+    let none : set_number S ≡ 0 = sym (sound.ensures lists) in
     let many = count.ensures a.records.now lists in
     let rows = fill-table.new.table in
     let copied : begins (copy_of S) a.copy.now ≡ true =

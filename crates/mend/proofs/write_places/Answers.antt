@@ -13,9 +13,6 @@ known c =
     let m = measures a.r.now a.h c.requires.r_value c.requires.h_value in
     (m, omega (arith, c.requires.versions_value, m.versions), omega (arith, c.requires.pairs_value, m.counted))
 
-pub overflow_sub-lost : goal.overflow_sub-lost
-overflow_sub-lost c = (known (goal.at.overflow_sub-lost c).Start).1
-
 pub list_words-requires : goal.list_words-requires
 list_words-requires c =
     let k = known (goal.at.list_words-requires c).Start in record {

@@ -1,9 +1,12 @@
 -- `mend::write_record` meets its contract: the pieces of the new record stand one behind the other.
-use Prim.Native.Nat.{◌≤◌}
-use mathlib.Core.Path.{◌≡◌}
+use Prim.Native.Nat.{◌*◌, ◌≤◌}
+use mathlib.Core.Path.{◌≡◌, ◌∙◌, ap}
+use lib.Seq.{sets}
 use native.Mathlib.Omega.{arith}
 use Rattle.header.specs.Header.{record_length, versions_at}
+use Rattle.mend.specs.Mend.{word_bytes}
 use Rattle.mend.proofs.Measuring.{Measures, measures, mended-stored}
+use Rattle.mend.proofs.Pieces.{big-endian}
 use Rattle.mend.proofs.write_record.Goals.{After-versions_at}
 use Rattle.mend.proofs.write_record.Goals as goal
 
@@ -42,14 +45,23 @@ copy_pairs-requires c =
 
 pub returns : goal.returns
 returns c =
+    let a = c.args in
+    let k = known (goal.at.returns c).After-versions_at in
+    let versions : c.put_bytes-2.new.out ≡ sets c.put_bytes.new.out 20 (word_bytes a.versions) =
+    c.put_bytes-2.ensures ∙ ap (sets c.put_bytes.new.out 20) (c.to_be_bytes.ensures ∙ big-endian a.versions (omega (arith, k.2))) in
+    let pairs : c.put_bytes-3.new.out ≡ sets c.put_bytes-2.new.out 24 (word_bytes (2 * a.pairs)) =
+    c.put_bytes-3.ensures
+    ∙ ap (sets c.put_bytes-2.new.out 24) (c.to_be_bytes-2.ensures ∙ big-endian (2 * a.pairs) (omega (arith, k.3))) in
     rw (
       c.copy_pairs.ensures,
-      c.copy_part-2.ensures,
-      c.put_word-2.ensures,
-      c.put_word.ensures,
-      c.copy_part.ensures,
+      c.put_bytes-4.ensures,
+      c.part-2.ensures,
+      pairs,
+      versions,
+      c.put_bytes.ensures,
+      c.part.ensures,
       c.versions_at.ensures,
       c.requires.versions_value,
       c.requires.pairs_value,
       c.requires.h_value,
-    ) (mended-stored c.args.r.now c.requires.r_value c.args.out.now)
+    ) (mended-stored a.r.now c.requires.r_value a.out.now)

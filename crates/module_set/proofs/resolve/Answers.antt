@@ -2,31 +2,22 @@
 use mathlib.Core.Path.{◌∙◌, sym}
 use Rattle.module_set.specs.Members.{members_of}
 use Rattle.module_set.proofs.Linking.{resolved-none, resolved-past, resolved-import}
+use Rattle.module_set.proofs.resolve.Goals.{then-l-eq0-via-then-l-eq0, then-l-eq0-via-else-l-eq0+then-header_of-l}
 use Rattle.module_set.proofs.resolve.Goals as goal
 
 pub returns-then-l-eq0 : goal.returns-then-l-eq0
-returns-then-l-eq0 c =
-    let if1 = c.if-l-eq0 in
+returns-then-l-eq0 c = λ records lists.
     let a = c.args in
-    λ records lists. resolved-none (members_of records lists a.directory.now) a.r.now a.l if1.true
-
-pub returns-then-header_of-l : goal.returns-then-header_of-l
-returns-then-header_of-l c =
-    let if2 = c.if-header_of-l in
-    let header_of = c.header_of in
-    let a = c.args in
-    λ records lists.
-    resolved-past (members_of records lists a.directory.now) a.r.now a.l (rw header_of.ensures at if2.true)
+    let S = members_of records lists a.directory.now in
+    elim c.then-l-eq0.branch [
+      | then-l-eq0-via-then-l-eq0 w ↦ resolved-none S a.r.now a.l w.if-l-eq0.true
+      | then-l-eq0-via-else-l-eq0+then-header_of-l w ↦
+          resolved-past S a.r.now a.l (rw w.header_of.ensures at w.if-header_of-l.true)
+    ]
 
 pub returns : goal.returns
-returns c =
-    let number_of_lem = c.number_of in
-    let word_at = c.word_at in
-    let if2 = c.if-header_of-l in
-    let header_of = c.header_of in
-    let if1 = c.if-l-eq0 in
+returns c = λ records lists.
     let a = c.args in
-    λ records lists.
-    number_of_lem.ensures records lists ∙ rw word_at.ensures
-    (sym (resolved-import (members_of records lists a.directory.now) a.r.now a.l if1.false
-    (rw header_of.ensures at if2.false)))
+    c.number_of.ensures records lists ∙ rw c.word_at.ensures
+    (sym (resolved-import (members_of records lists a.directory.now) a.r.now a.l c.if-l-eq0.false
+    (rw c.header_of.ensures at c.if-header_of-l.false)))

@@ -3,14 +3,8 @@ use mathlib.Core.Path.{sym}
 use Rattle.module_set.proofs.Shares.{row-some, row-none}
 use Rattle.module_set.proofs.row_word.Goals as goal
 
-pub returns-then-directory-k : goal.returns-then-directory-k
-returns-then-directory-k c =
-    let if1 = c.if-directory-k in
-    let a = c.args in
-    sym (row-none a.directory.now a.k a.j if1.true)
+pub returns-then-k-directory : goal.returns-then-k-directory
+returns-then-k-directory c = sym (row-some c.args.directory.now c.args.k c.args.j c.if-k-directory.true)
 
-pub returns : goal.returns
-returns c =
-    let if1 = c.if-directory-k in
-    let a = c.args in
-    sym (row-some a.directory.now a.k a.j if1.false)
+pub returns-else-k-directory : goal.returns-else-k-directory
+returns-else-k-directory c = sym (row-none c.args.directory.now c.args.k c.args.j c.if-k-directory.false)

@@ -1,42 +1,24 @@
--- `module_set::sids_differ` meets its contract: the SIDs from a row on decide, the one of the row being none of those behind
--- it. The measure is the rows left.
-use mathlib.Core.Path.{◌∙◌, refl, sym, ap}
-use Rattle.module_set.specs.Linked.{distinct}
-use Rattle.module_set.proofs.Sids.{library-sids, sids-over, twice, once}
+-- `module_set::sids_differ` meets its contract: no SID of a row is that of a row behind it.
+use Prim.Native.Nat.{ℕ, ◌+◌, ◌-◌, ◌/◌}
+use mathlib.Core.Bool.{true, false}
+use mathlib.Core.Path.{◌≡◌, ◌∙◌, refl}
+use lib.Dec.{eqb}
+use lib.ListN.{length}
+use borrow.Author.Tests.{tests}
+use Rattle.std.proofs.Common.{rules}
+use Rattle.std.proofs.lemmas.Iterator.{cases_from_all, YieldsList-from_range}
+use Rattle.module_set.specs.Rows.{row_word, sids_in, seek_from}
+use Rattle.module_set.proofs.Counting.{all-told}
+use Rattle.module_set.proofs.Sids.{library-sids, rows-distinct}
 use Rattle.module_set.proofs.sids_differ.Goals as goal
 
-pub loop-k-init : goal.loop-k-init
-loop-k-init c = refl
-
-pub returns-then-number_from-ne0 : goal.returns-then-number_from-ne0
-returns-then-number_from-ne0 c =
-    let if1 = c.if-number_from-ne0 in
-    let number-from = c.number_from in
-    let row_word = c.row_word in
-    let loop-test = c.loop-k-test in
-    let loop = c.loop-k in
-    let a = c.args in
-    λ records lists.
-    rw (library-sids records lists a.directory.now)
-    (sym (loop.invariant ∙ twice a.directory.now _ loop.k loop-test.true row_word.result number-from.result
-    row_word.ensures number-from.ensures if1.true))
-
-pub loop-k-preserved : goal.loop-k-preserved
-loop-k-preserved c =
-    let if1 = c.if-number_from-ne0 in
-    let number-from = c.number_from in
-    let row_word = c.row_word in
-    let loop-test = c.loop-k-test in
-    let loop = c.loop-k in
-    let a = c.args in
-    loop.invariant ∙ once a.directory.now _ loop.k loop-test.true row_word.result number-from.result
-    row_word.ensures number-from.ensures if1.false
-
 pub returns : goal.returns
-returns c =
-    let loop-test = c.loop-k-test in
-    let loop = c.loop-k in
-    let a = c.args in
-    λ records lists.
-    rw (library-sids records lists a.directory.now)
-    (sym (loop.invariant ∙ ap distinct (sids-over a.directory.now _ loop.k loop-test.false)))
+returns c = λ records lists.
+    let d = c.args.directory.now in
+    let n = length d / 4 in
+    let test = λ (i : ℕ). eqb (seek_from (i + 1) (sids_in d (i + 1) (n - (i + 1))) (row_word d i 0)) 0 in
+    rw (library-sids records lists d)
+    (all-told test 1 (n - 1) c.all.result
+    (cases_from_all _ _ _ (λ (i : ℕ). test i ≡ true) (λ (i : ℕ). test i ≡ false) c.all.ensures.ran
+    (YieldsList-from_range 1 n (n - 1) refl refl) (λ x q k. search (rules, tests)) (λ x q k. search (rules, tests)))
+    ∙ rows-distinct d n (n - 1) 1 refl)

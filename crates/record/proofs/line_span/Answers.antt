@@ -1,21 +1,15 @@
--- `record::line_span` meets its contract: the span of the line where no number refuses the record, else the number,
--- which is the one of the answer.
-use mathlib.Core.Path.{sym, ◌∙◌}
-use borrow.Author.Tests.{eq-eqb, ne_eqb}
+-- `record::line_span` meets its contract: the span of the line where no number refuses the record, else the number.
 use Rattle.record.specs.Number.{line_span}
+use Rattle.record.proofs.Sound.{handed-on, refused}
 use Rattle.record.proofs.line_span.Goals as goal
 
-pub returns-then-number-eq0 : goal.returns-then-number-eq0
+pub returns-in_err-h-clause-answer : goal.returns-in_err-h-clause-answer
 unfolding line_span
-returns-then-number-eq0 c =
-    let number = c.record_number-number in
-    let none = c.if-number-eq0.true in (
-      rw (← number.ensures, eq-eqb _ 0 none, c.lookup_at.ensures, c.header_of.ensures),
-      sym none ∙ number.ensures,
-    )
+returns-in_err-h-clause-answer c =
+    let e = c.in_err-h.field-0.0 in
+    rw (handed-on c.from_residual.result e c.from_residual.ensures.1)
+    (refused c.args.r.now _ e c.in_err-h.ensures.number)
 
-pub returns : goal.returns
+pub returns-clause-answer : goal.returns-clause-answer
 unfolding line_span
-returns c =
-    let number = c.record_number-number in
-    (rw (← number.ensures, ne_eqb _ 0 c.if-number-eq0.false), number.ensures)
+returns-clause-answer c = rw (c.lookup_at.ensures, ← c.in_ok-h.ensures.number, c.in_ok-h.ensures.header)

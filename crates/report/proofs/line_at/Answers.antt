@@ -5,9 +5,9 @@ use Rattle.report.proofs.line_at.Goals as goal
 pub returns-in_default : goal.returns-in_default
 returns-in_default c =
     let a = c.args in
-    rw (← line-agrees a.r.now a.h a.offset, ← c.lookup_at-lookup.ensures, c.in_default.is)
+    rw (← line-agrees a.r.now a.h a.offset, ← c.lookup_at.ensures, c.in_default.is)
 
 pub returns : goal.returns
 returns c =
     let a = c.args in
-    rw (← line-agrees a.r.now a.h a.offset, ← c.lookup_at-lookup.ensures, c.in-Found.is)
+    rw (← line-agrees a.r.now a.h a.offset, ← c.lookup_at.ensures, c.in-Some.is)

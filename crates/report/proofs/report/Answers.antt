@@ -12,7 +12,7 @@ returns-then-not-well_formed c =
     let well-formed = c.well_formed-2 in
     let a = c.args in
     malformed a.f.now a.workspace.now a.memory.now a.stack.now a.out.now
-    (sym well-formed.ensures ∙ if1.true) print-check.ensures
+    (sym well-formed.ensures ∙ if1.true) (rw c.number.ensures at print-check.ensures)
 
 pub run_page-requires : goal.run_page-requires
 run_page-requires c =
@@ -44,8 +44,8 @@ returns-then-stack_words-le1024 c =
 pub returns : goal.returns
 returns c =
     let print-check2 = c.print_check-2 in
-    let or-eight = c.or_eight in
-    let check = c.check in
+    let shown = c.number-2 in
+    let check = c.check-checked in
     let results-of = c.results_of-results in
     let record_of = c.record_of-r in
     let if2 = c.if-stack_words-le1024 in
@@ -53,7 +53,7 @@ returns c =
     let if1 = c.if-not-well_formed in
     let well-formed = c.well_formed-2 in
     let a = c.args in
-    deep a.f.now a.workspace.now a.memory.now a.stack.now a.out.now or-eight.result
+    deep a.f.now a.workspace.now a.memory.now a.stack.now a.out.now shown.result
     (sym well-formed.ensures ∙ if1.false)
     (omega (arith, stack-words.ensures, if2.false)) record_of.ensures results-of.ensures check.ensures
-    or-eight.ensures print-check2.ensures
+    (shown.ensures ∙ c.or_room.ensures) print-check2.ensures

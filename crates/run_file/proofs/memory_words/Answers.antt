@@ -1,13 +1,6 @@
--- `run_file::memory_words` meets its contract: the halfword behind the budget. Both counts are bytes, so its place fits.
-use Prim.Native.Nat.{◌+◌}
-use native.Mathlib.Omega.{arith}
-use Rattle.run_file.specs.RunFile.{results_count, memory_words}
+-- `run_file::memory_words` meets its contract: the halfword behind the budget.
+use Rattle.run_file.specs.RunFile.{memory_words}
 use Rattle.run_file.proofs.memory_words.Goals as goal
-
-pub overflow_add-budget_at : goal.overflow_add-budget_at
-overflow_add-budget_at c =
-    let byte = c.shared_slice_known-1.given in
-    omega (arith, byte 5, byte (6 + results_count c.args.f.now))
 
 pub returns : goal.returns
 unfolding memory_words

@@ -5,33 +5,25 @@ use native.Mathlib.Omega.{arith}
 use Rattle.switch_table.specs.Switch.{range_holds}
 use Rattle.switch_table.proofs.range_holds.Goals as goal
 
-pub returns-then-not-at_most : goal.returns-then-not-at_most
+pub returns-then-at_most : goal.returns-then-at_most
 unfolding range_holds
-returns-then-not-at_most c =
-    let if1 = c.if-not-at_most in
-    let at_most = c.at_most in
-    let word-behind = c.word_behind-lower in
-    let a = c.args in
-    let low : a.at + 7 + 10 * a.k ≡ a.at + (7 + 10 * a.k) = omega arith in
-    rw (low, ← word-behind.ensures, ← at_most.ensures, if1.true)
-
-pub returns : goal.returns
-unfolding range_holds
-returns c =
-    let at-most2 = c.at_most-2 in
-    let word-behind2 = c.word_behind in
-    let if1 = c.if-not-at_most in
-    let at_most = c.at_most in
-    let word-behind = c.word_behind-lower in
+returns-then-at_most c =
     let a = c.args in
     let low : a.at + 7 + 10 * a.k ≡ a.at + (7 + 10 * a.k) = omega arith in
     let high : a.at + 7 + 10 * a.k + 4 ≡ a.at + (11 + 10 * a.k) = omega arith in
     rw (
       high,
       low,
-      ← word-behind.ensures,
-      ← at_most.ensures,
-      if1.false,
-      at-most2.ensures,
-      word-behind2.ensures,
+      ← c.word_behind-lower.ensures,
+      ← c.at_most.ensures,
+      c.if-at_most.true,
+      c.at_most-then-at_most.ensures,
+      c.word_behind.ensures,
     )
+
+pub returns-else-at_most : goal.returns-else-at_most
+unfolding range_holds
+returns-else-at_most c =
+    let a = c.args in
+    let low : a.at + 7 + 10 * a.k ≡ a.at + (7 + 10 * a.k) = omega arith in
+    rw (low, ← c.word_behind-lower.ensures, ← c.at_most.ensures, c.if-at_most.false)

@@ -41,5 +41,5 @@ returns-then-range_holds c =
       search-step a.code.now a.at a.x loop.k a.n (omega arith),
       ← c.range_holds.ensures,
       c.if-range_holds.true,
-      c.range_distance-distance.ensures,
+      c.range_distance.ensures,
     )

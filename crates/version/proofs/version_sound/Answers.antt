@@ -7,6 +7,6 @@ pub returns-then-h-eq0 : goal.returns-then-h-eq0
 unfolding version_sound
 returns-then-h-eq0 c = rw (eq-eqb _ 0 c.if-h-eq0.true)
 
-pub returns : goal.returns
+pub returns-else-h-eq0 : goal.returns-else-h-eq0
 unfolding version_sound
-returns c = rw (ne_eqb _ 0 c.if-h-eq0.false, c.issue_at.ensures, c.versions_at.ensures)
+returns-else-h-eq0 c = rw (ne_eqb _ 0 c.if-h-eq0.false, c.issue_at.ensures, c.versions_at.ensures)

@@ -1,20 +1,10 @@
--- `words::word_behind` meets its contract: where the place or the word behind it is past the end, it is 0.
-use Prim.Native.Nat.{◌+◌}
-use mathlib.Core.Path.{sym}
+-- `words::word_behind` meets its contract: a sum past every place is past the end, where the word is 0.
 use native.Mathlib.Omega.{arith}
-use borrow.Author.Rules.{rules}
-use Rattle.words.proofs.Bytes.{word-past}
+use Prim.Native.Nat.{◌+◌}
+use Rattle.words.proofs.Bytes.{word-capped}
 use Rattle.words.proofs.word_behind.Goals as goal
 
-pub returns-then-s-at : goal.returns-then-s-at
-returns-then-s-at c =
-    let a = c.args in
-    sym (word-past a.s.now (a.at + a.k) (omega arith))
-
-pub returns-then-s-at-2 : goal.returns-then-s-at-2
-returns-then-s-at-2 c =
-    let a = c.args in
-    sym (word-past a.s.now (a.at + a.k) (omega arith))
-
 pub returns : goal.returns
-returns c = search rules
+returns c =
+    let a = c.args in
+    rw c.word_at.ensures (word-capped a.s.now (a.at + a.k) _ _ c.saturating_add.ensures (omega arith))

@@ -10,11 +10,6 @@ use Rattle.fast_flow.proofs.Standing.{stands}
 use Rattle.fast_flow.proofs.Jumping.{jump_goes}
 use Rattle.fast_flow.proofs.jumps.jump_b.Goals as goal
 
-pub bounds-code-here : goal.bounds-code-here
-bounds-code-here c =
-    let pre = c.requires in
-    omega (arith, pre.pc_in_bounds)
-
 pub returns : goal.returns
 unfolding row_of
 returns c =

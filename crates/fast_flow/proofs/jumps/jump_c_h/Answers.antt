@@ -6,11 +6,6 @@ use Rattle.opcode.specs.Table.{row_of}
 use Rattle.fast_flow.proofs.Standing.{stands}
 use Rattle.fast_flow.proofs.jumps.jump_c_h.Goals as goal
 
-pub half-requires : goal.half-requires
-half-requires c =
-    let if1 = c.if-code-here in
-    omega (arith, if1.false)
-
 pub returns : goal.returns
 unfolding row_of
 returns c =

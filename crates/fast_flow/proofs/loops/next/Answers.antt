@@ -9,17 +9,11 @@ use Rattle.fast_flow.proofs.Standing.{stands}
 use Rattle.fast_flow.proofs.Looping.{next-rounds}
 use Rattle.fast_flow.proofs.loops.next.Goals as goal
 
-pub bounds-memory-a : goal.bounds-memory-a
-bounds-memory-a c =
-    let if2 = c.if-q-a in
-    let pre = c.requires in
-    omega (arith, if2.false, pre.mp_in_bounds)
-
-pub returns-in-Word : goal.returns-in-Word
+pub returns : goal.returns
 unfolding row_of next_sum
-returns-in-Word c =
+returns c =
     let round = c.round in
-    let signed-value = c.signed_value-sum in
+    let signed-value = c.signed_value in
     let if3 = c.if-not-is_plain in
     let is_plain = c.is_plain in
     let if2 = c.if-q-a in
@@ -39,4 +33,10 @@ returns-in-Word c =
     (stands code A pc 0xE1 none _ 1 refl refl (omega arith) (omega arith) (omega (arith, pre.pc_in_bounds)) k)
     (next-rounds code A q pc h m s (pc + 1) wide.result
     if2.false (sym is_plain.ensures ∙ if3.false) _ if1.false (sym wide.ensures)
-    (sym signed-value.ensures ∙ c.in-Word.is))
+    (sym signed-value.ensures ∙ c.in-Ok.is))
+
+pub bounds-memory-a : goal.bounds-memory-a
+bounds-memory-a c =
+    let if2 = c.if-q-a in
+    let pre = c.requires in
+    omega (arith, if2.false, pre.mp_in_bounds)

@@ -9,12 +9,6 @@ use Rattle.fast_flow.proofs.Standing.{stands}
 use Rattle.fast_flow.proofs.Jumping.{leave-goes}
 use Rattle.fast_flow.proofs.switches.leave.Goals as goal
 
-pub bounds-stack-h : goal.bounds-stack-h
-bounds-stack-h c =
-    let if1 = c.if-h-lt1 in
-    let pre = c.requires in
-    omega (arith, if1.false, pre.height_in_bounds)
-
 pub returns : goal.returns
 unfolding row_of
 returns c =

@@ -26,14 +26,6 @@ overflow_cast-memory c =
     pre.stack_value in
     record { fits = omega (arith, F.frame, F.within, F.room) }
 
-pub overflow_cast-memory-2 : goal.overflow_cast-memory-2
-overflow_cast-memory-2 c =
-    let pre = c.requires in
-    record { fits = omega (arith, pre.code_len_bound, pre.next_in_bounds) }
-
-pub bounds-memory-old-2 : goal.bounds-memory-old-2
-bounds-memory-old-2 c = rw (length-set) (omega arith)
-
 pub returns : goal.returns
 returns c =
     let if6 = c.if-code-entry in
@@ -51,3 +43,6 @@ returns c =
     a.height a.calls.now a.memory.now a.stack.now F a.next a.p pre.decodes if1.false
     (omega (arith, pre.count_value, if2.false))
     if3.false (omega (arith, if4.false)) pair.result (pair.ensures ∙ sym (entry-bytes a.code.now a.p)) if6.false
+
+pub bounds-memory-old-2 : goal.bounds-memory-old-2
+bounds-memory-old-2 c = rw (length-set) (omega arith)

@@ -5,39 +5,6 @@ use lib.ListN.{length-set}
 use Rattle.fast_frames.proofs.Calling.{copied-one, copied-two, copied_next}
 use Rattle.fast_frames.proofs.frames.copy_words.Goals as goal
 
-pub returns-then-n-eq0 : goal.returns-then-n-eq0
-returns-then-n-eq0 c =
-    let if1 = c.if-n-eq0 in
-    rw if1.true
-
-pub returns-then-n-eq1 : goal.returns-then-n-eq1
-returns-then-n-eq1 c =
-    let if2 = c.if-n-eq1 in
-    let if1 = c.if-n-eq0 in
-    let a = c.args in
-    let pre = c.requires in
-    rw if2.true (copied-one a.memory.now a.stack.now a.a a.low (omega (arith, pre.n_in_bounds_2, if1.false)))
-
-pub bounds-memory-a-2 : goal.bounds-memory-a-2
-bounds-memory-a-2 c =
-    let if2 = c.if-n-eq1 in
-    let if1 = c.if-n-eq0 in
-    let pre = c.requires in
-    rw (length-set) (omega (arith, pre.n_in_bounds, if1.false, if2.false))
-
-pub loop-i-init : goal.loop-i-init
-loop-i-init c =
-    let if2 = c.if-n-eq1 in
-    let if1 = c.if-n-eq0 in
-    (omega (arith, if1.false, if2.false), (refl, λ m e. e))
-
-pub bounds-memory-a-in-loop-i : goal.bounds-memory-a-in-loop-i
-bounds-memory-a-in-loop-i c =
-    let loop-test = c.loop-i-test in
-    let loop = c.loop-i in
-    let pre = c.requires in
-    rw (loop.invariant.1.0, length-set, length-set) (omega (arith, pre.n_in_bounds, loop-test.true))
-
 pub loop-i-preserved : goal.loop-i-preserved
 loop-i-preserved c =
     let loop-test = c.loop-i-test in
@@ -63,3 +30,11 @@ returns c =
     let e : loop.i ≡ a.n = omega (arith, loop.invariant.0, loop-test.false) in
     rw (← e) (loop.invariant.1.1 a.memory.now
     (copied-two a.memory.now a.stack.now a.a a.low (omega (arith, pre.n_in_bounds_2, if1.false, if2.false))))
+
+pub returns-then-n-eq1 : goal.returns-then-n-eq1
+returns-then-n-eq1 c =
+    let if2 = c.if-n-eq1 in
+    let if1 = c.if-n-eq0 in
+    let a = c.args in
+    let pre = c.requires in
+    rw if2.true (copied-one a.memory.now a.stack.now a.a a.low (omega (arith, pre.n_in_bounds_2, if1.false)))

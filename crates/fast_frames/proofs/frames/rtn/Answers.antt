@@ -29,15 +29,6 @@ offset_bounds-memory-frame c =
     pre.stack_value in
     record { fits = omega (arith, F.frame, F.within, F.room) }
 
-pub offset_bounds-memory-frame-2 : goal.offset_bounds-memory-frame-2
-offset_bounds-memory-frame-2 c =
-    let a = c.args in
-    let pre = c.requires in
-    let F = fitting a.attributes
-    (framed a.pc.now a.fp.now a.mp.now a.gp a.height a.calls.now a.memory.now a.stack.now)
-    pre.stack_value in
-    record { fits = omega (arith, F.frame, F.within, F.room) }
-
 pub bounds-memory-frame : goal.bounds-memory-frame
 bounds-memory-frame c =
     let if1 = c.if-calls-eq0 in
@@ -80,22 +71,6 @@ overflow_sub-fp c =
       arith,
       linked a.attributes a.pc.now a.fp.now a.mp.now a.gp
           a.height a.calls.now a.memory.now a.stack.now F if1.false,
-    )
-
-pub bounds-memory-frame-2 : goal.bounds-memory-frame-2
-bounds-memory-frame-2 c =
-    let if1 = c.if-calls-eq0 in
-    let a = c.args in
-    let pre = c.requires in
-    let F = fitting a.attributes
-    (framed a.pc.now a.fp.now a.mp.now a.gp a.height a.calls.now a.memory.now a.stack.now)
-    pre.stack_value in
-    omega (
-      arith,
-      linked a.attributes a.pc.now a.fp.now a.mp.now a.gp
-          a.height a.calls.now a.memory.now a.stack.now F if1.false,
-      F.frame,
-      F.within,
     )
 
 pub returns : goal.returns

@@ -1,9 +1,17 @@
 -- `fast_operations::operations::set_step` meets its contract: each arm is its operation's step.
 use mathlib.Core.Path.{◌∙◌, refl, sym}
+use mathlib.Core.Bool.{not}
+use lib.Dec.{eqb}
+use Prim.Native.Nat.{◌-◌}
 use native.Mathlib.Omega.{arith}
 use Rattle.opcode.specs.Table.{row_of}
 use Rattle.operate.specs.Operation.{operation_value}
 use Rattle.fast.specs.Fast.{spot}
+use Rattle.operate.specs.Value.{truth_of}
+use Rattle.registers.specs.Memory.{read}
+use Rattle.std.proofs.Common.{rules}
+use Rattle.std.specs.Prelude.{Ok}
+use Rattle.fast_operations.proofs.Putting.{puts-two}
 use Rattle.fast_operations.proofs.OperationArms.{two-arm}
 use Rattle.fast_operations.proofs.operations.set_step.Goals as goal
 
@@ -40,22 +48,30 @@ returns-in-186 c =
 pub returns-in-190 : goal.returns-in-190
 unfolding row_of operation_value
 returns-in-190 c =
-    let equal = c.equal in
+    let on-two = c.on_two in
     let a = c.args in
+    let x = read a.stack.now (a.height.now - 2) in
+    let y = read a.stack.now (a.height.now - 1) in
+    let (v, told, puts) = on-two.ensures in
     λ m code A q room e f.
     two-arm code A q a.pc.now a.height.now m a.stack.now f 0xBE _ _ (sym e ∙ c.in-190.is)
-    refl (λ z. omega arith) refl refl room equal.result
-    (spot equal.new.pc equal.new.height m equal.new.stack) (equal.ensures m)
+    refl (λ z. omega arith) refl refl room on-two.result (spot on-two.new.pc on-two.new.height m on-two.new.stack)
+    (puts-two on-two.result _ v (Ok (truth_of (eqb x y))) _ _
+    (λ h. let t = told h in search rules) (puts m))
 
 pub returns-in-191 : goal.returns-in-191
 unfolding row_of operation_value
 returns-in-191 c =
-    let not_equal = c.not_equal in
+    let on-two = c.on_two-in-191 in
     let a = c.args in
+    let x = read a.stack.now (a.height.now - 2) in
+    let y = read a.stack.now (a.height.now - 1) in
+    let (v, told, puts) = on-two.ensures in
     λ m code A q room e f.
     two-arm code A q a.pc.now a.height.now m a.stack.now f 0xBF _ _ (sym e ∙ c.in-191.is)
-    refl (λ z. omega arith) refl refl room not_equal.result
-    (spot not_equal.new.pc not_equal.new.height m not_equal.new.stack) (not_equal.ensures m)
+    refl (λ z. omega arith) refl refl room on-two.result (spot on-two.new.pc on-two.new.height m on-two.new.stack)
+    (puts-two on-two.result _ v (Ok (truth_of (not (eqb x y)))) _ _
+    (λ h. let t = told h in search rules) (puts m))
 
 pub returns-in-208 : goal.returns-in-208
 unfolding row_of operation_value

@@ -1,9 +1,19 @@
 -- `fast_operations::operations::signed_order` meets its contract: the value of the operation is put.
+use Prim.Native.Nat.{◌-◌}
+use Rattle.std.proofs.Common.{rules}
+use Rattle.std.specs.Prelude.{Ok}
+use Rattle.registers.specs.Memory.{read}
+use Rattle.operate.specs.Compare.{signed_test}
+use Rattle.operate.specs.Value.{truth_of}
+use Rattle.fast_operations.proofs.Putting.{puts-two}
 use Rattle.fast_operations.proofs.operations.signed_order.Goals as goal
 
 pub returns : goal.returns
 returns c =
-    let put_two = c.put_two in
-    let truth = c.truth in
-    let signed_test = c.signed_test in
-    λ m. rw (← signed_test.ensures, ← truth.ensures) (put_two.ensures m)
+    let a = c.args in
+    let x = read a.stack.now (a.height.now - 2) in
+    let y = read a.stack.now (a.height.now - 1) in
+    let (v, told, puts) = c.on_two.ensures in
+    λ m.
+    puts-two c.on_two.result _ v (Ok (truth_of (signed_test a.order x y))) _ _
+    (λ h. let e = told h in search rules) (puts m)

@@ -1,12 +1,17 @@
 -- `fast_operations::operations::unsigned_two` meets its contract: the value of the operation is put.
-use borrow.Author.Rules.{rules}
+use Prim.Native.Nat.{◌-◌}
+use Rattle.std.proofs.Common.{rules}
+use Rattle.registers.specs.Memory.{read}
+use Rattle.operate.specs.Arithmetic.{unsigned_value}
+use Rattle.fast_operations.proofs.Putting.{puts-two}
 use Rattle.fast_operations.proofs.operations.unsigned_two.Goals as goal
-
-pub bounds-stack-top-2 : goal.bounds-stack-top-2
-bounds-stack-top-2 c = search rules
 
 pub returns : goal.returns
 returns c =
-    let put_two = c.put_two in
-    let unsigned-value = c.unsigned_value in
-    λ m. rw (← unsigned-value.ensures) (put_two.ensures m)
+    let a = c.args in
+    let x = read a.stack.now (a.height.now - 2) in
+    let y = read a.stack.now (a.height.now - 1) in
+    let (v, told, puts) = c.on_two.ensures in
+    λ m.
+    puts-two c.on_two.result _ v (unsigned_value a.wraps a.op x y) _ _
+    (λ h. let e = told h in search rules) (puts m)

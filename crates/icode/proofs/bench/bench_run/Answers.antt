@@ -1,6 +1,6 @@
 -- `bench_run` meets its contract: the lengths, then what run answers.
 use mathlib.Core.List.{[]}
-use mathlib.Core.Path.{◌≡◌, sym}
+use mathlib.Core.Path.{◌≡◌, ◌∙◌, sym}
 use native.Mathlib.Omega.{arith}
 use lib.Dec.{eqb}
 use lib.ListN.{length, get_or}
@@ -13,27 +13,27 @@ use Rattle.icode.proofs.bench.bench_run.Goals as goal
 
 pub returns-then-state-ne6 : goal.returns-then-state-ne6
 returns-then-state-ne6 c =
-    let number-or = c.number_or in
+    let shown = c.number in
     let if1 = c.if-state-ne6 in
     let a = c.args in
     let r = a.bytes.now in
     run-misfit 6 3 (eqb (length a.outcome.now) 3) (single r []) (code_of r) a.budget a.memory.now a.stack.now
-    a.state.now a.outcome.now number-or.result number-or.ensures if1.true
+    a.state.now a.outcome.now shown.result (shown.ensures ∙ c.refusal_or.ensures) if1.true
 
 pub returns-then-outcome-ne3 : goal.returns-then-outcome-ne3
 returns-then-outcome-ne3 c =
-    let number-or2 = c.number_or-then-outcome-ne3 in
+    let shown = c.number-then-outcome-ne3 in
     let if2 = c.if-outcome-ne3 in
     let if1 = c.if-state-ne6 in
     let a = c.args in
     let r = a.bytes.now in
     run-untaken 6 3 (eqb (length a.outcome.now) 3) (single r []) (code_of r) a.budget a.memory.now a.stack.now
-    a.state.now a.outcome.now number-or2.result number-or2.ensures if1.false
+    a.state.now a.outcome.now shown.result (shown.ensures ∙ c.refusal_or-then-outcome-ne3.ensures) if1.false
     (ne_eqb (length a.outcome.now) 3 if2.true)
 
-pub returns-in-Refused : goal.returns-in-Refused
-returns-in-Refused c =
-    let run_by = c.run_by-answer in
+pub returns-in-Err : goal.returns-in-Err
+returns-in-Err c =
+    let run_by = c.run_by in
     let read-state = c.read_state-q in
     let if2 = c.if-outcome-ne3 in
     let if1 = c.if-state-ne6 in
@@ -44,13 +44,13 @@ returns-in-Refused c =
     run-replied 6 3 (eqb (length a.outcome.now) 3) (single r []) (code_of r) a.budget a.memory.now a.stack.now
     a.state.now a.outcome.now if1.false (eq-eqb (length a.outcome.now) 3 if2.false) _ read-state.ensures
     0 main _ _ _ run_by.ensures.0 in
-    rw c.in-Refused.is at replied
+    rw c.number-in-Err.ensures (rw c.in-Err.is at replied)
 
-pub returns-in-Ended : goal.returns-in-Ended
-returns-in-Ended c =
+pub returns-in-Ok : goal.returns-in-Ok
+returns-in-Ok c =
     let write-state = c.write_state in
     let write-outcome = c.write_outcome in
-    let run_by = c.run_by-answer in
+    let run_by = c.run_by in
     let read-state = c.read_state-q in
     let if2 = c.if-outcome-ne3 in
     let if1 = c.if-state-ne6 in
@@ -61,4 +61,4 @@ returns-in-Ended c =
     run-replied 6 3 (eqb (length a.outcome.now) 3) (single r []) (code_of r) a.budget a.memory.now a.stack.now
     a.state.now a.outcome.now if1.false (eq-eqb (length a.outcome.now) 3 if2.false) _ read-state.ensures
     0 main _ _ _ run_by.ensures.0 in
-    rw (write-outcome.ensures, write-state.ensures) (rw c.in-Ended.is at replied)
+    rw (write-outcome.ensures, write-state.ensures) (rw c.in-Ok.is at replied)

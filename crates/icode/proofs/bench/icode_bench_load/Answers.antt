@@ -1,5 +1,6 @@
 -- `icode_bench_load` meets its contract: the state's length, then what load answers.
 use mathlib.Core.List.{[]}
+use mathlib.Core.Path.{◌∙◌}
 use Rattle.header.specs.Header.{code_of}
 use Rattle.module_set.specs.Members.{single}
 use Rattle.icode.proofs.Benching.{load-misfit, load-parts, load_told}
@@ -7,29 +8,30 @@ use Rattle.icode.proofs.bench.icode_bench_load.Goals as goal
 
 pub returns-then-state-ne6 : goal.returns-then-state-ne6
 returns-then-state-ne6 c =
-    let number-or = c.number_or in
+    let shown = c.number in
     let if1 = c.if-state-ne6 in
     let a = c.args in
     let r = a.bytes.now in
     load-parts 6 (single r []) a.parameters.now (code_of r) a.memory.now a.stack.now a.state.now _ _ _ _
     (load-misfit 6 (single r []) a.parameters.now (code_of r) a.memory.now a.stack.now a.state.now
-    number-or.result number-or.ensures if1.true)
+    shown.result (shown.ensures ∙ c.refusal_or.ensures) if1.true)
 
-pub returns-in-Refused : goal.returns-in-Refused
-returns-in-Refused c =
-    let load = c.load-loaded in
+pub returns-in-Err : goal.returns-in-Err
+returns-in-Err c =
+    let load = c.load in
     let if1 = c.if-state-ne6 in
     let a = c.args in
     let r = a.bytes.now in
     let replied = load_told 6 (single r []) a.parameters.now (code_of r) a.memory.now a.stack.now a.state.now
     if1.false _ _ load.ensures.0 load.ensures.1 in
-    load-parts 6 (single r []) a.parameters.now (code_of r) a.memory.now a.stack.now a.state.now _ _ _ _
-    (rw c.in-Refused.is at replied)
+    rw c.number-in-Err.ensures
+    (load-parts 6 (single r []) a.parameters.now (code_of r) a.memory.now a.stack.now a.state.now _ _ _ _
+    (rw c.in-Err.is at replied))
 
-pub returns-in-Ready : goal.returns-in-Ready
-returns-in-Ready c =
+pub returns-in-Ok : goal.returns-in-Ok
+returns-in-Ok c =
     let write-state = c.write_state in
-    let load = c.load-loaded in
+    let load = c.load in
     let if1 = c.if-state-ne6 in
     let a = c.args in
     let r = a.bytes.now in
@@ -37,4 +39,4 @@ returns-in-Ready c =
     if1.false _ _ load.ensures.0 load.ensures.1 in
     rw write-state.ensures
     (load-parts 6 (single r []) a.parameters.now (code_of r) a.memory.now a.stack.now a.state.now _ _ _ _
-    (rw c.in-Ready.is at replied))
+    (rw c.in-Ok.is at replied))

@@ -1,21 +1,22 @@
 -- `icode_bench_set_load` meets its contract: the state's length, then what load answers.
+use mathlib.Core.Path.{◌∙◌}
 use Rattle.module_set.specs.Members.{members_of}
 use Rattle.icode.proofs.Benching.{load-misfit, load-replied}
 use Rattle.icode.proofs.set.icode_bench_set_load.Goals as goal
 
 pub returns-then-state-ne7 : goal.returns-then-state-ne7
 returns-then-state-ne7 c =
-    let set-number-or = c.set_number_or in
+    let shown = c.number in
     let if1 = c.if-state-ne7 in
     let a = c.args in
     λ lists.
     let S = members_of a.records.now lists a.directory.now in
     load-misfit 7 S a.parameters.now a.copy.now a.memory.now a.stack.now a.state.now
-    set-number-or.result (set-number-or.ensures lists) if1.true
+    shown.result (shown.ensures ∙ c.refusal_or.ensures lists) if1.true
 
-pub returns-in-Refused : goal.returns-in-Refused
-returns-in-Refused c =
-    let Load-set = c.load_set-loaded in
+pub returns-in-Err : goal.returns-in-Err
+returns-in-Err c =
+    let Load-set = c.load_set in
     let if1 = c.if-state-ne7 in
     let a = c.args in
     λ lists.
@@ -23,12 +24,12 @@ returns-in-Refused c =
     let replied =
     load-replied 7 S a.parameters.now a.copy.now a.memory.now a.stack.now a.state.now
     if1.false _ _ _ (Load-set.ensures lists).0 in
-    rw c.in-Refused.is at replied
+    rw c.number-in-Err.ensures (rw c.in-Err.is at replied)
 
-pub returns-in-Ready : goal.returns-in-Ready
-returns-in-Ready c =
+pub returns-in-Ok : goal.returns-in-Ok
+returns-in-Ok c =
     let write-set-state = c.write_set_state in
-    let Load-set = c.load_set-loaded in
+    let Load-set = c.load_set in
     let if1 = c.if-state-ne7 in
     let a = c.args in
     λ lists.
@@ -36,4 +37,4 @@ returns-in-Ready c =
     let replied =
     load-replied 7 S a.parameters.now a.copy.now a.memory.now a.stack.now a.state.now
     if1.false _ _ _ (Load-set.ensures lists).0 in
-    rw write-set-state.ensures (rw c.in-Ready.is at replied)
+    rw write-set-state.ensures (rw c.in-Ok.is at replied)

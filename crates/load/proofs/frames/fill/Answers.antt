@@ -24,18 +24,18 @@ room c =
     let loop-test = c.loop-k-test in
     let loop = c.loop-k in
     let count = c.count-k-end in
-    let clear = c.clear in
+    let cleared = c.fill in
     let a = c.args in (
       framed-room (loop.invariant.1 []) (omega (arith, count.ensures a.records.now [], loop-test.true))
           record_of.result.now (record_of.ensures []) c.header_of-h.result c.header_of-h.ensures
           c.frame_size.result c.frame_size.ensures,
-      omega (arith, (loop.invariant.1 []).kept, clear.auto.memory, c.requires.memory_len_bound),
+      omega (arith, (loop.invariant.1 []).kept, cleared.auto.self, c.requires.memory_len_bound),
     )
 
 pub loop-k-init : goal.loop-k-init
 loop-k-init c =
     let count = c.count-k-end in
-    let clear = c.clear in
+    let cleared = c.fill in
     let a = c.args in
     let pre = c.requires in (
       omega (
@@ -45,7 +45,7 @@ loop-k-init c =
         set-few a.records.now [] a.directory.now (pre.by_index []),
       ),
       λ lists. framed-start (members_of a.records.now lists a.directory.now) a.parameters.now _
-          (pre.by_index_2 lists) (omega (arith, pre.by_index_3 lists, clear.auto.memory)),
+          (pre.by_index_2 lists) (omega (arith, pre.by_index_3 lists, cleared.auto.self)),
     )
 
 pub record_of-r-requires : goal.record_of-r-requires
@@ -116,11 +116,11 @@ returns c =
     let loop-test = c.loop-k-test in
     let loop = c.loop-k in
     let count = c.count-k-end in
-    let clear = c.clear in
+    let cleared = c.fill in
     let a = c.args in
     let pre = c.requires in
     λ lists.
     let S = members_of a.records.now lists a.directory.now in
     framed-over (loop.invariant.1 lists) (omega (arith, count.ensures a.records.now lists, loop-test.false))
-    ∙ rw clear.ensures (written-zeros S a.parameters.now (length a.memory.now)
+    ∙ rw (cleared.ensures.after (λ y e. e)) (written-zeros S a.parameters.now (length a.memory.now)
     (taken-first S a.parameters.now (pre.by_index_2 lists)) (pre.by_index_3 lists))

@@ -15,14 +15,14 @@ use Rattle.load.proofs.frames.fill_single.Goals as goal
 -- The size is that of the record's header, and there is room for it.
 sized : (c : After-frame_size-size) →
     let a = c.args in
-    let clear = c.clear in
+    let cleared = c.fill in
     (c.frame_size-size.result ≡ 3 + (header_of a.r.now).globals + (header_of a.r.now).constants)
-    × (c.frame_size-size.result ≤ length clear.new.memory)
+    × (c.frame_size-size.result ≤ length cleared.new.self)
 sized c =
-    let clear = c.clear in
+    let cleared = c.fill in
     let size : c.frame_size-size.result ≡ 3 + (header_of c.args.r.now).globals + (header_of c.args.r.now).constants =
     rw (← c.header_of-h.ensures) c.frame_size-size.ensures in
-    (size, omega (arith, size, c.requires.r_in_bounds, clear.auto.memory))
+    (size, omega (arith, size, c.requires.r_in_bounds, cleared.auto.self))
 
 pub slice_bounds-fill_frame-end : goal.slice_bounds-fill_frame-end
 slice_bounds-fill_frame-end c = omega (arith, (sized (goal.at.slice_bounds-fill_frame-end c).After-frame_size-size).1)
@@ -30,14 +30,14 @@ slice_bounds-fill_frame-end c = omega (arith, (sized (goal.at.slice_bounds-fill_
 pub slice_bounds-fill_frame-end-2 : goal.slice_bounds-fill_frame-end-2
 slice_bounds-fill_frame-end-2 c =
     let frame-size = c.frame_size-size in
-    let clear = c.clear in
+    let cleared = c.fill in
     let here = sized (goal.at.slice_bounds-fill_frame-end-2 c).After-frame_size-size in
-    omega (arith, here.1, length-take frame-size.result clear.new.memory)
+    omega (arith, here.1, length-take frame-size.result cleared.new.self)
 
 pub fill_frame-requires : goal.fill_frame-requires
 fill_frame-requires c =
     let frame-size = c.frame_size-size in
-    let clear = c.clear in
+    let cleared = c.fill in
     let a = c.args in
     let pre = c.requires in
     let S = single a.r.now [] in
@@ -49,15 +49,15 @@ fill_frame-requires c =
       k_bound = omega arith;
       start_bound = omega arith;
       parameters_len_bound = omega (arith, ap (λ (h : Header). h.globals) own, pre.parameters_len_bound);
-      frame_len = omega (arith, here.1, frame-size.ensures, length-take frame-size.result clear.new.memory);
+      frame_len = omega (arith, here.1, frame-size.ensures, length-take frame-size.result cleared.new.self);
     }
 
 pub returns : goal.returns
 returns c =
     let fill_frame = c.fill_frame in
     let frame-size = c.frame_size-size in
-    let clear = c.clear in
+    let cleared = c.fill in
     let a = c.args in
-    alone-filled a.r.now a.parameters.now (length a.memory.now) frame-size.result clear.new.memory
+    alone-filled a.r.now a.parameters.now (length a.memory.now) frame-size.result cleared.new.self
     fill_frame.new.frame _ (rw (← c.header_of-h.ensures) frame-size.ensures)
-    clear.ensures fill_frame.ensures refl
+    (cleared.ensures.after (λ y e. e)) fill_frame.ensures refl

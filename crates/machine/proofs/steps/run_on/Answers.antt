@@ -49,10 +49,8 @@ loop-steps-init c =
 pub step_on-stepped-requires : goal.step_on-stepped-requires
 step_on-stepped-requires c =
     let loop = c.loop-steps in
-    let formats = c.formats-formats in
     let pre = c.requires in
     let K = loop.invariant in record {
-      sheet = formats.ensures;
       code_len_bound = turning-short _ _ _ _ _ _ _ _ _ K;
       table_len_bound = pre.table_len_bound;
       ready = turning-ready _ _ _ _ _ _ _ _ _ K;
@@ -215,7 +213,7 @@ returns-in-Trapped c =
     let Ms = modules_in a.table.now a.copy.now in
     rw (ended-at2.ensures a.copy.now)
     (trapped Ms a.budget a.done _ _ loop.steps K.run _ _ R r loop-test.true step-on.ensures
-    c.in-Trapped.n c.in-Trapped.is)
+    c.in-Trapped.trap c.in-Trapped.is)
 
 pub returns : goal.returns
 returns c =

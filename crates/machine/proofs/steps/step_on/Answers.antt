@@ -12,41 +12,34 @@ use Rattle.fast_external.proofs.Going.{frames-end}
 use Rattle.machine.proofs.Passing.{passed, stayed}
 use Rattle.machine.proofs.steps.step_on.Goals as goal
 
-pub returns-then-tried : goal.returns-then-tried
-returns-then-tried c =
-    let if1 = c.if-tried in
-    let external-on = c.external_on-tried in
+pub returns-in-Some : goal.returns-in-Some
+returns-in-Some c =
+    let tried = c.external_on-tried in
     let a = c.args in
     let P = program a.code.now a.attributes (modules_in a.table.now a.copy.now) in
     let S = state a.machine.registers a.memory.now a.stack.now in
-    sym (passed external-on.result.done P S _ external-on.ensures if1.true)
+    sym (passed tried.result P S _ _ _ c.in-Some.is tried.ensures)
 
 pub step-requires : goal.step-requires
 step-requires c =
-    let if1 = c.if-tried in
-    let external-on = c.external_on-tried in
+    let tried = c.external_on-tried in
     let a = c.args in
     let pre = c.requires in
     let P = program a.code.now a.attributes (modules_in a.table.now a.copy.now) in
     let S = state a.machine.registers a.memory.now a.stack.now in
-    let same = stayed external-on.result.done P a.machine.registers external-on.result.registers
-    a.memory.now a.stack.now external-on.new.memory external-on.new.stack
-    external-on.ensures if1.false in record {
-      sheet = pre.sheet;
+    let same = stayed tried.result P a.machine.registers a.memory.now a.stack.now tried.new.memory tried.new.stack
+    c.in-None.is tried.ensures in record {
       code_len_bound = pre.code_len_bound;
       table_len_bound = pre.table_len_bound;
       copy_bound = frames-end P S pre.ready;
       stack_value = subst (λ (T : State). bounded a.attributes T ≡ true) (sym same) (bounds-held P S pre.ready.fit);
     }
 
-pub returns : goal.returns
-returns c =
-    let step = c.step in
-    let if1 = c.if-tried in
-    let external-on = c.external_on-tried in
+pub returns-in-None : goal.returns-in-None
+returns-in-None c =
+    let tried = c.external_on-tried in
     let a = c.args in
     let P = program a.code.now a.attributes (modules_in a.table.now a.copy.now) in
-    let same = stayed external-on.result.done P a.machine.registers external-on.result.registers
-    a.memory.now a.stack.now external-on.new.memory external-on.new.stack
-    external-on.ensures if1.false in
-    step.ensures ∙ ap (λ (T : State). step_of P T) same
+    let same = stayed tried.result P a.machine.registers a.memory.now a.stack.now tried.new.memory tried.new.stack
+    c.in-None.is tried.ensures in
+    c.step.ensures ∙ ap (λ (T : State). step_of P T) same

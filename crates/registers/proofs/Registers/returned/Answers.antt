@@ -16,8 +16,8 @@ overflow_sub-fp-2 c =
     let a = c.args in
     omega (arith, c.requires.fp_bound, link-range a.m.now a.self.fp)
 
-pub overflow_sub-self-then-is_above_zero : goal.overflow_sub-self-then-is_above_zero
-overflow_sub-self-then-is_above_zero c =
+pub overflow_sub-result : goal.overflow_sub-result
+overflow_sub-result c =
     let a = c.args in
     omega (arith, c.requires.fp_bound, link-range a.m.now a.self.fp)
 
@@ -31,8 +31,8 @@ returns-then-is_above_zero c =
     rw (← word_at.ensures, ← is-above-zero.ensures, if1.true, word-at2.ensures)
 
 -- Three link words.
-pub overflow_sub-self-2 : goal.overflow_sub-self-2
-overflow_sub-self-2 c =
+pub overflow_sub-result-2 : goal.overflow_sub-result-2
+overflow_sub-result-2 c =
     let if1 = c.if-is_above_zero in
     let is-above-zero = c.is_above_zero in
     let word_at = c.word_at-back in
@@ -45,7 +45,7 @@ overflow_sub-self-2 c =
     )
 
 pub overflow_sub-fp-3 : goal.overflow_sub-fp-3
-overflow_sub-fp-3 c = overflow_sub-self-2 (goal.at.overflow_sub-fp-3 c).After-negated
+overflow_sub-fp-3 c = overflow_sub-result-2 (goal.at.overflow_sub-fp-3 c).After-negated
 
 pub returns : goal.returns
 unfolding link_words

@@ -6,13 +6,10 @@ use Rattle.registers.specs.Memory.{live}
 use Rattle.registers.proofs.Protected.{at-most-less}
 use Rattle.registers.proofs.access.is_live.Goals as goal
 
-pub returns-then-mp-n : goal.returns-then-mp-n
+pub returns-then-n-mp : goal.returns-then-n-mp
 unfolding live
-returns-then-mp-n c = rw (lt-leb (c.args.a + c.args.n) c.args.q.mp (omega arith))
+returns-then-n-mp c = at-most-less c.args.a c.args.n c.args.q.mp c.if-n-mp.true
 
-pub returns : goal.returns
+pub returns-else-n-mp : goal.returns-else-n-mp
 unfolding live
-returns c =
-    let if1 = c.if-mp-n in
-    let a = c.args in
-    at-most-less a.a a.n a.q.mp if1.false
+returns-else-n-mp c = rw (lt-leb (c.args.a + c.args.n) c.args.q.mp (omega arith)) (lt-leb c.args.n c.args.q.mp c.if-n-mp.false)

@@ -1,13 +1,6 @@
--- `crate::access::negated` meets its contract: the distance to 2^32, which a word does not hold, in two steps.
-use native.Mathlib.Omega.{arith}
-use borrow.Author.Tests.{ne_eqb}
-use Rattle.registers.specs.Memory.{negated}
+-- `crate::access::negated` meets its contract: what adds up with the word to 0 round 2^32 is its negation.
+use Rattle.registers.proofs.Signs.{negation}
 use Rattle.registers.proofs.access.negated.Goals as goal
 
-pub returns-then-x-eq0 : goal.returns-then-x-eq0
-unfolding negated
-returns-then-x-eq0 c = rw c.if-x-eq0.true
-
 pub returns : goal.returns
-unfolding negated
-returns c = rw (ne_eqb c.args.x 0 c.if-x-eq0.false) (omega (arith, c.if-x-eq0.false))
+returns c = negation _ _ c.ranges.x.fits c.wrapping_neg.type_inv c.wrapping_neg.ensures

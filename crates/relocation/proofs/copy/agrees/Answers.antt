@@ -1,56 +1,34 @@
--- `copy::agrees` meets its contract: the bytes from an offset on decide, for every set with this directory. The measure is the
--- bytes left.
-use mathlib.Core.Path.{◌∙◌, sym}
-use native.Mathlib.Nat.{sub-zero}
+-- `copy::agrees` meets its contract: no byte differs, for every set with this directory.
+use Prim.Native.Nat.{ℕ}
+use mathlib.Core.Bool.{true, false}
+use mathlib.Core.Path.{◌≡◌, ◌∙◌, refl, sym}
+use native.Mathlib.Omega.{arith}
+use lib.Dec.{eqb}
+use lib.ListN.{length}
+use borrow.Author.Tests.{lt-leb, tests}
+use Rattle.std.proofs.Common.{rules}
+use Rattle.std.proofs.lemmas.Iterator.{cases_from_all, YieldsList-from_range}
+use Rattle.words.specs.Bytes.{byte_at}
 use Rattle.module_set.specs.Members.{members_of}
+use Rattle.module_set.proofs.Counting.{all-told}
 use Rattle.relocation.specs.Marks.{marked_byte}
-use Rattle.relocation.proofs.Copying.{agree-over, agree-short, agree-fails, agree-next}
+use Rattle.relocation.proofs.Copying.{compared, too-short}
 use Rattle.relocation.proofs.copy.agrees.Goals as goal
 
-pub loop-at-init : goal.loop-at-init
-loop-at-init c = λ records lists. rw sub-zero
-
-pub returns-then-part-at : goal.returns-then-part-at
-returns-then-part-at c =
-    let if1 = c.if-part-at in
-    let loop-test = c.loop-at-test in
-    let loop = c.loop-at in
+pub returns-then-code-part : goal.returns-then-code-part
+returns-then-code-part c = λ records lists.
     let a = c.args in
-    λ records lists.
+    let n = length a.code.now in
     let byte = marked_byte (members_of records lists a.directory.now) a.r.now a.code.now a.entries.now in
-    sym (loop.invariant records lists ∙ agree-short byte a.part.now _ loop.at loop-test.true if1.true)
+    let test = λ (i : ℕ). eqb (byte i) (byte_at a.part.now i) in
+    all-told test 0 n c.all.result
+    (cases_from_all _ _ _ (λ (i : ℕ). test i ≡ true) (λ (i : ℕ). test i ≡ false) c.all.ensures.ran
+    (YieldsList-from_range 0 n n refl (search rules)) (λ x q k. search (rules, tests)) (λ x q k. search (rules, tests)))
+    ∙ sym (compared byte a.part.now n 0 (omega (arith, c.if-code-part.true)))
 
-pub returns-then-byte-part : goal.returns-then-byte-part
-returns-then-byte-part c =
-    let if2 = c.if-byte-part in
-    let relocated-byte = c.relocated_byte-byte in
-    let if1 = c.if-part-at in
-    let loop-test = c.loop-at-test in
-    let loop = c.loop-at in
+pub returns-else-code-part : goal.returns-else-code-part
+returns-else-code-part c = λ records lists.
     let a = c.args in
-    λ records lists.
     let byte = marked_byte (members_of records lists a.directory.now) a.r.now a.code.now a.entries.now in
-    sym (loop.invariant records lists ∙ agree-fails byte a.part.now _ loop.at loop-test.true if1.false
-    relocated-byte.result (relocated-byte.ensures records lists) if2.true)
-
-pub loop-at-preserved : goal.loop-at-preserved
-loop-at-preserved c =
-    let if2 = c.if-byte-part in
-    let relocated-byte = c.relocated_byte-byte in
-    let if1 = c.if-part-at in
-    let loop-test = c.loop-at-test in
-    let loop = c.loop-at in
-    let a = c.args in
-    λ records lists.
-    let byte = marked_byte (members_of records lists a.directory.now) a.r.now a.code.now a.entries.now in
-    loop.invariant records lists ∙ agree-next byte a.part.now _ loop.at loop-test.true if1.false
-    relocated-byte.result (relocated-byte.ensures records lists) if2.false
-
-pub returns : goal.returns
-returns c =
-    let loop-test = c.loop-at-test in
-    let loop = c.loop-at in
-    let a = c.args in
-    λ records lists.
-    let byte = marked_byte (members_of records lists a.directory.now) a.r.now a.code.now a.entries.now in
-    sym (loop.invariant records lists ∙ agree-over byte a.part.now _ loop.at loop-test.false)
+    rw (lt-leb (length a.code.now) (length a.part.now) c.if-code-part.false)
+    (sym (too-short byte a.part.now (length a.code.now) 0 (omega arith) (omega (arith, c.if-code-part.false))))

@@ -10,7 +10,7 @@ use Rattle.record.specs.Number.{record_number}
 use Rattle.module_set.specs.Members.{members_of}
 use Rattle.module_set.proofs.Every.{members-sound}
 use Rattle.module_set.proofs.Shares.{member-count}
-use Rattle.relocation.proofs.Copying.{counted_start, counted-over, counted_next}
+use Rattle.relocation.proofs.Copying.{counted_start, counted_next}
 use Rattle.relocation.proofs.copy.copy_size.Goals.{After-code_of-code}
 use Rattle.relocation.proofs.copy.copy_size.Goals as goal
 
@@ -37,12 +37,6 @@ loop-k-init c =
       λ lists. counted_start (members_of a.records.now lists a.directory.now),
     )
 
-pub record_of-requires : goal.record_of-requires
-record_of-requires c =
-    let loop-test = c.loop-k-test in
-    let loop = c.loop-k in
-    omega (arith, loop.invariant.0, loop-test.true)
-
 pub overflow_add-size : goal.overflow_add-size
 overflow_add-size c =
     let loop-test = c.loop-k-test in
@@ -63,11 +57,3 @@ loop-k-preserved c =
       λ lists. counted_next (loop.invariant.1 lists) (omega (arith, count.ensures a.records.now lists, loop-test.true))
           record_of.result.now (record_of.ensures lists) _ (ap length code_of_lem.ensures) few,
     )
-
-pub returns : goal.returns
-returns c =
-    let loop-test = c.loop-k-test in
-    let loop = c.loop-k in
-    let count = c.count-k-end in
-    let a = c.args in
-    λ lists. counted-over (loop.invariant.1 lists) (omega (arith, count.ensures a.records.now lists, loop-test.false))

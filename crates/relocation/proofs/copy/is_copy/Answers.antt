@@ -12,7 +12,7 @@ use Rattle.module_set.specs.Members.{members_of}
 use Rattle.module_set.proofs.Every.{members-sound}
 use Rattle.module_set.proofs.Shares.{member-count}
 use Rattle.relocation.specs.Relocation.{begins, relocated}
-use Rattle.relocation.proofs.Copying.{same_start, same_over, same-fails, same_next}
+use Rattle.relocation.proofs.Copying.{same_start, same-fails, same_next}
 use Rattle.relocation.proofs.copy.is_copy.Goals.{After-is_relocated, After-record_of-r}
 use Rattle.relocation.proofs.copy.is_copy.Goals as goal
 
@@ -57,12 +57,6 @@ loop-k-init c =
       λ lists. same_start (members_of a.records.now lists a.directory.now) a.copy.now,
     )
 
-pub record_of-r-requires : goal.record_of-r-requires
-record_of-r-requires c =
-    let loop-test = c.loop-k-test in
-    let loop = c.loop-k in
-    omega (arith, loop.invariant.0, loop-test.true)
-
 pub returns-then-not-is_relocated : goal.returns-then-not-is_relocated
 returns-then-not-is_relocated c =
     let if1 = c.if-not-is_relocated in
@@ -77,32 +71,8 @@ returns-then-not-is_relocated c =
     record_of.result.now (record_of.ensures lists) is-relocated.result (compared at.After-is_relocated lists)
     if1.true)
 
-pub returns : goal.returns
-returns c =
-    let loop-test = c.loop-k-test in
-    let loop = c.loop-k in
-    let count = c.count-k-end in
-    let a = c.args in
-    λ lists.
-    let S = members_of a.records.now lists a.directory.now in
-    sym (loop.invariant.2 lists ∙ same_over S a.copy.now loop.at loop.k
-    (omega (arith, count.ensures a.records.now lists, loop-test.false)))
-
 pub is_relocated-requires-clause-r_value : goal.is_relocated-requires-clause-r_value
 is_relocated-requires-clause-r_value c = sound (goal.at.is_relocated-requires-clause-r_value c).After-record_of-r
-
-pub overflow_add-at : goal.overflow_add-at
-overflow_add-at c =
-    let r = c.record_of-r.result.now in
-    let code = sound-code r (sound (goal.at.overflow_add-at c).After-record_of-r) in
-    omega (
-      arith,
-      c.loop-k.invariant.0,
-      c.loop-k.invariant.1,
-      c.loop-k-test.true,
-      code,
-      ap length c.code_of-code.ensures,
-    )
 
 pub loop-k-preserved : goal.loop-k-preserved
 loop-k-preserved c =

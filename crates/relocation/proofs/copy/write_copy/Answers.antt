@@ -34,12 +34,6 @@ loop-k-init c =
       λ lists. written_start (members_of a.records.now lists a.directory.now) a.copy.now (pre.by_index lists),
     )
 
-pub record_of-r-requires : goal.record_of-r-requires
-record_of-r-requires c =
-    let loop-test = c.loop-k-test in
-    let loop = c.loop-k in
-    omega (arith, loop.invariant.0, loop-test.true)
-
 pub slice_bounds-relocate-count : goal.slice_bounds-relocate-count
 slice_bounds-relocate-count c = omega (arith, room (goal.at.slice_bounds-relocate-count c).After-code_of-code)
 

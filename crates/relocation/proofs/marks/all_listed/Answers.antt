@@ -1,40 +1,20 @@
--- `marks::all_listed` meets its contract: the offsets from one on decide. The measure is the offsets left.
+-- `marks::all_listed` meets its contract: every offset passes the test, or one does not.
 use Prim.Native.Nat.{ℕ}
-use mathlib.Core.Path.{◌∙◌, sym}
-use native.Mathlib.Nat.{sub-zero}
-use Rattle.words.proofs.Order.{row-over, row-turn}
+use mathlib.Core.Bool.{true, false}
+use mathlib.Core.Path.{◌≡◌, refl}
+use lib.ListN.{length}
+use borrow.Author.Tests.{tests}
+use Rattle.std.proofs.Common.{rules}
+use Rattle.std.proofs.lemmas.Iterator.{cases_from_all, YieldsList-from_range}
+use Rattle.module_set.proofs.Counting.{all-told}
 use Rattle.relocation.specs.Marks.{listed_at}
 use Rattle.relocation.proofs.marks.all_listed.Goals as goal
 
-pub loop-at-init : goal.loop-at-init
-loop-at-init c = rw sub-zero
-
-pub returns-then-not-is_listed : goal.returns-then-not-is_listed
-returns-then-not-is_listed c =
-    let if1 = c.if-not-is_listed in
-    let is-listed = c.is_listed in
-    let loop-test = c.loop-at-test in
-    let loop = c.loop-at in
-    let a = c.args in
-    let test = listed_at a.code.now a.imports a.places.now a.entries.now in
-    sym (loop.invariant ∙ row-turn test (λ (i : ℕ). i) 1 loop.at _ loop.at loop-test.true
-    ∙ rw (← is-listed.ensures, if1.true))
-
-pub loop-at-preserved : goal.loop-at-preserved
-loop-at-preserved c =
-    let if1 = c.if-not-is_listed in
-    let is-listed = c.is_listed in
-    let loop-test = c.loop-at-test in
-    let loop = c.loop-at in
-    let a = c.args in
-    let test = listed_at a.code.now a.imports a.places.now a.entries.now in
-    loop.invariant ∙ row-turn test (λ (i : ℕ). i) 1 loop.at _ loop.at loop-test.true
-    ∙ rw (← is-listed.ensures, if1.false)
-
 pub returns : goal.returns
 returns c =
-    let loop-test = c.loop-at-test in
-    let loop = c.loop-at in
     let a = c.args in
     let test = listed_at a.code.now a.imports a.places.now a.entries.now in
-    sym (loop.invariant ∙ row-over test (λ (i : ℕ). i) 1 loop.at _ loop.at loop-test.false)
+    let n = length a.code.now in
+    all-told test 0 n c.all.result
+    (cases_from_all _ _ _ (λ (x : ℕ). test x ≡ true) (λ (x : ℕ). test x ≡ false) c.all.ensures.ran
+    (YieldsList-from_range 0 n n refl (search rules)) (λ x q k. search (rules, tests)) (λ x q k. search (rules, tests)))

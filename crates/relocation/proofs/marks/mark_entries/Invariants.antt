@@ -1,11 +1,14 @@
--- `marks::mark_entries` meets its contract: each turn marks the place of one entry, and what is left decides. The measure is
--- the entries left.
-use Prim.Native.Nat.{◌-◌}
-use Rattle.relocation.proofs.Walking.{Entries}
+-- `marks::mark_entries` meets its contract: what is left to mark decides. The measure is the entries left.
+use mathlib.Core.Path.{◌≡◌}
+use Rattle.words.specs.Bytes.{word_at}
+use Rattle.words.specs.Series.{series}
+use Rattle.relocation.specs.Relocation.{relocations_of}
+use Rattle.relocation.specs.Marks.{marked}
 use Rattle.relocation.proofs.marks.mark_entries.Given as goal
 
-abbrev pub invariant-loop : goal.invariant-loop
-invariant-loop l = Entries l.r l.initial.marks l.marks l.initial.at l.entries l.at l.counter
+abbrev pub invariant-loop-named : goal.invariant-loop-named
+invariant-loop-named l =
+    marked l.initial.marks (relocations_of l.r) ≡ marked l.marks (series (word_at l.r) 4 l.entries.at l.entries.left)
 
-abbrev pub decreases-loop : goal.decreases-loop
-decreases-loop l = l.entries - l.counter
+abbrev pub decreases-loop-named : goal.decreases-loop-named
+decreases-loop-named l = l.entries.left

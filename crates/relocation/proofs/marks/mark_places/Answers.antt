@@ -1,6 +1,6 @@
 -- `marks::mark_places` meets its contract: each turn marks a region, and what is left decides. The measure is the procedures
 -- left.
-use Rattle.relocation.proofs.Walking.{regions-start, regions-last, regions-next}
+use Rattle.relocation.proofs.Walking.{regions-start, regions-next}
 use Rattle.relocation.proofs.marks.mark_places.Goals as goal
 
 pub loop-p-init : goal.loop-p-init
@@ -15,11 +15,3 @@ loop-p-preserved c =
     let loop = c.loop-p in
     let entry-count = c.entry_count-count in
     regions-next loop.invariant _ (rw entry-count.ensures at loop-test.true) mark-region.ensures
-
-pub returns : goal.returns
-returns c =
-    let mark-region2 = c.mark_region-2 in
-    let loop-test = c.loop-p-test in
-    let loop = c.loop-p in
-    let entry-count = c.entry_count-count in
-    regions-last loop.invariant _ (rw entry-count.ensures at loop-test.false) mark-region2.ensures

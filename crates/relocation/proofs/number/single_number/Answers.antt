@@ -2,16 +2,18 @@
 -- is sound where its record is.
 use mathlib.Core.Bool.{Bool, true, false, cond, not, and-true}
 use mathlib.Core.List.{List, []}
-use mathlib.Core.Path.{◌≡◌, ◌∙◌, refl, sym, ap}
+use mathlib.Core.Path.{◌≡◌, refl}
 use Prim.Native.Nat.{ℕ, zero, suc}
-use borrow.Author.Tests.{eq-eqb, ne_eqb}
 use Rattle.words.specs.Bytes.{word_at}
 use Rattle.words.specs.Order.{every}
 use Rattle.words.specs.Series.{series}
 use Rattle.words.proofs.Refusal.{lower-none}
 use Rattle.header.specs.Header.{header_of}
-use Rattle.header.specs.declared.Header.{Header}
+use Rattle.numbers.specs.Number.{number_of}
+use Rattle.numbers.specs.declared.Refusal.{Refusal}
+use Rattle.numbers.proofs.Refusing.{refuses}
 use Rattle.record.specs.Number.{record_number}
+use Rattle.record.proofs.Sound.{handed-on}
 use Rattle.module_set.specs.Members.{single}
 use Rattle.module_set.specs.Linked.{has, records_number, linked}
 use Rattle.relocation.specs.Relocation.{relocation_sound, set_number}
@@ -34,69 +36,41 @@ module _ (r results : List ℕ) where
   unfolding linked
   unlinked-alone some = rw (none_lent r (header_of r).imports some)
 
-  number-alone : (n : ℕ) → n ≡ record_number r → (n ≡ 0 → ⊥) → n ≡ set_number (single r results)
+  number-alone : (e : Refusal) → number_of e ≡ record_number r → number_of e ≡ set_number (single r results)
   unfolding set_number
-  number-alone n e some = rw (records-alone, ← e, ne_eqb n 0 some)
+  number-alone e same = rw (records-alone, ← same, refuses e)
 
-  tests-alone : (n : ℕ) → n ≡ record_number r → n ≡ 0 → (l : Bool) → linked (single r results) ≡ l → (b : Bool)
+  tests-alone : 0 ≡ record_number r → (l : Bool) → linked (single r results) ≡ l → (b : Bool)
       → b ≡ relocation_sound r → cond (not l) 17 (cond (not b) 18 0) ≡ set_number (single r results)
   unfolding set_number
-  tests-alone n e none l q b s =
-      rw (records-alone, ← e, eq-eqb n 0 none, q, ← s, and-true b)
+  tests-alone none l q b s = rw (records-alone, ← none, q, ← s, and-true b)
 
-pub returns-then-number-ne0 : goal.returns-then-number-ne0
-returns-then-number-ne0 c =
-    let if1 = c.if-number-ne0 in
-    let record-number = c.record_number-number in
-    let a = c.args in
-    λ results. number-alone a.r.now results record-number.result record-number.ensures if1.true
-
-pub returns-then-header_of-ne0 : goal.returns-then-header_of-ne0
-returns-then-header_of-ne0 c =
-    let if2 = c.if-header_of-ne0 in
-    let if1 = c.if-number-ne0 in
-    let record-number = c.record_number-number in
-    let a = c.args in
+pub returns-in_err-h : goal.returns-in_err-h
+returns-in_err-h c =
+    let e = c.in_err-h.field-0.0 in
     λ results.
-    let some : ((header_of a.r.now).imports ≡ 0 → ⊥) =
-    λ z. if2.true (ap (λ (h : Header). h.imports) c.header_of.ensures ∙ z) in
-    tests-alone a.r.now results record-number.result record-number.ensures if1.false false
-    (unlinked-alone a.r.now results some) (relocation_sound a.r.now) refl
+    rw (handed-on c.from_residual.result e c.from_residual.ensures.1)
+    (number-alone c.args.r.now results e c.in_err-h.ensures.number)
 
-pub is_relocation_sound-requires : goal.is_relocation_sound-requires
-is_relocation_sound-requires c =
-    let formats = c.formats-formats in
-    let if1 = c.if-number-ne0 in
-    let record-number = c.record_number-number in
-    record {
-      sheet = formats.ensures;
-      r_value = sym record-number.ensures ∙ if1.false;
-    }
+pub returns-then-h-ne0 : goal.returns-then-h-ne0
+returns-then-h-ne0 c =
+    let r = c.args.r.now in
+    λ results.
+    let some : ((header_of r).imports ≡ 0 → ⊥) = rw c.in_ok-h.ensures.header at c.if-h-ne0.true in
+    tests-alone r results c.in_ok-h.ensures.number false (unlinked-alone r results some) (relocation_sound r) refl
 
 pub returns-then-not-is_relocation_sound : goal.returns-then-not-is_relocation_sound
 returns-then-not-is_relocation_sound c =
-    let if3 = c.if-not-is_relocation_sound in
-    let is-relocation-sound = c.is_relocation_sound in
-    let if2 = c.if-header_of-ne0 in
-    let if1 = c.if-number-ne0 in
-    let record-number = c.record_number-number in
-    let a = c.args in
+    let r = c.args.r.now in
     λ results.
-    let none = sym (ap (λ (h : Header). h.imports) c.header_of.ensures) ∙ if2.false in
-    rw (if3.true) at
-    (tests-alone a.r.now results record-number.result record-number.ensures if1.false true
-    (linked-alone a.r.now results none) is-relocation-sound.result is-relocation-sound.ensures)
+    let none = rw c.in_ok-h.ensures.header at c.if-h-ne0.false in
+    rw c.if-not-is_relocation_sound.true at
+    (tests-alone r results c.in_ok-h.ensures.number true (linked-alone r results none) _ c.is_relocation_sound.ensures)
 
 pub returns : goal.returns
 returns c =
-    let if3 = c.if-not-is_relocation_sound in
-    let is-relocation-sound = c.is_relocation_sound in
-    let if2 = c.if-header_of-ne0 in
-    let if1 = c.if-number-ne0 in
-    let record-number = c.record_number-number in
-    let a = c.args in
+    let r = c.args.r.now in
     λ results.
-    let none = sym (ap (λ (h : Header). h.imports) c.header_of.ensures) ∙ if2.false in
-    rw (if3.false) at
-    (tests-alone a.r.now results record-number.result record-number.ensures if1.false true
-    (linked-alone a.r.now results none) is-relocation-sound.result is-relocation-sound.ensures)
+    let none = rw c.in_ok-h.ensures.header at c.if-h-ne0.false in
+    rw c.if-not-is_relocation_sound.false at
+    (tests-alone r results c.in_ok-h.ensures.number true (linked-alone r results none) _ c.is_relocation_sound.ensures)

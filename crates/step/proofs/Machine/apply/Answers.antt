@@ -7,7 +7,7 @@ use borrow.Author.Tests.{lt-ltb, le-ltb}
 use Rattle.registers.specs.Changes.{raised}
 use Rattle.step.specs.Step.{written, apply}
 use Rattle.step.proofs.Pushing.{pushes-small}
-use Rattle.step.proofs.Machine.apply.Goals.{After-raised-self, After-write_words, Else-code_size-next}
+use Rattle.step.proofs.Machine.apply.Goals.{After-raised, After-write_words, Else-code_size-next}
 use Rattle.step.proofs.Machine.apply.Goals as goal
 
 within : (c : Else-code_size-next) →
@@ -21,9 +21,9 @@ writes : (c : After-write_words) →
     ≡ written a.memory.now (take c.in-Go.pops (drop low_word.result a.stack.now)) c.in-Go.write
 writes c = c.write_words.ensures
 
-rises : (c : After-raised-self) →
-    c.raised-self.result ≡ raised c.in-Go.next (c.low_word-low.result + c.push_count.result)
-rises c = c.raised-self.ensures
+rises : (c : After-raised) →
+    c.raised.result ≡ raised c.in-Go.next (c.low_word-low.result + c.push_count.result)
+rises c = c.raised.ensures
 
 pub overflow_add-height : goal.overflow_add-height
 overflow_add-height c =
@@ -99,5 +99,5 @@ returns-else-code_size-next c =
       lt-ltb c.in-Go.next.pc code-size.result (within (goal.at.returns-else-code_size-next c).Else-code_size-next),
       writes (goal.at.returns-else-code_size-next c).After-write_words,
       push-words.ensures,
-      rises (goal.at.returns-else-code_size-next c).After-raised-self,
+      rises (goal.at.returns-else-code_size-next c).After-raised,
     )

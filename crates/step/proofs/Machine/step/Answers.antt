@@ -8,6 +8,7 @@ use Rattle.registers.specs.State.{state}
 use Rattle.shape.specs.Shape.{needed}
 use Rattle.state.proofs.Fitting.{fitting}
 use Rattle.step.specs.Step.{perform, step_of}
+use Rattle.step.proofs.Decoding.{undecoded}
 use Rattle.step.proofs.Machine.step.Goals as goal
 
 pub returns-then-q-needed_words : goal.returns-then-q-needed_words
@@ -16,11 +17,11 @@ returns-then-q-needed_words c =
     let trapped3 = c.trapped-then-q-needed_words in
     let if1 = c.if-q-needed_words in
     let needed-words = c.needed_words in
-    let decode = c.decode-decoded in
+    let decode = c.decode in
     let a = c.args in
     rw (
       ← decode.ensures,
-      c.in-At.is,
+      c.in-Ok.is,
       ← needed-words.ensures,
       lt-ltb a.self.registers.height needed-words.result if1.true,
       trapped3.ensures,
@@ -28,11 +29,11 @@ returns-then-q-needed_words c =
 
 pub overflow_cast-next : goal.overflow_cast-next
 overflow_cast-next c =
-    let decode = c.decode-decoded in
+    let decode = c.decode in
     let a = c.args in
     let pre = c.requires in
     let a = a in
-    let within = ends a.code.now (length a.code.now) a.self.registers.pc (sym decode.ensures ∙ c.in-At.is) in
+    let within = ends a.code.now (length a.code.now) a.self.registers.pc (sym decode.ensures ∙ c.in-Ok.is) in
     record { fits = omega (arith, pre.code_len_bound, within.1) }
 
 pub execute-e-requires : goal.execute-e-requires
@@ -62,19 +63,9 @@ apply-requires c =
       stack_len_bound = F.deep;
     }
 
-pub returns-in-Unserved : goal.returns-in-Unserved
-unfolding step_of perform
-returns-in-Unserved c =
-    let trapped = c.trapped in
-    let decode = c.decode-decoded in
-    rw (← decode.ensures, c.in-Unserved.is, trapped.ensures)
-
-pub returns-in-Past : goal.returns-in-Past
-unfolding step_of perform
-returns-in-Past c =
-    let trapped2 = c.trapped-in-Past in
-    let decode = c.decode-decoded in
-    rw (← decode.ensures, c.in-Past.is, trapped2.ensures)
+pub returns-in-Err : goal.returns-in-Err
+unfolding step_of
+returns-in-Err c = rw (← c.decode.ensures, c.in-Err.is, c.trapped.ensures) (undecoded _ _ c.in-Err.error _ c.from.ensures)
 
 pub returns-else-q-needed_words : goal.returns-else-q-needed_words
 unfolding step_of perform
@@ -83,12 +74,12 @@ returns-else-q-needed_words c =
     let execute = c.execute-e in
     let if1 = c.if-q-needed_words in
     let needed-words = c.needed_words in
-    let decode = c.decode-decoded in
+    let decode = c.decode in
     let a = c.args in
     let a = a in
     rw (
       ← decode.ensures,
-      c.in-At.is,
-      le-ltb a.self.registers.height (needed c.in-At.i) (omega (arith, needed-words.ensures, if1.false)),
+      c.in-Ok.is,
+      le-ltb a.self.registers.height (needed c.in-Ok.i) (omega (arith, needed-words.ensures, if1.false)),
       ← execute.ensures,
     ) apply.ensures

@@ -1,23 +1,24 @@
--- `check::check_set` meets its contract: the numbers up to 9, 17 and 18, then those of the codes.
-use mathlib.Core.Path.{◌∙◌, sym}
-use borrow.Author.Tests.{ne_eqb}
-use Rattle.verifier.specs.Check.{set_check}
+-- The numbers up to 9, 17 and 18, then those of the codes.
+use mathlib.Core.Path.{◌≡◌, sym}
+use lib.ListN.{length}
+use Rattle.std.proofs.Common.{rules}
+use Rattle.numbers.specs.Number.{number_of, number}
+use Rattle.numbers.proofs.Refusing.{no-number}
+use Rattle.module_set.specs.Members.{members_of}
+use Rattle.verifier.proofs.Records.{listed, list-refuses}
 use Rattle.verifier.proofs.check.check_set.Goals as goal
 
-pub returns-then-number-ne0 : goal.returns-then-number-ne0
-unfolding set_check
-returns-then-number-ne0 c =
-    let if1 = c.if-number-ne0 in
-    let set-list-number = c.set_list_number-number in
-    rw (← set-list-number.ensures, ne_eqb set-list-number.result 0 if1.true)
+pub returns-in_err-set_list_number : goal.returns-in_err-set_list_number
+returns-in_err-set_list_number c =
+    let a = c.args in
+    let same : number c.from_residual.result ≡ number_of c.in_err-set_list_number.field-0.0 = search rules in
+    rw same
+    (list-refuses (members_of a.records.now a.lists.now a.directory.now) a.own a.w.now _ c.in_err-set_list_number.ensures (no-number _))
 
-pub judge-requires : goal.judge-requires
-judge-requires c =
-    let if1 = c.if-number-ne0 in
-    let set-list-number = c.set_list_number-number in
-    sym set-list-number.ensures ∙ if1.false
-
-pub returns : goal.returns
-returns c =
-    let judge = c.judge in
-    judge.ensures
+pub invariant_of-judge : goal.invariant_of-judge
+invariant_of-judge c =
+    let a = c.args in
+    record {
+      linkable =
+          (listed (members_of a.records.now a.lists.now a.directory.now) a.own (length a.w.now) (sym c.in_ok-set_list_number.ensures)).linkable;
+    }

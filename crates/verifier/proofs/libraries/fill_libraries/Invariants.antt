@@ -1,15 +1,9 @@
--- `libraries::fill_libraries` meets its contract: the rows before `j` are filled, and those from `j` on
--- decide the whole table. The measure is the imports left.
-use Prim.Native.Nat.{◌-◌, ◌≤◌}
-use Rattle.verifier.proofs.Rowing.{Filled}
-use Rattle.verifier.proofs.Rowing.{Stored}
+-- The rows before `j` are filled, and those from `j` on decide the whole table.
+use Rattle.verifier.proofs.Rowing.{Filled, Stored}
 use Rattle.verifier.proofs.libraries.fill_libraries.Given as goal
 
 abbrev pub invariant-loop-j : goal.invariant-loop-j
 invariant-loop-j l =
-    Filled l.records l.lists l.directory l.r l.table l.j
-    × (l.j ≤ l.imports)
-    × Stored l.records l.lists l.directory l.r l.initial.table l.table l.j
-
-abbrev pub decreases-loop-j : goal.decreases-loop-j
-decreases-loop-j l = l.imports - l.j
+    let set = l.set in
+    Filled set.records.now set.lists.now set.directory.now l.r l.table l.j
+    × Stored set.records.now set.lists.now set.directory.now l.r l.initial.table l.table l.j

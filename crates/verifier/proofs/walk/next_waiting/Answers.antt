@@ -1,37 +1,15 @@
--- `walk::next_waiting` meets its contract. The loop's invariant: the first that waits from `from` on is the first from `at` on.
--- The measure is the offsets left.
-use mathlib.Core.Path.{◌∙◌, refl}
-use native.Mathlib.Nat.{sub-eq-zero_of_le}
-use borrow.Author.Tests.{eq-eqb, ne_eqb}
-use Rattle.words.proofs.Left.{one_left}
+-- The first offset that waits, by `find`.
+use Prim.Native.Nat.{◌+◌, ◌*◌}
+use mathlib.Core.Path.{◌≡◌}
+use lib.ListN.{get_or}
+use Rattle.std.proofs.Common.{rules, tests}
+use Rattle.std.proofs.lemmas.Iterator.{first_from_Range}
+use Rattle.verifier.proofs.Chains.{first-waits}
 use Rattle.verifier.proofs.walk.next_waiting.Goals as goal
 
-pub loop-at-init : goal.loop-at-init
-loop-at-init c = refl
-
-pub returns-then-half_at-ne0 : goal.returns-then-half_at-ne0
-returns-then-half_at-ne0 c =
-    let if1 = c.if-half_at-ne0 in
-    let half_at = c.half_at in
-    let loop-test = c.loop-at-test in
-    let loop = c.loop-at in
-    let a = c.args in
-    rw (
-      loop.invariant,
-      one_left loop.at a.size loop-test.true,
-      ← half_at.ensures,
-      ne_eqb half_at.result 0 if1.true,
-    )
-
-pub loop-at-preserved : goal.loop-at-preserved
-loop-at-preserved c =
-    let if1 = c.if-half_at-ne0 in
-    let half_at = c.half_at in
-    let loop-test = c.loop-at-test in
-    let loop = c.loop-at in
-    let a = c.args in
-    loop.invariant ∙ rw
-    (one_left loop.at a.size loop-test.true, ← half_at.ensures, eq-eqb half_at.result 0 if1.false)
-
 pub returns : goal.returns
-returns c = rw (c.loop-at.invariant, sub-eq-zero_of_le c.loop-at-test.false)
+returns c =
+    let w = c.args.w.now in
+    first-waits w c.args.size c.args.from c.find.result
+    (first_from_Range _ _ _ c.find.result (λ k. get_or w (4 * k + 2) 0 ≡ 0 → ⊥) (λ k. get_or w (4 * k + 2) 0 ≡ 0) c.find.ensures.ran
+    (λ x q k. search (rules, tests)) (λ x q k. search (rules, tests)))

@@ -1,2 +1,0 @@
--- What reading the input may answer.
-pub mod Input

@@ -1,0 +1,8 @@
+-- A linked set has at most sixteen modules.
+use native.Mathlib.Omega.{arith}
+use Rattle.relocation.proofs.Sound.{set_sound}
+use Rattle.verifier.specs.Lent.{members}
+use Rattle.verifier.proofs.linked.LinkedSet.record.Goals as goal
+
+pub record_of-requires : goal.record_of-requires
+record_of-requires c = let set = c.args.self in omega (arith, (set_sound (members set) set.linkable.numberless).few)
